@@ -1,0 +1,65 @@
+-- The header step's definition, opened once: a law for each case, and what each answer says of the bytes.
+use Prim.Native.Nat.{ℕ, _+_, _≤_, _<_}
+use native.Mathlib.Omega.{arith}
+use mathlib.Core.Path.{_≡_, refl}
+use mathlib.Core.Bool.{Bool, true, false, cond}
+use mathlib.Core.List.{List}
+use lib.ListN.{length, getD}
+use lib.Dec.{leb, eqb}
+use borrow.Author.Tests.{le-leb, lt-leb, eq-eqb, ne-eqb, leb-true, eqb-true}
+use Rattle.numbers.specs.Bytes.{be}
+use Rattle.types.specs.Markers.{SOT}
+use Rattle.header.specs.Step.{delimits, segmentEnd, stepAt}
+use Rattle.header.specs.declared.step.HeaderStep.{HeaderStep}
+use Rattle.header.specs.declared.step.HeaderStep.the-variants.{Sot, Delimiter, Segment, CutShort}
+
+module _ (s : List ℕ) (at : ℕ) where
+  pub step-short : length s < at + 2 → stepAt s at ≡ CutShort
+  unfolding stepAt
+  step-short h = rw (lt-leb _ _ h)
+
+  module _ (marker : at + 2 ≤ length s) where
+    pub step-sot : be 2 s at ≡ SOT → stepAt s at ≡ Sot
+    unfolding stepAt
+    step-sot e = rw (le-leb _ _ marker, eq-eqb _ _ e)
+
+    module _ (other : be 2 s at ≡ SOT → ⊥) where
+      pub step-delimiter : delimits (getD s (at + 1) 0) ≡ true → stepAt s at ≡ Delimiter (at + 2)
+      unfolding stepAt
+      step-delimiter d = rw (le-leb _ _ marker, ne-eqb _ _ other, d)
+
+      module _ (long : delimits (getD s (at + 1) 0) ≡ false) where
+        pub step-no-length : length s < at + 4 → stepAt s at ≡ CutShort
+        unfolding stepAt
+        step-no-length h = rw (le-leb _ _ marker, ne-eqb _ _ other, long, lt-leb _ _ h)
+
+        pub step-no-end : at + 4 ≤ length s → length s < segmentEnd s at → stepAt s at ≡ CutShort
+        unfolding stepAt
+        step-no-end h e = rw (le-leb _ _ marker, ne-eqb _ _ other, long, le-leb _ _ h, lt-leb _ _ e)
+
+        pub step-segment : at + 4 ≤ length s → segmentEnd s at ≤ length s → stepAt s at ≡ Segment (segmentEnd s at)
+        unfolding stepAt
+        step-segment h e = rw (le-leb _ _ marker, ne-eqb _ _ other, long, le-leb _ _ h, le-leb _ _ e)
+
+-- what an answer says: an SOT's marker stands there, and a step that goes on goes forward and not past the end
+abbrev pub Told : List ℕ → ℕ → HeaderStep → Type 0
+Told s at Sot = (at + 2 ≤ length s) × (be 2 s at ≡ SOT)
+Told s at (Delimiter next) = (at < next) × (next ≤ length s)
+Told s at (Segment next) = (at < next) × (next ≤ length s)
+Told s at CutShort = Unit {0}
+
+-- a property of a choice, from each side
+by-test : {A : Type 0} (P : A → Type 0) (b : Bool) {x y : A} → (b ≡ true → P x) → (b ≡ false → P y) → P (cond b x y)
+by-test P true f g = f refl
+by-test P false f g = g refl
+
+pub step-told : (s : List ℕ) (at : ℕ) → Told s at (stepAt s at)
+unfolding stepAt
+step-told s at =
+    by-test (Told s at) (leb (at + 2) (length s))
+    (λ m. by-test (Told s at) (eqb (be 2 s at) SOT) (λ e. (leb-true _ _ m, eqb-true _ _ e))
+    (λ _. by-test (Told s at) (delimits (getD s (at + 1) 0)) (λ _. (omega arith, leb-true _ _ m))
+    (λ _. by-test (Told s at) (leb (at + 4) (length s))
+    (λ _. by-test (Told s at) (leb (segmentEnd s at) (length s)) (λ e. (omega arith, leb-true _ _ e)) (λ _. tt))
+    (λ _. tt))))
+    (λ _. tt)

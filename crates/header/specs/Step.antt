@@ -1,0 +1,30 @@
+-- One step over the main header (document 01, "Header walk").
+use Prim.Native.Nat.{ℕ, _+_}
+use mathlib.Core.Bool.{Bool, cond, _||_, _&&_}
+use mathlib.Core.List.{List}
+use lib.ListN.{length, getD}
+use lib.Dec.{leb, eqb}
+use Rattle.numbers.specs.Bytes.{be}
+use Rattle.types.specs.Markers.{SOT}
+use Rattle.header.specs.declared.step.HeaderStep.{HeaderStep}
+use Rattle.header.specs.declared.step.HeaderStep.the-variants.{Sot, Delimiter, Segment, CutShort}
+
+-- a delimiter's low byte: 92, or 30 to 3F. The high byte is not asked.
+unfoldable pub delimits : ℕ → Bool
+delimits low = eqb low 0x92 || (leb 0x30 low && leb low 0x3f)
+
+-- where a segment ends: its marker, and as many bytes as its length field says, 0 and 1 included
+unfoldable pub segmentEnd : List ℕ → ℕ → ℕ
+segmentEnd s at = at + (2 + be 2 s (at + 2))
+
+-- what stands at a position: SOT, a delimiter, a segment, or bytes that end too soon
+unfoldable pub stepAt : List ℕ → ℕ → HeaderStep
+unfolding delimits segmentEnd
+stepAt s at =
+    cond (leb (at + 2) (length s))
+    (cond (eqb (be 2 s at) SOT) Sot
+    (cond (delimits (getD s (at + 1) 0)) (Delimiter (at + 2))
+    (cond (leb (at + 4) (length s))
+    (cond (leb (segmentEnd s at) (length s)) (Segment (segmentEnd s at)) CutShort)
+    CutShort)))
+    CutShort

@@ -1,0 +1,47 @@
+// One step over the main header: what stands at a position (document 01, "Header walk").
+ghost use mathlib.Core.Path.{_≡_};
+ghost use Prim.Native.Nat.{_≤_};
+ghost use lib.ListN.{length};
+ghost use Rattle.header.specs.Step.{delimits, stepAt};
+use types::markers::SOT;
+
+// A step that carries a position goes on there.
+pub enum HeaderStep {
+    Sot,
+    // A marker of two bytes.
+    Delimiter(usize),
+    // A marker and as many bytes as its length field says.
+    Segment(usize),
+    // The bytes end before it does.
+    CutShort,
+}
+
+// EPH or a reserved marker without a segment, by the low byte alone: the high byte is not looked at.
+fn is_delimiter(low: u8) -> bool
+    ensures { λ r. ⌜ r ≡ delimits low ⌝ }
+{
+    low == 0x92 || (0x30 <= low && low <= 0x3f)
+}
+
+pub fn header_step(header: &[u8], at: usize) -> HeaderStep
+    requires { ⌜ at ≤ length (now header) ⌝ }
+    ensures { λ r. ⌜ r ≡ stepAt (now (header .entry)) at ⌝ }
+{
+    if header.len() - at < 2 {
+        return HeaderStep::CutShort;
+    }
+    if numbers::read_u16(header, at) == SOT {
+        return HeaderStep::Sot;
+    }
+    if is_delimiter(header[at + 1]) {
+        return HeaderStep::Delimiter(at + 2);
+    }
+    if header.len() - at < 4 {
+        return HeaderStep::CutShort;
+    }
+    let whole = 2 + numbers::read_u16(header, at + 2) as usize;
+    if header.len() - at < whole {
+        return HeaderStep::CutShort;
+    }
+    HeaderStep::Segment(at + whole)
+}

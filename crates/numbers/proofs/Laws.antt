@@ -1,0 +1,167 @@
+-- Laws of big-endian bytes, each over the width: what a number's bytes are in two halves, what is read of what was written, what is read
+-- inside a part, and bounds. Callers cite these and do not look into the definitions.
+use Prim.Native.Nat.{ℕ, zero, suc, _+_, _-_, _*_, _/_, _%_, _^_, _≤_, _<_}
+use native.Mathlib.Nat.{add-zero, add-suc, add-assoc, mul-assoc, add-mul, div-one, mod-one, div-div-eq-div-mul, pow-suc, pow-succ', one-le-pow, mod-lt, mod-eq-of-lt, div-add-mod', div-lt-iff-lt-mul, one-mul, suc-mul, le-of-suc-le-suc}
+use native.Mathlib.Numerals.{add-one}
+use native.Mathlib.Omega.{arith}
+use mathlib.Core.Path.{_≡_, refl, sym, ap, ap₂, _∙_}
+use mathlib.Core.List.{List, [], _∷_, _++_, append-assoc, append-nil}
+use lib.ListN.{length, getD, take, drop, length-append, length-take, length-drop, List·getD-append}
+use lib.Seq.{length-take-le, getD-append-add, getD-append-seam, getD-take, getD-drop, sets, sets-eq, take-at, drop-drop, drop-append-add}
+use lib.Arith.{mod-mul, digits-div, digits-mod, digits-lt}
+use lib.Dec.{lit<}
+use Rattle.numbers.specs.Bytes.{be, bytesOf, put}
+use Rattle.numbers.specs.Ceiling.{ceilDiv}
+
+256^-pos : (k : ℕ) → 0 < 256 ^ k
+256^-pos k = one-le-pow k 256 (lit< tt)
+
+-- ---- a number in two halves
+
+pub be-join : (j k : ℕ) (s : List ℕ) (at : ℕ) → be (j + k) s at ≡ be j s at * 256 ^ k + be k s (at + j)
+unfolding be
+be-join j zero s at = rw add-zero (omega arith)
+be-join j (suc k) s at =
+    rw (add-suc j k, be-join j k s at, pow-suc 256 k, ← add-assoc at j k)
+    (omega (arith, add-mul (be j s at * 256 ^ k) (be k s (at + j)) 256, mul-assoc (be j s at) (256 ^ k) 256))
+
+pub bytes-join : (j k v : ℕ) → bytesOf (j + k) v ≡ bytesOf j (v / 256 ^ k) ++ bytesOf k v
+unfolding bytesOf
+bytes-join j zero v = rw (add-zero, div-one, append-nil)
+bytes-join j (suc k) v =
+    rw (add-suc j k, bytes-join j k (v / 256), pow-succ' 256 k, div-div-eq-div-mul v 256 (256 ^ k), append-assoc)
+
+-- only the low bytes of a number stand in its k bytes
+pub bytes-mod : (k v : ℕ) → bytesOf k (v % 256 ^ k) ≡ bytesOf k v
+unfolding bytesOf
+bytes-mod zero v = refl
+bytes-mod (suc k) v =
+    let e : v % 256 ^ suc k ≡ (v / 256 % 256 ^ k) * 256 + v % 256 = rw pow-suc (mod-mul v (256^-pos k) (lit< tt)) in
+    rw (e, digits-div (v / 256 % 256 ^ k) (mod-lt v (lit< tt)), digits-mod (v / 256 % 256 ^ k) (mod-lt v (lit< tt)), bytes-mod k (v / 256))
+
+pub length-bytes : (k v : ℕ) → length (bytesOf k v) ≡ k
+unfolding bytesOf
+length-bytes zero v = refl
+length-bytes (suc k) v = rw (length-append, length-bytes k (v / 256)) (add-one k)
+
+-- ---- bytes replaced
+
+pub length-put : (s : List ℕ) (at : ℕ) (bs : List ℕ) → at + length bs ≤ length s → length (put s at bs) ≡ length s
+unfolding put
+length-put s at bs h = simp (length-append, length-take, length-drop) (omega arith)
+
+-- single stores, one after another, are one replacement
+pub put-sets : (bs s : List ℕ) (at : ℕ) → at + length bs ≤ length s → sets s at bs ≡ put s at bs
+unfolding put
+put-sets bs s at h = sets-eq bs s at h ∙ append-assoc (take at s) bs (drop (at + length bs) s)
+
+-- two adjoining replacements are one
+pub put-put : (s : List ℕ) (at : ℕ) (xs ys : List ℕ) (n : ℕ) → length xs ≡ n → at + (n + length ys) ≤ length s
+    → put (put s at xs) (at + n) ys ≡ put s at (xs ++ ys)
+unfolding put
+put-put s at xs ys n e h =
+    let front : length (take at s ++ xs) ≡ at + n = simp (length-append, length-take) (omega arith) in
+    let tail : List ℕ = drop (at + n) s in
+    let cut : drop (length ys) tail ≡ drop (at + (n + length ys)) s = drop-drop (length ys) (at + n) s ∙ rw add-assoc in
+    rw (e, ← append-assoc (take at s) xs tail, take-at (take at s ++ xs) tail (at + n) front)
+    (rw (← front) (rw drop-append-add (rw (front, cut, length-append, e) (simp append-assoc))))
+
+-- a number written in two halves of k bytes
+pub put-halves : (k v : ℕ) (s : List ℕ) (at : ℕ) → at + (k + k) ≤ length s
+    → put (put s at (bytesOf k (v / 256 ^ k))) (at + k) (bytesOf k (v % 256 ^ k)) ≡ put s at (bytesOf (k + k) v)
+put-halves k v s at h =
+    let high : List ℕ = bytesOf k (v / 256 ^ k) in
+    rw (bytes-mod, bytes-join) (put-put s at high (bytesOf k v) k (length-bytes k (v / 256 ^ k)) (omega (arith, length-bytes k v)))
+
+-- ---- what is read
+
+-- the same bytes are the same number
+pub be-cong : (k : ℕ) (s t : List ℕ) (i j : ℕ) → ((n : ℕ) → n < k → getD s (i + n) 0 ≡ getD t (j + n) 0) → be k s i ≡ be k t j
+unfolding be
+be-cong zero s t i j h = refl
+be-cong (suc k) s t i j h = ap₂ (λ (a b : ℕ). a * 256 + b) (be-cong k s t i j (λ n m. h n (omega arith))) (h k (omega arith))
+
+-- a read inside a part is a read of the whole
+pub be-part : (k : ℕ) (s : List ℕ) (from n at : ℕ) → at + k ≤ n → be k (take n (drop from s)) at ≡ be k s (from + at)
+be-part k s from n at h =
+    be-cong k _ _ _ _ (λ i m. getD-take n (drop from s) (at + i) 0 (omega arith) ∙ getD-drop from s (at + i) 0 ∙ rw (← add-assoc from at i))
+
+-- a read inside the front is a read of the whole
+pub be-front : (k : ℕ) (s t : List ℕ) (at : ℕ) → at + k ≤ length s → be k (s ++ t) at ≡ be k s at
+be-front k s t at h = be-cong k _ _ _ _ (λ i m. List·getD-append s t 0 (at + i) (omega arith))
+
+-- a read past the front is a read of the rest
+pub be-rest : (k : ℕ) (s t : List ℕ) (at : ℕ) → be k (s ++ t) (length s + at) ≡ be k t at
+be-rest k s t at = be-cong k _ _ _ _ (λ i m. rw add-assoc (getD-append-add s t (at + i) 0))
+
+be-bytes : (k v : ℕ) (p t : List ℕ) → be k (p ++ (bytesOf k v ++ t)) (length p) ≡ v % 256 ^ k
+unfolding be bytesOf
+be-bytes zero v p t = sym (mod-one v)
+be-bytes (suc k) v p t =
+    let low : List ℕ = v % 256 ∷ t in
+    let whole : p ++ ((bytesOf k (v / 256) ++ (v % 256 ∷ [])) ++ t) ≡ p ++ (bytesOf k (v / 256) ++ low) = rw append-assoc in
+    let last : getD (p ++ (bytesOf k (v / 256) ++ low)) (length p + k) 0 ≡ v % 256 =
+    getD-append-add p (bytesOf k (v / 256) ++ low) k 0
+    ∙ ap (λ (n : ℕ). getD (bytesOf k (v / 256) ++ low) n 0) (sym (length-bytes k (v / 256)))
+    ∙ getD-append-seam (bytesOf k (v / 256)) (v % 256) t 0 in
+    rw (whole, be-bytes k (v / 256) p low, last, pow-suc) (sym (mod-mul v (256^-pos k) (lit< tt)))
+
+-- a number's bytes hold it
+pub be-bytesOf : (k v : ℕ) → v < 256 ^ k → be k (bytesOf k v) 0 ≡ v
+be-bytesOf k v small = ap (λ (bs : List ℕ). be k bs 0) (sym (append-nil (bytesOf k v))) ∙ be-bytes k v [] [] ∙ mod-eq-of-lt small
+
+-- a read inside what was written is a read of that
+pub be-put : (k : ℕ) (s : List ℕ) (at : ℕ) (bs : List ℕ) (i : ℕ) → at ≤ length s → i + k ≤ length bs → be k (put s at bs) (at + i) ≡ be k bs i
+unfolding put
+be-put k s at bs i h within =
+    let rest : List ℕ = bs ++ drop (at + length bs) s in
+    ap (λ (n : ℕ). be k (take at s ++ rest) (n + i)) (sym (length-take-le at s h)) ∙ be-rest k (take at s) rest i ∙ be-front k bs _ i within
+
+-- a read beside what was written is a read of what was there
+pub be-put-before : (k : ℕ) (s : List ℕ) (at : ℕ) (bs : List ℕ) (i : ℕ) → at ≤ length s → i + k ≤ at → be k (put s at bs) i ≡ be k s i
+unfolding put
+be-put-before k s at bs i h before =
+    be-front k (take at s) _ i (omega (arith, length-take-le at s h))
+    ∙ be-cong k _ _ _ _ (λ n m. getD-take at s (i + n) 0 (omega arith))
+
+pub be-put-after : (k : ℕ) (s : List ℕ) (at : ℕ) (bs : List ℕ) (i : ℕ) → at ≤ length s → be k (put s at bs) (at + (length bs + i)) ≡ be k s (at + (length bs + i))
+unfolding put
+be-put-after k s at bs i h =
+    let tail : List ℕ = drop (at + length bs) s in
+    ap (λ (n : ℕ). be k (take at s ++ (bs ++ tail)) (n + (length bs + i))) (sym (length-take-le at s h))
+    ∙ be-rest k (take at s) (bs ++ tail) (length bs + i)
+    ∙ be-rest k bs tail i
+    ∙ be-cong k _ _ _ _ (λ n m. getD-drop (at + length bs) s (i + n) 0 ∙ rw (add-assoc at (length bs) (i + n), add-assoc at (length bs + i) n, add-assoc (length bs) i n))
+
+-- k bytes hold a number below 256 ^ k
+pub be-bound : (k : ℕ) (s : List ℕ) (at : ℕ) → ((i : ℕ) → getD s i 0 < 256) → be k s at < 256 ^ k
+unfolding be
+be-bound zero s at h = lit< tt
+be-bound (suc k) s at h = rw pow-suc (digits-lt (be-bound k s at h) (h (at + k)))
+
+-- ---- division rounded up
+
+-- a whole of full pieces
+pub ceil-exact : (n : ℕ) {d : ℕ} → 0 < d → n % d ≡ 0 → n / d ≡ ceilDiv n d
+unfolding ceilDiv
+ceil-exact n {d} h e =
+    let whole : n + (d - 1) ≡ n / d * d + (d - 1) = omega (arith, div-add-mod' n d) in
+    rw whole (sym (digits-div (n / d) {m = d} {r = d - 1} (omega arith)))
+
+-- a whole with a piece that is not full
+pub ceil-more : (n : ℕ) {d : ℕ} → 0 < d → (n % d ≡ 0 → ⊥) → n / d + 1 ≡ ceilDiv n d
+unfolding ceilDiv
+ceil-more n {d} h e =
+    let whole : n + (d - 1) ≡ (n / d + 1) * d + (n % d - 1) = omega (arith, div-add-mod' n d, add-mul (n / d) 1 d, one-mul d) in
+    rw whole (sym (digits-div (n / d + 1) {m = d} {r = n % d - 1} (omega (arith, mod-lt n h))))
+
+-- the pieces cover the whole
+pub ceil-covers : (n : ℕ) {d : ℕ} → 0 < d → n ≤ ceilDiv n d * d
+unfolding ceilDiv
+ceil-covers n {d} h =
+    omega (arith, div-add-mod' (n + (d - 1)) d, mod-lt (n + (d - 1)) h)
+
+-- and no fewer do
+pub ceil-least : (n k : ℕ) {d : ℕ} → 0 < d → n ≤ k * d → ceilDiv n d ≤ k
+unfolding ceilDiv
+ceil-least n k {d} h c = le-of-suc-le-suc (div-lt-iff-lt-mul h .1 (omega (arith, suc-mul k d)))

@@ -1,0 +1,18 @@
+-- Big-endian numbers in a list of bytes, the bytes that hold a number, and a list with some of its bytes replaced.
+use Prim.Native.Nat.{ℕ, zero, suc, _+_, _*_, _/_, _%_}
+use mathlib.Core.List.{List, [], _∷_, _++_}
+use lib.ListN.{length, getD, take, drop}
+
+-- the number in the k bytes of s from at on, the most significant first; past the end of s a byte counts as 0
+unfoldable pub be : ℕ → List ℕ → ℕ → ℕ
+be zero s at = 0
+be (suc k) s at = be k s at * 256 + getD s (at + k) 0
+
+-- the k bytes that hold the number v, the most significant first
+unfoldable pub bytesOf : ℕ → ℕ → List ℕ
+bytesOf zero v = []
+bytesOf (suc k) v = bytesOf k (v / 256) ++ (v % 256 ∷ [])
+
+-- s with the bytes from at on replaced by bs
+unfoldable pub put : List ℕ → ℕ → List ℕ → List ℕ
+put s at bs = take at s ++ (bs ++ drop (at + length bs) s)

@@ -1,0 +1,74 @@
+// Numbers and the big-endian bytes that hold them: reads and writes of 2, 4 and 8 bytes, ceiling division, clamped
+// subtraction, the lesser of two.
+ghost use mathlib.Core.Path.{_≡_};
+ghost use Prim.Native.Nat.{_+_, _-_, _≤_, _<_, min};
+ghost use lib.ListN.{length};
+ghost use Rattle.numbers.specs.Bytes.{be, bytesOf, put};
+ghost use Rattle.numbers.specs.Ceiling.{ceilDiv};
+
+pub fn read_u16(s: &[u8], at: usize) -> u16
+    requires { ⌜ at + 2 ≤ length (now s) ⌝ }
+    ensures { λ r. ⌜ r ≡ be 2 (now (s .entry)) at ⌝ }
+{
+    (s[at] as u16) * 256 + (s[at + 1] as u16)
+}
+
+pub fn read_u32(s: &[u8], at: usize) -> u32
+    requires { ⌜ at + 4 ≤ length (now s) ⌝ }
+    ensures { λ r. ⌜ r ≡ be 4 (now (s .entry)) at ⌝ }
+{
+    (read_u16(s, at) as u32) * 0x1_0000 + (read_u16(s, at + 2) as u32)
+}
+
+pub fn read_u64(s: &[u8], at: usize) -> u64
+    requires { ⌜ at + 8 ≤ length (now s) ⌝ }
+    ensures { λ r. ⌜ r ≡ be 8 (now (s .entry)) at ⌝ }
+{
+    (read_u32(s, at) as u64) * 0x1_0000_0000 + (read_u32(s, at + 4) as u64)
+}
+
+pub fn write_u16(out: &mut [u8], at: usize, value: u16)
+    requires { ⌜ at + 2 ≤ length (now out) ⌝ }
+    ensures { λ _. ⌜ now (out .exit) ≡ put (now (out .entry)) at (bytesOf 2 value) ⌝ }
+{
+    out[at] = (value / 256) as u8;
+    out[at + 1] = (value % 256) as u8;
+}
+
+pub fn write_u32(out: &mut [u8], at: usize, value: u32)
+    requires { ⌜ at + 4 ≤ length (now out) ⌝ }
+    ensures { λ _. ⌜ now (out .exit) ≡ put (now (out .entry)) at (bytesOf 4 value) ⌝ }
+{
+    write_u16(out, at, (value / 0x1_0000) as u16);
+    write_u16(out, at + 2, (value % 0x1_0000) as u16);
+}
+
+pub fn write_u64(out: &mut [u8], at: usize, value: u64)
+    requires { ⌜ at + 8 ≤ length (now out) ⌝ }
+    ensures { λ _. ⌜ now (out .exit) ≡ put (now (out .entry)) at (bytesOf 8 value) ⌝ }
+{
+    write_u32(out, at, (value / 0x1_0000_0000) as u32);
+    write_u32(out, at + 4, (value % 0x1_0000_0000) as u32);
+}
+
+// How many pieces of a size it takes to cover a whole.
+pub fn ceil_div(whole: u64, size: u64) -> u64
+    requires { ⌜ 0 < size ⌝ }
+    ensures { λ r. ⌜ r ≡ ceilDiv whole size ⌝ }
+{
+    let full = whole / size;
+    if whole % size == 0 { full } else { full + 1 }
+}
+
+// The difference, or 0 where it would fall below (a difference of ℕ is clamped).
+pub fn clamped_sub(a: u64, b: u64) -> u64
+    ensures { λ r. ⌜ r ≡ a - b ⌝ }
+{
+    if b <= a { a - b } else { 0 }
+}
+
+pub fn minimum(a: u64, b: u64) -> u64
+    ensures { λ r. ⌜ r ≡ min a b ⌝ }
+{
+    if a <= b { a } else { b }
+}

@@ -1,0 +1,40 @@
+-- Three writes that adjoin are the row.
+use borrow.Author.Needs.{needs}
+use Rattle.types.proofs.Laws.{put-row}
+use Rattle.types.proofs.write_row.Statement.{statement}
+use Rattle.types.proofs.write_row.Tie as tie
+
+write-u16-requires : tie.Need-write-u16-requires
+write-u16-requires c κs = search needs
+
+add-write-u64 : tie.Need-add-write-u64
+add-write-u64 c = search needs
+
+write-u64-requires : tie.Need-write-u64-requires
+write-u64-requires c κs = search needs
+
+add-write-u64-2 : tie.Need-add-write-u64-2
+add-write-u64-2 c = search needs
+
+write-u64-requires-2 : tie.Need-write-u64-requires-2
+write-u64-requires-2 c κs = search needs
+
+same-length : tie.Need-same-length
+same-length c = search needs
+
+returns : tie.Need-returns
+returns c =
+    let a = c .before .before .before .before .before .before .before .before .before .before .before .before .before .args in
+    cc (put-row (a .entry) (a .table .now) (a .at) (search needs))
+
+pub write-row-spec : {M : Type 1} → statement M
+write-row-spec =
+    tie.close
+    (tie.spec
+    write-u16-requires
+    add-write-u64
+    write-u64-requires
+    add-write-u64-2
+    write-u64-requires-2
+    same-length
+    returns)

@@ -1,0 +1,3 @@
+pub mod Markers
+pub mod Offsets
+pub mod Row

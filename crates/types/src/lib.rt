@@ -1,0 +1,98 @@
+// What passes between the crates: refusals, the two kinds of offset, tile-part records, and a record's 18 bytes; and the
+// standard's marker codes.
+pub mod markers;
+
+ghost use mathlib.Core.Path.{_≡_};
+ghost use Prim.Native.Nat.{_+_, _≤_};
+ghost use lib.ListN.{length};
+ghost use Rattle.numbers.specs.Bytes.{put};
+ghost use Rattle.types.specs.Offsets.{inFile, inCodestream};
+ghost use Rattle.types.specs.Row.{entryAt, rowOf};
+
+// A refusal of document 01: its number, and its place (a file offset for boxes, else a codestream offset; for 17 and
+// 18 what is needed).
+pub struct Refusal {
+    pub number: u32,
+    pub place: u64,
+}
+
+// Counted from the start of the file.
+pub struct FileOffset(pub u64);
+
+// Counted from the start of the codestream.
+pub struct CodestreamOffset(pub u64);
+
+pub enum InFile {
+    At(FileOffset),
+    // The sum passes 2^64-1.
+    Past,
+}
+
+pub enum InCodestream {
+    At(CodestreamOffset),
+    // The place lies before the codestream.
+    Before,
+}
+
+impl CodestreamOffset {
+    // Where a place of the codestream that starts at `start` lies in the file.
+    pub fn in_file(self, start: FileOffset) -> InFile
+        ensures { λ r. ⌜ r ≡ inFile self start ⌝ }
+    {
+        let from = start.0;
+        let at = self.0;
+        if at <= 0xffff_ffff_ffff_ffff - from {
+            InFile::At(FileOffset(from + at))
+        } else {
+            InFile::Past
+        }
+    }
+}
+
+impl FileOffset {
+    // Where a place of the file lies in the codestream that starts at `start`.
+    pub fn in_codestream(self, start: FileOffset) -> InCodestream
+        ensures { λ r. ⌜ r ≡ inCodestream self start ⌝ }
+    {
+        let from = start.0;
+        let at = self.0;
+        if from <= at {
+            InCodestream::At(CodestreamOffset(at - from))
+        } else {
+            InCodestream::Before
+        }
+    }
+}
+
+// One tile-part: its tile (Isot), where it starts in the codestream, and its length from the SOT marker on.
+pub struct TilePartEntry {
+    pub tile_index: u16,
+    pub offset: u64,
+    pub length: u64,
+}
+
+// The bytes of a record in a lent table: index 2, offset 8, length 8.
+pub const ROW: usize = 18;
+
+pub fn read_row(table: &[u8], at: usize) -> TilePartEntry
+    requires { ⌜ at + 18 ≤ length (now table) ⌝ }
+    ensures { λ r. ⌜ r ≡ entryAt (now (table .entry)) at ⌝ }
+{
+    let tile_index = numbers::read_u16(table, at);
+    let offset = numbers::read_u64(table, at + 2);
+    let length = numbers::read_u64(table, at + 10);
+    TilePartEntry {
+        tile_index,
+        offset,
+        length,
+    }
+}
+
+pub fn write_row(table: &mut [u8], at: usize, entry: TilePartEntry)
+    requires { ⌜ at + 18 ≤ length (now table) ⌝ }
+    ensures { λ _. ⌜ now (table .exit) ≡ put (now (table .entry)) at (rowOf entry) ⌝ }
+{
+    numbers::write_u16(table, at, entry.tile_index);
+    numbers::write_u64(table, at + 2, entry.offset);
+    numbers::write_u64(table, at + 10, entry.length);
+}

@@ -1,0 +1,60 @@
+//! Times both sides by the same driver: the same inputs, through pointers to functions of the same
+//! type, in turn, and the best round of each.
+
+use std::fmt::Debug;
+use std::hint::black_box;
+use std::time::{Duration, Instant};
+
+const ROUNDS: usize = 15;
+const ROUND: Duration = Duration::from_millis(10);
+
+/// A function's benchmark: prints a row for each of its inputs.
+pub struct Benchmark {
+    pub name: &'static str,
+    pub rows: fn(),
+}
+
+pub fn heading(name: &str) {
+    println!("\n### {name}\n");
+    println!("| input | ns ours | ns original | ours / original |");
+    println!("|---|---:|---:|---:|");
+}
+
+pub fn row<I: ?Sized, A: PartialEq + Debug>(
+    name: &str,
+    input: &I,
+    ours: fn(&I) -> A,
+    original: fn(&I) -> A,
+) {
+    assert_eq!(ours(input), original(input), "{name}: the answers differ");
+    let calls = calls_in_a_round(input, original);
+    let (mut best_ours, mut best_original) = (f64::INFINITY, f64::INFINITY);
+    for _ in 0..ROUNDS {
+        best_ours = best_ours.min(nanoseconds(input, ours, calls));
+        best_original = best_original.min(nanoseconds(input, original, calls));
+    }
+    let ratio = best_ours / best_original;
+    println!("| {name} | {best_ours:.1} | {best_original:.1} | {ratio:.2} |");
+}
+
+fn calls_in_a_round<I: ?Sized, A>(input: &I, side: fn(&I) -> A) -> u32 {
+    let mut calls = 1;
+    while time(input, side, calls) < ROUND {
+        calls *= 2;
+    }
+    calls
+}
+
+fn nanoseconds<I: ?Sized, A>(input: &I, side: fn(&I) -> A, calls: u32) -> f64 {
+    time(input, side, calls).as_nanos() as f64 / f64::from(calls)
+}
+
+#[inline(never)]
+fn time<I: ?Sized, A>(input: &I, side: fn(&I) -> A, calls: u32) -> Duration {
+    let side = black_box(side);
+    let start = Instant::now();
+    for _ in 0..calls {
+        black_box(side(black_box(input)));
+    }
+    start.elapsed()
+}

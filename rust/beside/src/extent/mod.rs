@@ -1,0 +1,11 @@
+//! `main_header_extent`, ours beside the original's.
+
+mod cases;
+mod compare;
+mod rows;
+
+pub use cases::KIND;
+pub use compare::COMPARISON;
+pub use rows::BENCHMARK;
+
+const NAME: &str = "main_header_extent";

@@ -1,0 +1,39 @@
+//! Every short string over a small alphabet.
+
+/// Calls `each` with `front` followed by each string of `length` letters.
+pub fn each_string(front: &[u8], letters: &[u8], length: usize, mut each: impl FnMut(&[u8])) {
+    let mut places = vec![0; length];
+    let mut bytes = front.to_vec();
+    bytes.resize(front.len() + length, letters[0]);
+    loop {
+        each(&bytes);
+        // Counts up, last letter first, as an odometer does.
+        let Some(turned) = places.iter().rposition(|&place| place + 1 < letters.len()) else {
+            return;
+        };
+        places[turned] += 1;
+        places[turned + 1..].fill(0);
+        for at in turned..length {
+            bytes[front.len() + at] = letters[places[at]];
+        }
+    }
+}
+
+#[cfg(test)]
+mod tests {
+    use super::each_string;
+
+    #[test]
+    fn gives_each_string_once() {
+        let mut seen = Vec::new();
+        each_string(&[9], &[0, 1], 2, |bytes| seen.push(bytes.to_vec()));
+        assert_eq!(seen, [[9, 0, 0], [9, 0, 1], [9, 1, 0], [9, 1, 1]]);
+    }
+
+    #[test]
+    fn no_letters_more_is_the_front_alone() {
+        let mut seen = Vec::new();
+        each_string(&[9], &[0, 1], 0, |bytes| seen.push(bytes.to_vec()));
+        assert_eq!(seen, [[9]]);
+    }
+}
