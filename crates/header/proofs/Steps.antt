@@ -4,7 +4,7 @@ use native.Mathlib.Omega.{arith}
 use mathlib.Core.Path.{_≡_, refl}
 use mathlib.Core.Bool.{Bool, true, false, cond}
 use mathlib.Core.List.{List}
-use lib.ListN.{length, getD}
+use lib.ListN.{length}
 use lib.Dec.{leb, eqb}
 use borrow.Author.Tests.{le-leb, lt-leb, eq-eqb, ne-eqb, leb-true, eqb-true}
 use Rattle.numbers.specs.Bytes.{be}
@@ -24,11 +24,11 @@ module _ (s : List ℕ) (at : ℕ) where
     step-sot e = rw (le-leb _ _ marker, eq-eqb _ _ e)
 
     module _ (other : be 2 s at ≡ SOT → ⊥) where
-      pub step-delimiter : delimits (getD s (at + 1) 0) ≡ true → stepAt s at ≡ Delimiter (at + 2)
+      pub step-delimiter : delimits (be 2 s at) ≡ true → stepAt s at ≡ Delimiter (at + 2)
       unfolding stepAt
       step-delimiter d = rw (le-leb _ _ marker, ne-eqb _ _ other, d)
 
-      module _ (long : delimits (getD s (at + 1) 0) ≡ false) where
+      module _ (long : delimits (be 2 s at) ≡ false) where
         pub step-no-length : length s < at + 4 → stepAt s at ≡ CutShort
         unfolding stepAt
         step-no-length h = rw (le-leb _ _ marker, ne-eqb _ _ other, long, lt-leb _ _ h)
@@ -49,7 +49,7 @@ Told s at (Segment next) = (at < next) × (next ≤ length s)
 Told s at CutShort = Unit {0}
 
 -- a property of a choice, from each side
-by-test : {A : Type 0} (P : A → Type 0) (b : Bool) {x y : A} → (b ≡ true → P x) → (b ≡ false → P y) → P (cond b x y)
+pub by-test : {A : Type 0} (P : A → Type 0) (b : Bool) {x y : A} → (b ≡ true → P x) → (b ≡ false → P y) → P (cond b x y)
 by-test P true f g = f refl
 by-test P false f g = g refl
 
@@ -58,7 +58,7 @@ unfolding stepAt
 step-told s at =
     by-test (Told s at) (leb (at + 2) (length s))
     (λ m. by-test (Told s at) (eqb (be 2 s at) SOT) (λ e. (leb-true _ _ m, eqb-true _ _ e))
-    (λ _. by-test (Told s at) (delimits (getD s (at + 1) 0)) (λ _. (omega arith, leb-true _ _ m))
+    (λ _. by-test (Told s at) (delimits (be 2 s at)) (λ _. (omega arith, leb-true _ _ m))
     (λ _. by-test (Told s at) (leb (at + 4) (length s))
     (λ _. by-test (Told s at) (leb (segmentEnd s at) (length s)) (λ e. (omega arith, leb-true _ _ e)) (λ _. tt))
     (λ _. tt))))

@@ -1,3 +1,4 @@
 pub mod Step
 pub mod Walk
 pub mod Extent
+pub mod Iso

@@ -1,17 +1,17 @@
 -- One step over the main header (document 01, "Header walk").
-use Prim.Native.Nat.{ℕ, _+_}
+use Prim.Native.Nat.{ℕ, _+_, _%_}
 use mathlib.Core.Bool.{Bool, cond, _||_, _&&_}
 use mathlib.Core.List.{List}
-use lib.ListN.{length, getD}
+use lib.ListN.{length}
 use lib.Dec.{leb, eqb}
 use Rattle.numbers.specs.Bytes.{be}
 use Rattle.types.specs.Markers.{SOT}
 use Rattle.header.specs.declared.step.HeaderStep.{HeaderStep}
 use Rattle.header.specs.declared.step.HeaderStep.the-variants.{Sot, Delimiter, Segment, CutShort}
 
--- a delimiter's low byte: 92, or 30 to 3F. The high byte is not asked.
+-- a delimiter: a low byte of 92 or 30 to 3F, with any high byte
 unfoldable pub delimits : ℕ → Bool
-delimits low = eqb low 0x92 || (leb 0x30 low && leb low 0x3f)
+delimits marker = eqb (marker % 256) 0x92 || (leb 0x30 (marker % 256) && leb (marker % 256) 0x3f)
 
 -- where a segment ends: its marker, and as many bytes as its length field says, 0 and 1 included
 unfoldable pub segmentEnd : List ℕ → ℕ → ℕ
@@ -23,7 +23,7 @@ unfolding delimits segmentEnd
 stepAt s at =
     cond (leb (at + 2) (length s))
     (cond (eqb (be 2 s at) SOT) Sot
-    (cond (delimits (getD s (at + 1) 0)) (Delimiter (at + 2))
+    (cond (delimits (be 2 s at)) (Delimiter (at + 2))
     (cond (leb (at + 4) (length s))
     (cond (leb (segmentEnd s at) (length s)) (Segment (segmentEnd s at)) CutShort)
     CutShort)))

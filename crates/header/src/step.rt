@@ -17,9 +17,10 @@ pub enum HeaderStep {
 }
 
 // EPH or a reserved marker without a segment, by the low byte alone: the high byte is not looked at.
-fn is_delimiter(low: u8) -> bool
-    ensures { λ r. ⌜ r ≡ delimits low ⌝ }
+fn is_delimiter(marker: u16) -> bool
+    ensures { λ r. ⌜ r ≡ delimits marker ⌝ }
 {
+    let low = marker % 256;
     low == 0x92 || (0x30 <= low && low <= 0x3f)
 }
 
@@ -30,10 +31,11 @@ pub fn header_step(header: &[u8], at: usize) -> HeaderStep
     if header.len() - at < 2 {
         return HeaderStep::CutShort;
     }
-    if numbers::read_u16(header, at) == SOT {
+    let marker = numbers::read_u16(header, at);
+    if marker == SOT {
         return HeaderStep::Sot;
     }
-    if is_delimiter(header[at + 1]) {
+    if is_delimiter(marker) {
         return HeaderStep::Delimiter(at + 2);
     }
     if header.len() - at < 4 {

@@ -1,17 +1,22 @@
 -- At each return the tests that led there choose the case of the definition.
 use native.Mathlib.Omega.{arith}
+use mathlib.Core.Bool.{false}
 use mathlib.Core.Path.{_≡_, sym, _∙_}
 use borrow.Author.Needs.{needs}
 use Rattle.header.proofs.Steps.{step-short, step-sot, step-delimiter, step-no-length, step-no-end, step-segment}
-use Rattle.header.specs.Step.{segmentEnd}
+use Rattle.header.specs.Step.{delimits, segmentEnd}
 use Rattle.types.specs.Markers.{SOT}
 use Rattle.numbers.specs.Bytes.{be}
 use Rattle.header.proofs.step.header_step.Statement.{statement}
 use Rattle.header.proofs.step.header_step.Tie as tie
 
--- past the test for SOT, another marker stands there
+-- past the test for SOT another marker stands there
 other : (c : tie.Else2) → be 2 (c .before .before .before .before .args .header .now) (c .before .before .before .before .args .at) ≡ SOT → ⊥
 other c e = c .if2 .left (c .before .read-u16 .ensures ∙ e)
+
+-- past the test for a delimiter the marker is none
+no-delimiter : (c : tie.Else3) → delimits (be 2 (c .before .before .before .before .before .before .args .header .now) (c .before .before .before .before .before .before .args .at)) ≡ false
+no-delimiter c = rw (c .before .before .before .read-u16 .ensures) at (sym (c .before .is-delimiter .ensures) ∙ c .if3 .left)
 
 sub-if1 : tie.Need-sub-if1
 sub-if1 c = search needs
@@ -25,20 +30,17 @@ read-u16-requires c κs = search needs
 returns-2 : tie.Need-returns-2
 returns-2 c = sym (step-sot _ _ (omega arith) (sym (c .before .read-u16 .ensures) ∙ c .if2 .taken))
 
-add-is-delimiter : tie.Need-add-is-delimiter
-add-is-delimiter c = search needs
-
-shared-slice-read-is-delimiter : tie.Need-shared-slice-read-is-delimiter
-shared-slice-read-is-delimiter c = search needs
-
 is-delimiter-requires : tie.Need-is-delimiter-requires
 is-delimiter-requires c κs = search needs
 
-add-t11 : tie.Need-add-t11
-add-t11 c = search needs
+add-t9 : tie.Need-add-t9
+add-t9 c = search needs
 
 returns-3 : tie.Need-returns-3
-returns-3 c = sym (step-delimiter _ _ (omega arith) (other (c .before .before .before)) (sym (c .before .is-delimiter .ensures) ∙ c .if3 .taken))
+returns-3 c =
+    let c₂ = c .before .before in
+    let d = sym (c .before .is-delimiter .ensures) ∙ c .if3 .taken in
+    sym (step-delimiter _ _ (omega arith) (other c₂) (rw (c₂ .before .read-u16 .ensures) at d))
 
 sub-if4 : tie.Need-sub-if4
 sub-if4 c = search needs
@@ -46,7 +48,7 @@ sub-if4 c = search needs
 returns-4 : tie.Need-returns-4
 returns-4 c =
     let c₃ = c .before in
-    sym (step-no-length _ _ (omega arith) (other (c₃ .before .before .before)) (sym (c₃ .before .is-delimiter .ensures) ∙ c₃ .if3 .left) (omega arith))
+    sym (step-no-length _ _ (omega arith) (other (c₃ .before .before)) (no-delimiter c₃) (omega arith))
 
 add-read-u16 : tie.Need-add-read-u16
 add-read-u16 c = search needs
@@ -68,7 +70,7 @@ unfolding segmentEnd
 returns-5 c =
     let c₃ = c .before .before .before in
     let l = c .before .read-u162 .ensures in
-    sym (step-no-end _ _ (omega arith) (other (c₃ .before .before .before)) (sym (c₃ .before .is-delimiter .ensures) ∙ c₃ .if3 .left) (omega arith) (omega arith))
+    sym (step-no-end _ _ (omega arith) (other (c₃ .before .before)) (no-delimiter c₃) (omega arith) (omega arith))
 
 add-t5 : tie.Need-add-t5
 add-t5 c = search needs
@@ -78,7 +80,7 @@ unfolding segmentEnd
 returns-6 c =
     let c₃ = c .before .before .before in
     let l = c .before .read-u162 .ensures in
-    rw l (sym (step-segment _ _ (omega arith) (other (c₃ .before .before .before)) (sym (c₃ .before .is-delimiter .ensures) ∙ c₃ .if3 .left) (omega arith) (omega arith)))
+    rw l (sym (step-segment _ _ (omega arith) (other (c₃ .before .before)) (no-delimiter c₃) (omega arith) (omega arith)))
 
 pub header-step-spec : {M : Type 1} → statement M
 header-step-spec =
@@ -88,10 +90,8 @@ header-step-spec =
     returns
     read-u16-requires
     returns-2
-    add-is-delimiter
-    shared-slice-read-is-delimiter
     is-delimiter-requires
-    add-t11
+    add-t9
     returns-3
     sub-if4
     returns-4

@@ -1,0 +1,50 @@
+// Answers the stored list of cases in `cases`, a line for each; what it must write is what the original answered
+// (rust/beside, program `cases`). A case is its kind, a byte; the length of its payload, 4 bytes; the payload.
+mod extent;
+mod print;
+
+fn main() {
+    let path = b"cases";
+    let file = os::open_read(path);
+    if file < 0 {
+        os::fail(path);
+        return;
+    }
+    answer_all(file);
+    libc::close(file);
+}
+
+// Nothing says that a file ends, so the turns are counted down from a number that no run uses up.
+fn answer_all(file: i32) {
+    let mut turns = u64::MAX;
+    while turns > 0 && answer_next(file) {
+        turns -= 1;
+    }
+}
+
+// One case, or false where the list has ended.
+fn answer_next(file: i32) -> bool {
+    let mut frame = [0u8; 5];
+    if io::read_full(file, &mut frame) < 5 {
+        return false;
+    }
+    let size = numbers::read_u32(&frame, 1) as usize;
+    if 0x1_0000 < size {
+        return false;
+    }
+    let mut payload = io::large_buffer();
+    if io::read_full(file, &mut payload[..size]) < size {
+        return false;
+    }
+    answer(frame[0], &payload[..size]);
+    true
+}
+
+fn answer(kind: u8, payload: &[u8]) {
+    if kind == 1 {
+        extent::answer(payload);
+    } else {
+        print::text(b"unknown kind");
+        print::line();
+    }
+}
