@@ -1,7 +1,7 @@
 // Answers the stored list of cases in `cases`, a line for each; what it must write is what the original answered
 // (rust/beside, program `cases`). A case is its kind, a byte; the length of its payload, 4 bytes; the payload.
-mod extent;
-mod print;
+use header::extent::MainHeaderExtent;
+use libc::STDOUT_FILENO;
 
 fn main() {
     let path = b"cases";
@@ -42,9 +42,30 @@ fn answer_next(file: i32) -> bool {
 
 fn answer(kind: u8, payload: &[u8]) {
     if kind == 1 {
-        extent::answer(payload);
+        answer_extent(payload);
     } else {
-        print::text(b"unknown kind");
-        print::line();
+        text(b"unknown kind");
     }
+    text(b"\n");
+}
+
+// Kind 1: the payload is the prefix.
+fn answer_extent(prefix: &[u8]) {
+    match header::extent::main_header_extent(prefix) {
+        MainHeaderExtent::Complete(first_sot) => {
+            text(b"extent complete");
+            number(first_sot.0);
+        }
+        MainHeaderExtent::Truncated => text(b"extent truncated"),
+    }
+}
+
+fn text(word: &[u8]) {
+    io::write_all(STDOUT_FILENO, word);
+}
+
+// A number, after a space.
+fn number(n: u64) {
+    text(b" ");
+    io::print_decimal(STDOUT_FILENO, n);
 }
