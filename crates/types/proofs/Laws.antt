@@ -1,14 +1,14 @@
 -- Laws of a record's 18 bytes: three writes make them, and reading them back gives the record.
-use Prim.Native.Nat.{ℕ, _+_, _≤_, _<_, _^_}
+use Prim.Native.Nat.{ℕ, _+_, _*_, _≤_, _<_, _^_}
 use native.Mathlib.Nat.{add-zero}
 use native.Mathlib.Omega.{arith}
-use mathlib.Core.Path.{_≡_, sym, ap, _∙_}
-use mathlib.Core.List.{List, _++_, append-assoc}
+use mathlib.Core.Path.{_≡_, refl, sym, ap, _∙_}
+use mathlib.Core.List.{List, [], _∷_, _++_, append-assoc}
 use lib.ListN.{length, length-append}
 use Rattle.numbers.specs.Bytes.{be, bytesOf, put}
 use Rattle.numbers.proofs.Laws.{length-bytes, put-put, be-put, be-front, be-rest, be-bytesOf}
 use Rattle.types.specs.declared.TilePartEntry.{TilePartEntry}
-use Rattle.types.specs.Row.{entryAt, rowOf}
+use Rattle.types.specs.Row.{entryAt, rowOf, rowsOf}
 
 -- the fields' widths
 pub record Fits (e : TilePartEntry) : Type 0 where
@@ -19,6 +19,11 @@ pub record Fits (e : TilePartEntry) : Type 0 where
 pub length-row : (e : TilePartEntry) → length (rowOf e) ≡ 18
 unfolding rowOf
 length-row e = simp (length-append, length-bytes)
+
+pub length-rows : (es : List TilePartEntry) → length (rowsOf es) ≡ 18 * length es
+unfolding rowsOf
+length-rows [] = refl
+length-rows (e ∷ rest) = rw (length-append, length-row, length-rows rest) (omega arith)
 
 -- the three fields written one after the other are the row
 pub put-row : (e : TilePartEntry) (s : List ℕ) (at : ℕ) → at + 18 ≤ length s
