@@ -80,6 +80,10 @@ module _ {A : Type 0} (short : A) (move : ℕ → Move A) where
     run-chain {at} a stay e = chain-end at a e
     run-chain {at} a (step {next = next} found past rest) e = chain-on at next found ∙ ap (also (record { at = at; next = next })) (run-chain a rest e)
 
+-- a step does not both end and move on
+pub end-on : {A : Type 0} {a : A} {n : ℕ} → _≡_ {A = Move A} (end a) (on n) → ⊥
+end-on e = let z : _≡_ {A = ℕ} 0 1 = cc in omega arith
+
 -- what one step moves on by, another does too: the same run (of a longer list with the same front, say)
 pub run-also : {A B : Type 0} {move : ℕ → Move A} {other : ℕ → Move B} → ((at next : ℕ) → move at ≡ on next → other at ≡ on next)
     → {at stop : ℕ} {visits : List Visit} → Run move at visits stop → Run other at visits stop

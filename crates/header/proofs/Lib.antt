@@ -1,3 +1,12 @@
 pub mod Steps
+pub mod Extents
+pub mod Tlms
+pub mod Fills
 pub mod Walks
+pub mod Visited
+pub mod Counting
+pub mod Stripping
+pub mod Filling
+pub mod Lengths
+pub mod Answers
 pub mod Standard

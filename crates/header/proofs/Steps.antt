@@ -3,10 +3,14 @@ use Prim.Native.Nat.{ℕ, _+_, _≤_, _<_}
 use native.Mathlib.Omega.{arith}
 use mathlib.Core.Path.{_≡_, refl}
 use mathlib.Core.Bool.{Bool, true, false, cond}
-use mathlib.Core.List.{List}
+use mathlib.Core.List.{List, [], _∷_}
+use mathlib.Core.Logic.{⊎-elim}
 use lib.ListN.{length}
 use lib.Dec.{leb, eqb}
 use borrow.Author.Tests.{le-leb, lt-leb, eq-eqb, ne-eqb, leb-true, eqb-true}
+use denote.Enum.Declared.{tagOf}
+use types.Run.{OneOf}
+use Rattle.header.proofs.step.HeaderStep.{the-type}
 use Rattle.numbers.specs.Bytes.{be}
 use Rattle.types.specs.Markers.{SOT}
 use Rattle.header.specs.Step.{delimits, segmentEnd, stepAt}
@@ -41,11 +45,12 @@ module _ (s : List ℕ) (at : ℕ) where
         unfolding stepAt
         step-segment h e = rw (le-leb _ _ marker, ne-eqb _ _ other, long, le-leb _ _ h, le-leb _ _ e)
 
--- what an answer says: an SOT's marker stands there, and a step that goes on goes forward and not past the end
+-- what an answer says: an SOT's marker stands there; a step that goes on goes forward and not past the end, over a delimiter's marker or a
+-- whole segment
 abbrev pub Told : List ℕ → ℕ → HeaderStep → Type 0
 Told s at Sot = (at + 2 ≤ length s) × (be 2 s at ≡ SOT)
-Told s at (Delimiter next) = (at < next) × (next ≤ length s)
-Told s at (Segment next) = (at < next) × (next ≤ length s)
+Told s at (Delimiter next) = (at < next) × (next ≤ length s) × (next ≡ at + 2) × (delimits (be 2 s at) ≡ true)
+Told s at (Segment next) = (at < next) × (next ≤ length s) × (next ≡ segmentEnd s at) × (at + 4 ≤ length s)
 Told s at CutShort = Unit {0}
 
 -- a property of a choice, from each side
@@ -58,8 +63,15 @@ unfolding stepAt
 step-told s at =
     by-test (Told s at) (leb (at + 2) (length s))
     (λ m. by-test (Told s at) (eqb (be 2 s at) SOT) (λ e. (leb-true _ _ m, eqb-true _ _ e))
-    (λ _. by-test (Told s at) (delimits (be 2 s at)) (λ _. (omega arith, leb-true _ _ m))
+    (λ _. by-test (Told s at) (delimits (be 2 s at)) (λ d. (omega arith, leb-true _ _ m, refl, d))
     (λ _. by-test (Told s at) (leb (at + 4) (length s))
-    (λ _. by-test (Told s at) (leb (segmentEnd s at) (length s)) (λ e. (omega arith, leb-true _ _ e)) (λ _. tt))
+    (λ h. by-test (Told s at) (leb (segmentEnd s at) (length s)) (λ e. (omega arith, leb-true _ _ e, refl, leb-true _ _ h)) (λ _. tt))
     (λ _. tt))))
     (λ _. tt)
+
+-- neither an SOT nor a step that goes on
+pub only-cut : (found : HeaderStep) → OneOf (0 ∷ 3 ∷ []) (tagOf the-type found) → OneOf (1 ∷ 2 ∷ 3 ∷ []) (tagOf the-type found) → found ≡ CutShort
+only-cut Sot k g = absurd (⊎-elim (λ e. omega arith) (⊎-elim (λ e. omega arith) (λ e. omega arith)) g)
+only-cut (Delimiter n) k g = absurd (⊎-elim (λ e. omega arith) (λ e. omega arith) k)
+only-cut (Segment n) k g = absurd (⊎-elim (λ e. omega arith) (λ e. omega arith) k)
+only-cut CutShort k g = refl

@@ -7,7 +7,7 @@ use lib.Dec.{leb, eqb}
 use Rattle.numbers.specs.Bytes.{be}
 use Rattle.types.specs.Markers.{SOC}
 use Rattle.chain.specs.Chain.{Chain}
-use Rattle.header.specs.Walk.{HeaderEnd, sot, cut, walkFrom}
+use Rattle.header.specs.Step.{HeaderEnd, sot, cut, stepsFrom}
 use Rattle.header.specs.declared.extent.MainHeaderExtent.{MainHeaderExtent}
 use Rattle.header.specs.declared.extent.MainHeaderExtent.the-variants.{Complete, Truncated}
 
@@ -22,5 +22,5 @@ extentEnd walk = endedAs (walk .ended) (walk .stopped)
 
 -- under 4 bytes or no SOC: Truncated; otherwise as the walk from 2 ends
 unfoldable pub extentOf : List ℕ → MainHeaderExtent
-unfolding extentEnd walkFrom
-extentOf s = cond (leb 4 (length s)) (cond (eqb (be 2 s 0) SOC) (extentEnd (walkFrom s 2)) Truncated) Truncated
+unfolding extentEnd stepsFrom
+extentOf s = cond (leb 4 (length s)) (cond (eqb (be 2 s 0) SOC) (extentEnd (stepsFrom s 2)) Truncated) Truncated

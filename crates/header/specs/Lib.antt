@@ -1,4 +1,7 @@
 pub mod Step
-pub mod Walk
 pub mod Extent
+pub mod Tlm
+pub mod Walk
+pub mod Strip
+pub mod Parse
 pub mod Iso

@@ -1,10 +1,11 @@
--- One step over the main header (document 01, "Header walk").
+-- One step over the main header (document 01, "Header walk"), and the chain of its steps.
 use Prim.Native.Nat.{ℕ, _+_, _%_}
 use mathlib.Core.Bool.{Bool, cond, _||_, _&&_}
 use mathlib.Core.List.{List}
 use lib.ListN.{length}
 use lib.Dec.{leb, eqb}
 use Rattle.numbers.specs.Bytes.{be}
+use Rattle.chain.specs.Chain.{Move, end, on, Chain, chain}
 use Rattle.types.specs.Markers.{SOT}
 use Rattle.header.specs.declared.step.HeaderStep.{HeaderStep}
 use Rattle.header.specs.declared.step.HeaderStep.the-variants.{Sot, Delimiter, Segment, CutShort}
@@ -28,3 +29,22 @@ stepAt s at =
     (cond (leb (segmentEnd s at) (length s)) (Segment (segmentEnd s at)) CutShort)
     CutShort)))
     CutShort
+
+-- how the steps end: at an SOT, or where the bytes end too soon
+pub data HeaderEnd : Type 0 where
+  sot : HeaderEnd
+  cut : HeaderEnd
+
+-- a segment and a delimiter are passed
+unfoldable pub moveOf : HeaderStep → Move HeaderEnd
+moveOf Sot = end sot
+moveOf (Delimiter next) = on next
+moveOf (Segment next) = on next
+moveOf CutShort = end cut
+
+unfoldable pub moveAt : List ℕ → ℕ → Move HeaderEnd
+moveAt s at = moveOf (stepAt s at)
+
+-- the steps from a position on
+unfoldable pub stepsFrom : List ℕ → ℕ → Chain HeaderEnd
+stepsFrom s at = chain cut (moveAt s) (length s) at

@@ -1,27 +1,66 @@
--- The walk over the main header: the chain of its steps, from which first SOT, extent, decode header and TLM records are each defined.
-use Prim.Native.Nat.{ℕ}
+-- The walk over the main header (document 01, "Header walk"): the chain of its steps, with what each passes or refuses.
+use Prim.Native.Nat.{ℕ, _+_, _≤_}
+use mathlib.Core.Path.{_≡_}
+use mathlib.Core.Bool.{true, false, cond}
 use mathlib.Core.List.{List}
 use lib.ListN.{length}
+use lib.Dec.{leb, eqb}
+use Rattle.numbers.specs.Bytes.{be}
+use Rattle.types.specs.Markers.{TLM}
+use Rattle.types.specs.declared.Refusal.{Refusal}
 use Rattle.chain.specs.Chain.{Move, end, on, Chain, chain}
 use Rattle.header.specs.Step.{stepAt}
+use Rattle.header.specs.Tlm.{refusal, tlmAt, Within}
 use Rattle.header.specs.declared.step.HeaderStep.{HeaderStep}
 use Rattle.header.specs.declared.step.HeaderStep.the-variants.{Sot, Delimiter, Segment, CutShort}
+use Rattle.header.specs.declared.tlm.Tlm.{Tlm}
+use Rattle.header.specs.declared.tlm.Tlm.the-variants as tlm
+use Rattle.header.specs.declared.walk.WalkStep.{WalkStep}
+use Rattle.header.specs.declared.walk.WalkStep.the-variants.{Passed, FirstSot, Refused}
 
--- how the walk ends: at an SOT, or where the bytes end too soon
-pub data HeaderEnd : Type 0 where
-  sot : HeaderEnd
-  cut : HeaderEnd
+-- where a marker stands whole its segment passes the codestream: 3; otherwise no SOT was reached: 6
+unfoldable pub cutAt : List ℕ → ℕ → Refusal
+cutAt s at = cond (leb (at + 2) (length s)) (refusal 3 at) (refusal 6 (length s))
 
--- a segment and a delimiter are passed
-unfoldable pub moveOf : HeaderStep → Move HeaderEnd
-moveOf Sot = end sot
-moveOf (Delimiter next) = on next
-moveOf (Segment next) = on next
-moveOf CutShort = end cut
+-- a TLM segment is passed unless it is refused
+unfoldable pub tlmStep : ℕ → Tlm → WalkStep
+tlmStep next (tlm.Entries n) = Passed (record { next = next; «is_tlm» = true; entries = n })
+tlmStep next (tlm.Refused r) = Refused r
 
-unfoldable pub moveAt : List ℕ → ℕ → Move HeaderEnd
-moveAt s at = moveOf (stepAt s at)
+-- a segment or a delimiter that ends at next; no delimiter has TLM's low byte
+unfoldable pub passedAt : List ℕ → ℕ → ℕ → WalkStep
+unfolding tlmStep
+passedAt s at next = cond (eqb (be 2 s at) TLM) (tlmStep next (tlmAt s at)) (Passed (record { next = next; «is_tlm» = false; entries = 0 }))
+
+-- one step of the walk, by what stands there
+unfoldable pub walkStepOf : List ℕ → ℕ → HeaderStep → WalkStep
+unfolding cutAt passedAt
+walkStepOf s at Sot = FirstSot
+walkStepOf s at (Delimiter next) = passedAt s at next
+walkStepOf s at (Segment next) = passedAt s at next
+walkStepOf s at CutShort = Refused (cutAt s at)
+
+unfoldable pub walkStepAt : List ℕ → ℕ → WalkStep
+walkStepAt s at = walkStepOf s at (stepAt s at)
+
+-- how the walk ends: at the first SOT, or refused
+pub data WalkEnd : Type 0 where
+  firstSot : WalkEnd
+  refused : Refusal → WalkEnd
+
+unfoldable pub walkMove : WalkStep → Move WalkEnd
+walkMove (Passed p) = on (p .next)
+walkMove FirstSot = end firstSot
+walkMove (Refused r) = end (refused r)
+
+unfoldable pub walkAt : List ℕ → ℕ → Move WalkEnd
+walkAt s at = walkMove (walkStepAt s at)
 
 -- the walk from a position on
-unfoldable pub walkFrom : List ℕ → ℕ → Chain HeaderEnd
-walkFrom s at = chain cut (moveAt s) (length s) at
+unfoldable pub walkFrom : List ℕ → ℕ → Chain WalkEnd
+walkFrom s at = chain firstSot (walkAt s) (length s) at
+
+-- what is passed has its marker inside, and where that is TLM's a whole segment
+pub record Markers (s : List ℕ) (at next : ℕ) : Type 0 where
+  pub marker : at + 2 ≤ length s
+  pub segment : be 2 s at ≡ TLM → Within s at

@@ -4,7 +4,7 @@ use lib.ListN.{length, take}
 use Rattle.numbers.specs.Bytes.{be, bytesOf}
 use Rattle.chain.specs.Chain.{chain}
 use Rattle.header.specs.Step.{stepAt}
-use Rattle.header.specs.Walk.{moveOf, moveAt}
+use Rattle.header.specs.Step.{moveOf, moveAt}
 use Rattle.header.specs.Extent.{extentOf}
 use Rattle.header.specs.declared.extent.MainHeaderExtent.the-variants.{Complete, Truncated}
 use Rattle.laws.specs.Sample.{A}

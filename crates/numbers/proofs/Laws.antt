@@ -1,13 +1,13 @@
 -- Laws of big-endian bytes, each over the width: what a number's bytes are in two halves, what is read of what was written, what is read
 -- inside a part, and bounds. Callers cite these and do not look into the definitions.
 use Prim.Native.Nat.{ℕ, zero, suc, _+_, _-_, _*_, _/_, _%_, _^_, _≤_, _<_}
-use native.Mathlib.Nat.{add-zero, add-suc, add-assoc, mul-assoc, add-mul, div-one, mod-one, div-div-eq-div-mul, pow-suc, pow-succ', one-le-pow, mod-lt, mod-eq-of-lt, div-add-mod', div-lt-iff-lt-mul, one-mul, suc-mul, le-of-suc-le-suc}
+use native.Mathlib.Nat.{add-zero, zero-add, add-suc, add-assoc, mul-assoc, add-mul, div-one, mod-one, div-div-eq-div-mul, pow-suc, pow-succ', one-le-pow, mod-lt, mod-eq-of-lt, div-add-mod', div-lt-iff-lt-mul, one-mul, suc-mul, le-of-suc-le-suc}
 use native.Mathlib.Numerals.{add-one}
 use native.Mathlib.Omega.{arith}
 use mathlib.Core.Path.{_≡_, refl, sym, ap, ap₂, _∙_}
 use mathlib.Core.List.{List, [], _∷_, _++_, append-assoc, append-nil}
-use lib.ListN.{length, getD, take, drop, length-append, length-take, length-drop, List·getD-append}
-use lib.Seq.{length-take-le, getD-append-add, getD-append-seam, getD-take, getD-drop, sets, sets-eq, take-at, drop-drop, drop-append-add}
+use lib.ListN.{take-append-drop, length, getD, take, drop, length-append, length-take, length-drop, List·getD-append, drop-of-length-le}
+use lib.Seq.{take-length, take-all, length-take-le, getD-append-add, getD-append-seam, getD-take, getD-drop, sets, sets-eq, take-at, drop-drop, drop-append-add}
 use lib.Arith.{mod-mul, digits-div, digits-mod, digits-lt}
 use lib.Dec.{lit<}
 use Rattle.numbers.specs.Bytes.{be, bytesOf, put}
@@ -50,6 +50,16 @@ pub length-put : (s : List ℕ) (at : ℕ) (bs : List ℕ) → at + length bs �
 unfolding put
 length-put s at bs h = simp (length-append, length-take, length-drop) (omega arith)
 
+-- nothing replaced
+pub put-none : (s : List ℕ) (at : ℕ) → put s at [] ≡ s
+unfolding put
+put-none s at = ap (λ (n : ℕ). take at s ++ drop n s) (add-zero at) ∙ take-append-drop at s
+
+-- a replacement at the start
+pub put-start : (s bs : List ℕ) → put s 0 bs ≡ bs ++ drop (length bs) s
+unfolding put
+put-start s bs = ap (λ (n : ℕ). bs ++ drop n s) (zero-add (length bs))
+
 -- single stores, one after another, are one replacement
 pub put-sets : (bs s : List ℕ) (at : ℕ) → at + length bs ≤ length s → sets s at bs ≡ put s at bs
 unfolding put
@@ -65,6 +75,14 @@ put-put s at xs ys n e h =
     let cut : drop (length ys) tail ≡ drop (at + (n + length ys)) s = drop-drop (length ys) (at + n) s ∙ rw add-assoc in
     rw (e, ← append-assoc (take at s) xs tail, take-at (take at s ++ xs) tail (at + n) front)
     (rw (← front) (rw drop-append-add (rw (front, cut, length-append, e) (simp append-assoc))))
+
+-- a copy onto all that stands from at on, whose end is as it was
+pub put-copy : (s : List ℕ) (at : ℕ) (bs : List ℕ) → at + length bs ≤ length s
+    → take at s ++ ((take (length bs) bs ++ drop (length bs) (take (length s - at) (drop at s))) ++ drop (length s - at) (drop at s)) ≡ put s at bs
+unfolding put
+put-copy s at bs h =
+    let rest : length (drop at s) ≤ length s - at = omega (arith, length-drop at s) in
+    rw (take-length, take-all (length s - at) (drop at s) rest, drop-of-length-le (drop at s) rest, drop-drop (length bs) at s, append-nil)
 
 -- a number written in two halves of k bytes
 pub put-halves : (k v : ℕ) (s : List ℕ) (at : ℕ) → at + (k + k) ≤ length s

@@ -1,5 +1,5 @@
-// Numbers and the big-endian bytes that hold them: reads and writes of 2, 4 and 8 bytes, ceiling division, clamped
-// subtraction, the lesser of two.
+// Numbers and the big-endian bytes that hold them: reads and writes of 2, 4 and 8 bytes, a copy, ceiling division,
+// clamped subtraction, the lesser of two.
 ghost use mathlib.Core.Path.{_≡_};
 ghost use Prim.Native.Nat.{_+_, _-_, _≤_, _<_, min};
 ghost use lib.ListN.{length};
@@ -49,6 +49,15 @@ pub fn write_u64(out: &mut [u8], at: usize, value: u64)
 {
     write_u32(out, at, (value / 0x1_0000_0000) as u32);
     write_u32(out, at + 4, (value % 0x1_0000_0000) as u32);
+}
+
+// Copies bytes into lent memory, from `at` on, and gives where they end.
+pub fn copy_at(source: &[u8], out: &mut [u8], at: usize) -> usize
+    requires { ⌜ at + length (now source) ≤ length (now out) ⌝ }
+    ensures { λ r. ⌜ r ≡ at + length (now (source .entry)) ⌝ }
+    ensures { λ _. ⌜ now (out .exit) ≡ put (now (out .entry)) at (now (source .entry)) ⌝ }
+{
+    at + bytes::copy(source, &mut out[at..])
 }
 
 // How many pieces of a size it takes to cover a whole.

@@ -1,40 +1,28 @@
 -- The walk from the present position ends as the walk from 2 does; each turn is one step of the chain, and what is left of the prefix falls.
 use Prim.Native.Nat.{ℕ, _≤_, _-_}
 use native.Mathlib.Omega.{arith}
-use mathlib.Core.Logic.{⊎-elim}
-use mathlib.Core.List.{List, [], _∷_}
-use mathlib.Core.Path.{_≡_, refl, sym, _∙_}
+use mathlib.Core.List.{List}
+use mathlib.Core.Path.{_≡_, sym, _∙_}
 use lib.ListN.{length}
 use borrow.Author.Needs.{needs}
-use denote.Enum.Declared.{tagOf}
-use Rattle.header.proofs.Walks.{extent-few, extent-no-soc, extent-walk, move-inside, segment-on, delimiter-on, extent-on, extent-sot, extent-cut}
-use Rattle.header.specs.declared.step.HeaderStep.the-variants.{Sot, Delimiter, Segment, CutShort}
-use Rattle.header.specs.declared.step.HeaderStep.{HeaderStep}
-use Rattle.header.specs.Walk.{moveAt, walkFrom}
-use Rattle.header.proofs.step.HeaderStep.{the-type}
+use Rattle.header.proofs.Steps.{only-cut}
+use Rattle.header.proofs.Extents.{extent-few, extent-no-soc, extent-steps, move-inside, segment-on, delimiter-on, extent-on, extent-sot, extent-cut}
+use Rattle.header.specs.Step.{moveAt, stepsFrom}
 use Rattle.chain.specs.Chain.{on}
-use types.Run.{OneOf}
 use Rattle.header.specs.Extent.{extentOf, extentEnd}
 use Rattle.header.proofs.extent.main_header_extent.Statement.{statement}
 use Rattle.header.proofs.extent.main_header_extent.Tie as tie
 
 abbrev Inv-loop : tie.InvT-loop
-Inv-loop prefix at₀ at = (at ≤ length prefix) × (extentEnd (walkFrom prefix at) ≡ extentOf prefix)
+Inv-loop prefix at₀ at = (at ≤ length prefix) × (extentEnd (stepsFrom prefix at) ≡ extentOf prefix)
 
 abbrev μ-loop : tie.MeasureT-loop
 μ-loop prefix at₀ at = length prefix - at
 
 -- a turn: one step of the chain, from which the walk ends as before, with less of the prefix left
-turn : (s : List ℕ) (at next : ℕ) → extentEnd (walkFrom s at) ≡ extentOf s → moveAt s at ≡ on next
-    → (next ≤ length s) × (extentEnd (walkFrom s next) ≡ extentOf s)
+turn : (s : List ℕ) (at next : ℕ) → extentEnd (stepsFrom s at) ≡ extentOf s → moveAt s at ≡ on next
+    → (next ≤ length s) × (extentEnd (stepsFrom s next) ≡ extentOf s)
 turn s at next e m = (move-inside s at next m .1, sym (extent-on s at next m) ∙ e)
-
--- neither an SOT nor a step that goes on
-cut-short : (found : HeaderStep) → OneOf (0 ∷ 3 ∷ []) (tagOf the-type found) → OneOf (1 ∷ 2 ∷ 3 ∷ []) (tagOf the-type found) → found ≡ CutShort
-cut-short Sot k g = absurd (⊎-elim (λ e. omega arith) (⊎-elim (λ e. omega arith) (λ e. omega arith)) g)
-cut-short (Delimiter n) k g = absurd (⊎-elim (λ e. omega arith) (λ e. omega arith) k)
-cut-short (Segment n) k g = absurd (⊎-elim (λ e. omega arith) (λ e. omega arith) k)
-cut-short CutShort k g = refl
 
 returns : tie.Need-returns Inv-loop μ-loop
 returns c = sym (extent-few _ (c .if1 .taken))
@@ -46,7 +34,7 @@ returns-2 : tie.Need-returns-2 Inv-loop μ-loop
 returns-2 c = sym (extent-no-soc _ (search needs) (λ e. c .if2 .taken (c .before .read-u16 .ensures ∙ e)))
 
 loop-holds : tie.Need-loop-holds Inv-loop μ-loop
-loop-holds c = (search needs, sym (extent-walk _ (search needs) (sym (c .before .read-u16 .ensures) ∙ c .if2 .left)))
+loop-holds c = (search needs, sym (extent-steps _ (search needs) (sym (c .before .read-u16 .ensures) ∙ c .if2 .left)))
 
 header-step-requires : tie.Need-header-step-requires Inv-loop μ-loop
 header-step-requires c κs = search needs
@@ -68,7 +56,7 @@ returns-3 c =
 returns-4 : tie.Need-returns-4 Inv-loop μ-loop
 returns-4 c =
     let l = c .before .before .before .loop in
-    sym (extent-cut _ (l .at) (sym (c .before .before .header-step .ensures) ∙ cut-short _ (c .before .match .keys3) (c .match2 .keys2))) ∙ l .inv .1
+    sym (extent-cut _ (l .at) (sym (c .before .before .header-step .ensures) ∙ only-cut _ (c .before .match .keys3) (c .match2 .keys2))) ∙ l .inv .1
 
 loop-less : tie.Need-loop-less Inv-loop μ-loop
 loop-less c =

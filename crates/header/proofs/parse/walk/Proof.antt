@@ -1,0 +1,109 @@
+-- What was counted so far, with what lies ahead, is the whole count.
+use Prim.Native.Nat.{_-_}
+use native.Mathlib.Omega.{arith}
+use mathlib.Core.Path.{_≡_, sym, _∙_}
+use lib.ListN.{length}
+use borrow.Author.Needs.{needs}
+use Rattle.header.proofs.Visited.{entries-few}
+use Rattle.header.proofs.Walks.{passed-is, only-found}
+use Rattle.header.specs.declared.walk.WalkStep.the-variants.{Passed}
+use Rattle.header.specs.Walk.{walkStepAt}
+use Rattle.header.proofs.Counting.{Counting, counting-start, counting-plain, counting-tlm, counted-found, counted-refused}
+use Rattle.header.proofs.parse.walk.Statement.{statement}
+use Rattle.header.proofs.parse.walk.Tie as tie
+
+abbrev Inv-loop : tie.InvT-loop
+Inv-loop codestream at₀ stripped₀ entries₀ at stripped entries = Counting codestream at stripped entries
+
+abbrev μ-loop : tie.MeasureT-loop
+μ-loop codestream at₀ stripped₀ entries₀ at stripped entries = length codestream - at
+
+-- what the step found, where it passed something
+found : (c : tie.After-known-told Inv-loop μ-loop)
+    → walkStepAt (c .before .before .before .before .before .before .args .codestream .now) (c .before .before .before .before .loop .at) ≡ Passed (c .before .step .given .0 .0)
+found c = sym (c .before .before .before .walk-step .ensures) ∙ c .before .step .given .1
+
+loop-holds : tie.Need-loop-holds Inv-loop μ-loop
+loop-holds c = counting-start _ (c .before .pre .0)
+
+walk-step-requires : tie.Need-walk-step-requires Inv-loop μ-loop
+walk-step-requires c κs = search needs
+
+enum-known-step : tie.Need-enum-known-step Inv-loop μ-loop
+enum-known-step c = search needs
+
+enum-known-step-2 : tie.Need-enum-known-step-2 Inv-loop μ-loop
+enum-known-step-2 c = search needs
+
+returns : tie.Need-returns Inv-loop μ-loop
+returns c =
+    let l = c .before .before .before .before .before .loop in
+    sym (counted-refused _ (l .at) (l .stripped) (l .entries) (l .inv) _ (sym (c .before .before .before .before .walk-step .ensures) ∙ c .before .step2 .given .1))
+
+sub-t10 : tie.Need-sub-t10 Inv-loop μ-loop
+sub-t10 c = search needs
+
+returns-2 : tie.Need-returns-2 Inv-loop μ-loop
+returns-2 c =
+    let l = c .before .before .before .loop in
+    sym (counted-found _ (l .at) (l .stripped) (l .entries) (l .inv) (sym (c .before .before .walk-step .ensures) ∙ only-found _ (c .before .match .keys2) (c .match2 .keys2)))
+
+sub-stripped : tie.Need-sub-stripped Inv-loop μ-loop
+sub-stripped c =
+    let told = passed-is _ _ _ (found (c .before .before)) in
+    omega (arith, told .past)
+
+add-stripped : tie.Need-add-stripped Inv-loop μ-loop
+add-stripped c =
+    let told = passed-is _ _ _ (found (c .before .before)) in
+    omega (arith, told .past, told .inside, c .before .before .before .before .before .before .loop .inv .before)
+
+add-entries : tie.Need-add-entries Inv-loop μ-loop
+add-entries c =
+    let c₁ = c .before .before .before in
+    let few = entries-few _ _ _ (found c₁) (c .before .before .if1 .taken) in
+    let told = passed-is _ _ _ (found c₁) in
+    omega (arith, told .inside, c₁ .before .before .before .before .loop .inv .few)
+
+loop-less : tie.Need-loop-less Inv-loop μ-loop
+loop-less c =
+    let told = passed-is _ _ _ (found (c .before .before .before)) in
+    omega (arith, told .past, told .inside)
+
+loop-again : tie.Need-loop-again Inv-loop μ-loop
+loop-again c =
+    let c₁ = c .before .before .before in
+    let l = c₁ .before .before .before .before .loop in
+    counting-tlm _ (l .at) (l .stripped) (l .entries) (l .inv) _ (found c₁) (c .before .before .if1 .taken)
+
+loop-less-2 : tie.Need-loop-less-2 Inv-loop μ-loop
+loop-less-2 c =
+    let told = passed-is _ _ _ (found (c .before)) in
+    omega (arith, told .past, told .inside)
+
+loop-again-2 : tie.Need-loop-again-2 Inv-loop μ-loop
+loop-again-2 c =
+    let c₁ = c .before in
+    let l = c₁ .before .before .before .before .loop in
+    counting-plain _ (l .at) (l .stripped) (l .entries) (l .inv) _ (found c₁) (c .if1 .left)
+
+pub walk-spec : {M : Type 1} → statement M
+walk-spec =
+    tie.close
+    (tie.spec
+    Inv-loop
+    μ-loop
+    loop-holds
+    walk-step-requires
+    enum-known-step
+    enum-known-step-2
+    returns
+    sub-t10
+    returns-2
+    sub-stripped
+    add-stripped
+    add-entries
+    loop-less
+    loop-again
+    loop-less-2
+    loop-again-2)

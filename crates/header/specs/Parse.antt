@@ -1,0 +1,65 @@
+-- The whole reading of the main header: its answer, and what it leaves in the lent table and output (document 01, refusals 1 to 6 and 17 to 19).
+use Prim.Native.Nat.{ℕ, _+_, _*_, _/_}
+use mathlib.Core.Bool.{Bool, cond, _&&_}
+use mathlib.Core.List.{List, _++_}
+use lib.ListN.{length, drop}
+use lib.Dec.{leb, eqb}
+use Rattle.numbers.specs.Bytes.{be}
+use Rattle.types.specs.Markers.{SOC, SIZ}
+use Rattle.types.specs.Row.{rowsOf}
+use Rattle.types.specs.declared.TilePartEntry.{TilePartEntry}
+use Rattle.chain.specs.Chain.{Chain}
+use Rattle.header.specs.Tlm.{refusal, placed}
+use Rattle.header.specs.Walk.{WalkEnd, firstSot, refused, walkFrom}
+use Rattle.header.specs.Strip.{decodeHeader, tlmEntries}
+use Rattle.header.specs.declared.parse.MainHeader.{MainHeader}
+use Rattle.header.specs.declared.parse.MainHeader.the-variants.{Header, Refused}
+
+-- an accepted walk: where its first SOT stands, how long its decode header is, and how many TLM entries there are (0: the table is absent)
+unfoldable pub readAs : List ℕ → Chain WalkEnd → WalkEnd → MainHeader
+readAs s walk firstSot =
+    Header (record {
+      «first_sot_offset» = record { 0 = walk .stopped };
+      «decode_header_length» = length (decodeHeader s (walk .visits));
+      «tlm_entries» = length (tlmEntries s (walk .visits));
+    })
+readAs s walk (refused r) = Refused r
+
+-- a marker stands there whole
+unfoldable pub stands : List ℕ → ℕ → ℕ → Bool
+stands s at marker = leb (at + 2) (length s) && eqb (be 2 s at) marker
+
+-- 19 is tested first; SOC at 0, SIZ at 2, and the walk from 2
+unfoldable pub judged : List ℕ → MainHeader
+unfolding readAs stands
+judged s =
+    cond (leb (length s) 0xffff_ffff)
+    (cond (stands s 0 SOC)
+    (cond (stands s 2 SIZ) (readAs s (walkFrom s 2) (walkFrom s 2 .ended)) (Refused (refusal 2 2)))
+    (Refused (refusal 1 0)))
+    (Refused (refusal 19 0))
+
+-- 18, then 17, only where all else accepts
+unfoldable pub withRoom : ℕ → ℕ → MainHeader → MainHeader
+withRoom rows room (Header h) =
+    cond (leb (h .«tlm_entries») rows) (cond (leb (h .«decode_header_length») room) (Header h) (Refused (refusal 17 (h .«decode_header_length»))))
+    (Refused (refusal 18 (h .«tlm_entries»)))
+withRoom rows room (Refused r) = Refused r
+
+-- the answer, for a table of so many bytes and an output of so many
+unfoldable pub parsed : List ℕ → ℕ → ℕ → MainHeader
+parsed s table out = withRoom (table / 18) out (judged s)
+
+-- the records of the TLM segments: the first offset is the first SOT
+unfoldable pub tlmTable : List ℕ → List TilePartEntry
+tlmTable s = placed (walkFrom s 2 .stopped) (tlmEntries s (walkFrom s 2 .visits))
+
+-- the table after an answer: the records' rows and the rest as it was, or all as it was
+unfoldable pub tableAfter : MainHeader → List ℕ → List ℕ → List ℕ
+tableAfter (Header h) s table = rowsOf (tlmTable s) ++ drop (18 * h .«tlm_entries») table
+tableAfter (Refused r) s table = table
+
+-- the output after an answer: the decode header and the rest as it was, or all as it was
+unfoldable pub outAfter : MainHeader → List ℕ → List ℕ → List ℕ
+outAfter (Header h) s out = decodeHeader s (walkFrom s 2 .visits) ++ drop (h .«decode_header_length») out
+outAfter (Refused r) s out = out

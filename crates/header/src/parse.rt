@@ -1,0 +1,139 @@
+// The reading of a main header: it decides everything first, then writes the decode header and the TLM records into lent
+// memory. A refusal leaves both as they were.
+ghost use mathlib.Core.Path.{_≡_};
+ghost use Prim.Native.Nat.{_+_, _*_, _≤_, _<_, _^_};
+ghost use lib.ListN.{length};
+ghost use Rattle.numbers.specs.Bytes.{put};
+ghost use Rattle.types.specs.Row.{rowsOf};
+ghost use Rattle.header.specs.Tlm.{placed};
+ghost use Rattle.header.specs.Walk.{walkFrom};
+ghost use Rattle.header.specs.Strip.{tlmEntries};
+ghost use Rattle.header.specs.Parse.{readAs, stands, judged, parsed, tableAfter, outAfter};
+use crate::walk::WalkStep;
+use types::CodestreamOffset;
+use types::ROW;
+use types::Refusal;
+use types::markers::SIZ;
+use types::markers::SOC;
+
+pub struct MainHeaderInfo {
+    pub first_sot_offset: CodestreamOffset,
+    pub decode_header_length: u64,
+    // None: the table is absent.
+    pub tlm_entries: u64,
+}
+
+pub enum MainHeader {
+    Header(MainHeaderInfo),
+    Refused(Refusal),
+}
+
+// The walk from the SIZ marker on, counting.
+fn walk(codestream: &[u8]) -> MainHeader
+    requires { ⌜ (2 ≤ length (now codestream)) × (length (now codestream) < 2 ^ 32) ⌝ }
+    ensures { λ r. ⌜ r ≡ readAs (now (codestream .entry)) (walkFrom (now (codestream .entry)) 2) (walkFrom (now (codestream .entry)) 2 .ended) ⌝ }
+{
+    let mut at: usize = 2;
+    let mut stripped: usize = 0;
+    let mut entries: usize = 0;
+    loop {
+        let step = crate::walk::walk_step(codestream, at);
+        let WalkStep::Passed(passed) = step else {
+            if let WalkStep::Refused(refusal) = step {
+                return MainHeader::Refused(refusal);
+            }
+            return MainHeader::Header(MainHeaderInfo {
+                first_sot_offset: CodestreamOffset(at as u64),
+                decode_header_length: (at - stripped) as u64,
+                tlm_entries: entries as u64,
+            });
+        };
+        if passed.is_tlm {
+            stripped += passed.next - at;
+            entries += passed.entries;
+        }
+        at = passed.next;
+    }
+}
+
+fn marker_stands(codestream: &[u8], at: usize, marker: u16) -> bool
+    requires { ⌜ at ≤ 2 ⌝ }
+    ensures { λ r. ⌜ r ≡ stands (now (codestream .entry)) at marker ⌝ }
+{
+    at + 2 <= codestream.len() && numbers::read_u16(codestream, at) == marker
+}
+
+fn judge(codestream: &[u8]) -> MainHeader
+    ensures { λ r. ⌜ r ≡ judged (now (codestream .entry)) ⌝ }
+{
+    if 0xffff_ffff < codestream.len() {
+        return MainHeader::Refused(Refusal {
+            number: 19,
+            place: 0,
+        });
+    }
+    if !marker_stands(codestream, 0, SOC) {
+        return MainHeader::Refused(Refusal {
+            number: 1,
+            place: 0,
+        });
+    }
+    if !marker_stands(codestream, 2, SIZ) {
+        return MainHeader::Refused(Refusal {
+            number: 2,
+            place: 2,
+        });
+    }
+    walk(codestream)
+}
+
+// Writes the rows of all TLM entries, the first of which starts at `first_sot`.
+fn fill_table(codestream: &[u8], first_sot: u64, table: &mut [u8])
+    requires { ⌜ 2 ≤ length (now codestream) ⌝ }
+    requires { ⌜ 18 * length (tlmEntries (now codestream) (walkFrom (now codestream) 2 .visits)) ≤ length (now table) ⌝ }
+    requires { ⌜ «first_sot» + length (tlmEntries (now codestream) (walkFrom (now codestream) 2 .visits)) * 2 ^ 32 < 2 ^ 64 ⌝ }
+    ensures { λ _. ⌜ now (table .exit) ≡ put (now (table .entry)) 0 (rowsOf (placed «first_sot» (tlmEntries (now (codestream .entry)) (walkFrom (now (codestream .entry)) 2 .visits)))) ⌝ }
+{
+    let mut at: usize = 2;
+    let mut row: usize = 0;
+    let mut offset = first_sot;
+    loop {
+        let step = crate::walk::walk_step(codestream, at);
+        let WalkStep::Passed(passed) = step else {
+            return;
+        };
+        if passed.is_tlm {
+            let count = passed.entries;
+            offset = crate::tlm::fill_segment(codestream, at, count, offset, table, row);
+            row += count * ROW;
+        }
+        at = passed.next;
+    }
+}
+
+pub fn parse_main_header(codestream: &[u8], table: &mut [u8], out: &mut [u8]) -> MainHeader
+    ensures { λ r. ⌜ r ≡ parsed (now (codestream .entry)) (length (now (table .entry))) (length (now (out .entry))) ⌝ }
+    ensures { λ r. ⌜ now (table .exit) ≡ tableAfter r (now (codestream .entry)) (now (table .entry)) ⌝ }
+    ensures { λ r. ⌜ now (out .exit) ≡ outAfter r (now (codestream .entry)) (now (out .entry)) ⌝ }
+{
+    let judgement = judge(codestream);
+    let MainHeader::Header(info) = judgement else {
+        return judgement;
+    };
+    if ((table.len() / ROW) as u64) < info.tlm_entries {
+        return MainHeader::Refused(Refusal {
+            number: 18,
+            place: info.tlm_entries,
+        });
+    }
+    if (out.len() as u64) < info.decode_header_length {
+        return MainHeader::Refused(Refusal {
+            number: 17,
+            place: info.decode_header_length,
+        });
+    }
+    let first_sot = info.first_sot_offset;
+    fill_table(codestream, first_sot.0, table);
+    crate::strip::strip(codestream, out);
+    judgement
+}

@@ -1,0 +1,118 @@
+// One TLM segment (document 01, "TLM"), given by the position of its marker: how many entries it holds, or why it is
+// refused, and its entries as rows of a lent table.
+ghost use mathlib.Core.Path.{_≡_};
+ghost use mathlib.Core.Bool.{cond};
+ghost use mathlib.Core.Logic.{_⊎_};
+ghost use Prim.Native.Nat.{_+_, _*_, _≤_, _<_, _^_};
+ghost use lib.ListN.{length};
+ghost use lib.Dec.{eqb};
+ghost use Rattle.numbers.specs.Bytes.{be, put};
+ghost use Rattle.types.specs.Row.{rowsOf};
+ghost use Rattle.header.specs.Tlm.{indexSize, lengthSize, Within, tlmAt, Accepted, entryCount, entriesIn, placed, total};
+use types::ROW;
+use types::Refusal;
+use types::TilePartEntry;
+
+pub enum Tlm {
+    // So many whole entries.
+    Entries(usize),
+    Refused(Refusal),
+}
+
+// ST, bits 5 and 4 of Stlm: the bytes of an entry's index.
+fn index_size(stlm: u8) -> usize
+    ensures { λ r. ⌜ r ≡ indexSize stlm ⌝ }
+{
+    (stlm / 16 % 4) as usize
+}
+
+// SP, bit 6: the bytes of an entry's length.
+fn length_size(stlm: u8) -> usize
+    ensures { λ r. ⌜ r ≡ lengthSize stlm ⌝ }
+{
+    2 + (stlm / 64 % 2) as usize * 2
+}
+
+pub fn tlm_at(codestream: &[u8], at: usize) -> Tlm
+    requires { ⌜ Within (now codestream) at ⌝ }
+    ensures { λ r. ⌜ r ≡ tlmAt (now (codestream .entry)) at ⌝ }
+{
+    let place = at as u64;
+    let ltlm = numbers::read_u16(codestream, at + 2) as usize;
+    if ltlm < 4 {
+        return Tlm::Refused(Refusal { number: 4, place });
+    }
+    let stlm = codestream[at + 5];
+    let index_bytes = index_size(stlm);
+    if index_bytes == 3 {
+        return Tlm::Refused(Refusal { number: 5, place });
+    }
+    Tlm::Entries((ltlm - 4) / (index_bytes + length_size(stlm)))
+}
+
+// An entry's index, of 0, 1 or 2 bytes; with none it is its number in the segment.
+fn entry_index(codestream: &[u8], place: usize, size: usize, number: u16) -> u16
+    requires { ⌜ (size ≤ 2) × (place + size ≤ length (now codestream)) ⌝ }
+    ensures { λ r. ⌜ r ≡ cond (eqb size 0) number (be size (now (codestream .entry)) place) ⌝ }
+{
+    if size == 0 {
+        return number;
+    }
+    if size == 1 {
+        return codestream[place] as u16;
+    }
+    numbers::read_u16(codestream, place)
+}
+
+// An entry's length, of 2 or 4 bytes.
+fn entry_length(codestream: &[u8], place: usize, size: usize) -> u64
+    requires { ⌜ ((size ≡ 2) ⊎ (size ≡ 4)) × (place + size ≤ length (now codestream)) ⌝ }
+    ensures { λ r. ⌜ r ≡ be size (now (codestream .entry)) place ⌝ }
+{
+    if size == 2 {
+        numbers::read_u16(codestream, place) as u64
+    } else {
+        numbers::read_u32(codestream, place) as u64
+    }
+}
+
+// Writes the rows of a segment's entries from `row` on, the first of which starts at `from`, and gives where the last
+// one ends.
+pub fn fill_segment(
+    codestream: &[u8],
+    at: usize,
+    count: usize,
+    from: u64,
+    table: &mut [u8],
+    row: usize,
+) -> u64
+    requires { ⌜ Accepted (now codestream) at ⌝ }
+    requires { ⌜ count ≡ entryCount (now codestream) at ⌝ }
+    requires { ⌜ row + 18 * count ≤ length (now table) ⌝ }
+    requires { ⌜ from + count * 2 ^ 32 < 2 ^ 64 ⌝ }
+    ensures { λ r. ⌜ r ≡ from + total (entriesIn (now (codestream .entry)) at 0 count) ⌝ }
+    ensures { λ _. ⌜ now (table .exit) ≡ put (now (table .entry)) row (rowsOf (placed from (entriesIn (now (codestream .entry)) at 0 count))) ⌝ }
+{
+    let stlm = codestream[at + 5];
+    let index_bytes = index_size(stlm);
+    let length_bytes = length_size(stlm);
+    let mut place = at + 6;
+    let mut offset = from;
+    let mut to = row;
+    let mut i: usize = 0;
+    while i < count {
+        let tile_index = entry_index(codestream, place, index_bytes, i as u16);
+        let length = entry_length(codestream, place + index_bytes, length_bytes);
+        let entry = TilePartEntry {
+            tile_index,
+            offset,
+            length,
+        };
+        types::write_row(table, to, entry);
+        offset += length;
+        place += index_bytes + length_bytes;
+        to += ROW;
+        i += 1;
+    }
+    offset
+}

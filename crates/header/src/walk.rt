@@ -1,0 +1,76 @@
+// One step of the header walk (document 01, "Header walk"): what is passed, the first SOT, or why the walk is refused.
+ghost use mathlib.Core.Path.{_≡_};
+ghost use Prim.Native.Nat.{_≤_};
+ghost use lib.ListN.{length};
+ghost use Rattle.header.specs.Step.{stepAt};
+ghost use Rattle.header.specs.Walk.{Markers, cutAt, passedAt, walkStepAt};
+use crate::step::HeaderStep;
+use crate::tlm::Tlm;
+use types::Refusal;
+use types::markers::TLM;
+
+// A segment or a delimiter that was passed, and for a TLM segment how many entries it holds.
+pub struct Passed {
+    pub next: usize,
+    pub is_tlm: bool,
+    pub entries: usize,
+}
+
+pub enum WalkStep {
+    Passed(Passed),
+    FirstSot,
+    Refused(Refusal),
+}
+
+fn cut_at(codestream: &[u8], at: usize) -> Refusal
+    requires { ⌜ at ≤ length (now codestream) ⌝ }
+    ensures { λ r. ⌜ r ≡ cutAt (now (codestream .entry)) at ⌝ }
+{
+    let length = codestream.len();
+    if 2 <= length - at {
+        Refusal {
+            number: 3,
+            place: at as u64,
+        }
+    } else {
+        Refusal {
+            number: 6,
+            place: length as u64,
+        }
+    }
+}
+
+fn pass(codestream: &[u8], at: usize, next: usize) -> WalkStep
+    requires { ⌜ Markers (now codestream) at next ⌝ }
+    ensures { λ r. ⌜ r ≡ passedAt (now (codestream .entry)) at next ⌝ }
+{
+    if numbers::read_u16(codestream, at) != TLM {
+        return WalkStep::Passed(Passed {
+            next,
+            is_tlm: false,
+            entries: 0,
+        });
+    }
+    match crate::tlm::tlm_at(codestream, at) {
+        Tlm::Entries(entries) => WalkStep::Passed(Passed {
+            next,
+            is_tlm: true,
+            entries,
+        }),
+        Tlm::Refused(refusal) => WalkStep::Refused(refusal),
+    }
+}
+
+pub fn walk_step(codestream: &[u8], at: usize) -> WalkStep
+    requires { ⌜ at ≤ length (now codestream) ⌝ }
+    ensures { λ r. ⌜ r ≡ walkStepAt (now (codestream .entry)) at ⌝ }
+{
+    let step = crate::step::header_step(codestream, at);
+    let (HeaderStep::Segment(next) | HeaderStep::Delimiter(next)) = step else {
+        if let HeaderStep::Sot = step {
+            return WalkStep::FirstSot;
+        }
+        return WalkStep::Refused(cut_at(codestream, at));
+    };
+    pass(codestream, at, next)
+}
