@@ -1,0 +1,91 @@
+-- The scan's answer and table opened once: a law for each way that a call ends.
+use Prim.Native.Nat.{ℕ, _*_, _/_, _≤_, _<_}
+use native.Mathlib.Nat.{zero-add}
+use native.Mathlib.Omega.{arith}
+use mathlib.Core.Path.{_≡_, refl, sym, ap, ap₂, _∙_}
+use mathlib.Core.List.{List, _++_}
+use lib.ListN.{length, drop, length-map}
+use lib.Dec.{leb}
+use borrow.Author.Tests.{le-leb, lt-leb}
+use Rattle.numbers.specs.Bytes.{put}
+use Rattle.types.specs.Row.{rowsOf}
+use Rattle.types.proofs.Laws.{length-rows}
+use Rattle.types.specs.declared.Refusal.{Refusal}
+use Rattle.types.specs.declared.TilePartEntry.{TilePartEntry}
+use Rattle.parts.specs.Scan.{refusal, ScanEnd, ended, refused, scanFrom, visited, entriesFrom, endedAs, judged, withRoom, scanned, written, scannedTable}
+use Rattle.parts.specs.declared.scan.Scanned.{Scanned}
+use Rattle.parts.specs.declared.scan.Scanned.the-variants.{Table, Refused}
+use Rattle.parts.proofs.Scans.{step-outside, scan-ended, entries-ended}
+use Rattle.parts.proofs.Tests.{by-test}
+
+-- ---- the answer
+
+table-refused : {n : ℕ} {r : Refusal} → _≡_ {A = Scanned} (Refused r) (Table n) → ⊥
+table-refused e = let z : _≡_ {A = ℕ} 0 1 = cc in omega arith
+
+ended-count : (a : ScanEnd) (m n : ℕ) → endedAs a m ≡ Table n → (a ≡ ended) × (m ≡ n)
+unfolding endedAs
+ended-count ended m n e = (refl, cc)
+ended-count (refused r) m n e = absurd (table-refused e)
+
+-- a scan that counts to the end counts its records, and is not refused
+pub judged-table : (s : List ℕ) (start n : ℕ) → judged (scanFrom s start) ≡ Table n
+    → (scanFrom s start .ended ≡ ended) × (length (entriesFrom s start) ≡ n)
+unfolding judged entriesFrom
+judged-table s start n e =
+    let c = ended-count (scanFrom s start .ended) (length (scanFrom s start .visits)) n e in
+    (c .0, length-map (scanFrom s start .visits) (visited s) ∙ c .1)
+
+module _ (s : List ℕ) (start rows : ℕ) where
+  pub answer-refused : (r : Refusal) → judged (scanFrom s start) ≡ Refused r → scanned s start rows ≡ Refused r
+  unfolding scanned withRoom
+  answer-refused r e = ap (withRoom rows) e
+
+  pub answer-no-room : (n : ℕ) → judged (scanFrom s start) ≡ Table n → rows < n → scanned s start rows ≡ Refused (refusal 18 n)
+  unfolding scanned withRoom
+  answer-no-room n e h = ap (withRoom rows) e ∙ rw (lt-leb _ _ h)
+
+  pub answer-table : (n : ℕ) → judged (scanFrom s start) ≡ Table n → n ≤ rows → scanned s start rows ≡ Table n
+  unfolding scanned withRoom
+  answer-table n e h = ap (withRoom rows) e ∙ rw (le-leb _ _ h)
+
+  -- a start at or past the end gives an empty table
+  judged-outside : length s ≤ start → judged (scanFrom s start) ≡ Table 0
+  unfolding judged endedAs
+  judged-outside h = ap judged (scan-ended s start (step-outside s start h))
+
+  pub answer-outside : length s ≤ start → scanned s start rows ≡ Table 0
+  answer-outside h = answer-table 0 (judged-outside h) (omega arith)
+
+-- ---- the table
+
+module _ (s : List ℕ) (start : ℕ) (table : List ℕ) where
+  pub table-kept : (r : Refusal) → scanned s start (length table / 18) ≡ Refused r → scannedTable s start table ≡ table
+  unfolding scannedTable written
+  table-kept r e = ap (λ (a : Scanned). written a (entriesFrom s start) table) e
+
+  pub table-filled : (n : ℕ) → scanned s start (length table / 18) ≡ Table n → length (entriesFrom s start) ≡ n
+      → scannedTable s start table ≡ put table 0 (rowsOf (entriesFrom s start))
+  unfolding scannedTable written put
+  table-filled n e l =
+      ap (λ (a : Scanned). written a (entriesFrom s start) table) e
+      ∙ ap (λ (k : ℕ). rowsOf (entriesFrom s start) ++ drop k table)
+      (ap (λ (k : ℕ). 18 * k) (sym l) ∙ sym (length-rows (entriesFrom s start)) ∙ sym (zero-add (length (rowsOf (entriesFrom s start)))))
+
+  pub table-outside : length s ≤ start → scannedTable s start table ≡ table
+  unfolding scannedTable written rowsOf
+  table-outside h =
+      ap₂ (λ (a : Scanned) (es : List TilePartEntry). written a es table) (answer-outside s start (length table / 18) h) (entries-ended s start (step-outside s start h))
+
+-- ---- what an accepting answer says
+
+accepted : (s : List ℕ) (start rows n : ℕ) (a : Scanned) → judged (scanFrom s start) ≡ a → withRoom rows a ≡ Table n → judged (scanFrom s start) ≡ Table n
+unfolding withRoom
+accepted s start rows n (Table m) e w = by-test (λ (a : Scanned). a ≡ Table n → judged (scanFrom s start) ≡ Table n) (leb m rows) (λ _ k. e ∙ k) (λ _ k. absurd (table-refused k)) w
+accepted s start rows n (Refused r) e w = absurd (table-refused w)
+
+-- a call that gives a table counted its records, and its scan was not refused
+pub answer-accepts : (s : List ℕ) (start rows n : ℕ) → scanned s start rows ≡ Table n
+    → (scanFrom s start .ended ≡ ended) × (length (entriesFrom s start) ≡ n)
+unfolding scanned
+answer-accepts s start rows n e = judged-table s start n (accepted s start rows n (judged (scanFrom s start)) refl e)

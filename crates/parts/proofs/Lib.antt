@@ -1,0 +1,8 @@
+pub mod Tests
+pub mod Scans
+pub mod Answers
+pub mod Splits
+pub mod Adjoin
+pub mod Joined
+pub mod Iso
+pub mod Edges

@@ -1,0 +1,5 @@
+pub mod Sot
+pub mod Scan
+pub mod Split
+pub mod Tiles
+pub mod Iso

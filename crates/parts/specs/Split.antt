@@ -1,0 +1,46 @@
+-- One tile's buffer taken apart (document 01, "Split"): the chain of its steps, and the parts.
+use Prim.Native.Nat.{ℕ, _+_, _-_}
+use mathlib.Core.Bool.{cond}
+use mathlib.Core.List.{List, map}
+use lib.ListN.{length, take, drop}
+use lib.Dec.{leb, eqb}
+use Rattle.numbers.specs.Bytes.{be}
+use Rattle.types.specs.Markers.{SOT}
+use Rattle.chain.specs.Chain.{Move, end, on, Visit, Chain, chain}
+use Rattle.parts.specs.Sot.{psot}
+use Rattle.parts.specs.declared.split.SplitStep.{SplitStep}
+use Rattle.parts.specs.declared.split.SplitStep.the-variants.{Part, Ended}
+
+-- Psot 0 or past the end makes the rest one part; otherwise Psot bytes
+unfoldable pub partEnd : List ℕ → ℕ → ℕ
+partEnd s at = cond (eqb (psot s at) 0) (length s) (cond (leb (at + psot s at) (length s)) (at + psot s at) (length s))
+
+-- a part where 12 bytes remain and SOT stands there; Lsot is not tested
+unfoldable pub splitStepAt : List ℕ → ℕ → SplitStep
+unfolding partEnd
+splitStepAt s at = cond (leb (at + 12) (length s)) (cond (eqb (be 2 s at) SOT) (Part (partEnd s at)) Ended) Ended
+
+pub data SplitEnd : Type 0 where
+  ended : SplitEnd
+
+unfoldable pub moveOf : SplitStep → Move SplitEnd
+moveOf (Part next) = on next
+moveOf Ended = end ended
+
+unfoldable pub moveAt : List ℕ → ℕ → Move SplitEnd
+moveAt s at = moveOf (splitStepAt s at)
+
+unfoldable pub splitFrom : List ℕ → ℕ → Chain SplitEnd
+splitFrom s at = chain ended (moveAt s) (length s) at
+
+-- the bytes of each part from a position on
+abbrev pub visited : List ℕ → Visit → List ℕ
+visited s v = take (v .next - v .at) (drop (v .at) s)
+
+unfoldable pub partsFrom : List ℕ → ℕ → List (List ℕ)
+partsFrom s at = map (visited s) (splitFrom s at .visits)
+
+-- the parts of a buffer; what is left over is dropped
+unfoldable pub partsOf : List ℕ → List (List ℕ)
+unfolding partsFrom
+partsOf s = partsFrom s 0

@@ -1,0 +1,68 @@
+// One tile's buffer taken apart into its tile-parts (document 01, "Split"): from Psot to Psot, never by a search for SOT.
+ghost use mathlib.Core.Path.{_≡_};
+ghost use Prim.Native.Nat.{_≤_};
+ghost use mathlib.Core.List.{[]};
+ghost use lib.ListN.{length, getD};
+ghost use Rattle.parts.specs.Split.{splitStepAt, partsOf};
+use types::markers::SOT;
+
+pub enum SplitStep {
+    // A part, which ends there.
+    Part(usize),
+    Ended,
+}
+
+pub fn split_step(tile: &[u8], at: usize) -> SplitStep
+    requires { ⌜ at ≤ length (now tile) ⌝ }
+    ensures { λ r. ⌜ r ≡ splitStepAt (now (tile .entry)) at ⌝ }
+{
+    let rest = tile.len() - at;
+    if rest < 12 {
+        return SplitStep::Ended;
+    }
+    if numbers::read_u16(tile, at) != SOT {
+        return SplitStep::Ended;
+    }
+    let psot = numbers::read_u32(tile, at + 6) as usize;
+    if psot == 0 {
+        return SplitStep::Part(tile.len());
+    }
+    if rest < psot {
+        return SplitStep::Part(tile.len());
+    }
+    SplitStep::Part(at + psot)
+}
+
+pub fn split_count(tile: &[u8]) -> usize
+    ensures { λ r. ⌜ r ≡ length (partsOf (now (tile .entry))) ⌝ }
+{
+    let mut at: usize = 0;
+    let mut count: usize = 0;
+    loop {
+        let step = split_step(tile, at);
+        let SplitStep::Part(end) = step else {
+            return count;
+        };
+        count += 1;
+        at = end;
+    }
+}
+
+// The k-th part, of the caller's own bytes; past the last the empty part.
+pub fn split_part(tile: &[u8], k: usize) -> &[u8]
+    ensures { λ r. ⌜ now r ≡ getD (partsOf (now (tile .entry))) k [] ⌝ }
+{
+    let mut at: usize = 0;
+    let mut skip = k;
+    loop {
+        let step = split_step(tile, at);
+        let SplitStep::Part(end) = step else {
+            return &tile[..0];
+        };
+        if skip == 0 {
+            return &tile[at..end];
+        }
+        skip -= 1;
+        at = end;
+    }
+}
