@@ -1,0 +1,8 @@
+pub mod Puts
+pub mod Tests
+pub mod Rewrites
+pub mod Headers
+pub mod Ranges
+pub mod Assemblies
+pub mod Iso
+pub mod Edges

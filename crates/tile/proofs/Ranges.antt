@@ -1,0 +1,75 @@
+-- The rows of a table taken one by one: none, or the row here and those after it; and its range, kept inside the codestream or dropped.
+use Prim.Native.Nat.{ℕ, suc, _+_, _-_, _/_, _≤_, _<_}
+use native.Mathlib.Omega.{arith}
+use mathlib.Core.Path.{_≡_, ap, _∙_}
+use mathlib.Core.List.{List, [], _∷_}
+use lib.ListN.{length, take, drop, length-take, length-drop}
+use lib.Dec.{leb}
+use borrow.Author.Tests.{le-leb, lt-leb, leb-true}
+use Rattle.types.specs.Row.{entryAt}
+use Rattle.types.specs.declared.TilePartEntry.{TilePartEntry}
+use Rattle.tile.specs.Assembly.{rows, rangesFrom, rangeOf, andPart, partsIn}
+use Rattle.tile.specs.declared.assembly.Range.{Range}
+use Rattle.tile.specs.declared.assembly.Range.the-variants.{Kept, Dropped}
+use Rattle.tile.proofs.Tests.{by-test}
+
+-- ---- a range
+
+module _ (s : List ℕ) (e : TilePartEntry) where
+  pub range-kept : e .offset + e .length ≤ length s → rangeOf s e ≡ Kept (e .offset) (e .offset + e .length)
+  unfolding rangeOf
+  range-kept h = rw (le-leb _ _ h)
+
+  pub range-dropped : length s < e .offset + e .length → rangeOf s e ≡ Dropped
+  unfolding rangeOf
+  range-dropped h = rw (lt-leb _ _ h)
+
+abbrev Told : List ℕ → Range → Type 0
+Told s (Kept from to) = (from ≤ to) × (to ≤ length s)
+Told s Dropped = Unit {0}
+
+range-told : (s : List ℕ) (e : TilePartEntry) → Told s (rangeOf s e)
+unfolding rangeOf
+range-told s e = by-test (Told s) (leb (e .offset + e .length) (length s)) (λ h. (omega arith, leb-true _ _ h)) (λ _. tt)
+
+pub kept-inside : (s : List ℕ) (e : TilePartEntry) {from to : ℕ} → rangeOf s e ≡ Kept from to → (from ≤ to) × (to ≤ length s)
+kept-inside s e found = rw found at (range-told s e)
+
+-- a kept range's bytes are as many as it says
+pub length-part : (s : List ℕ) (from to : ℕ) → (from ≤ to) × (to ≤ length s) → length (take (to - from) (drop from s)) ≡ to - from
+length-part s from to h = simp (length-take, length-drop) (omega arith)
+
+-- ---- the rows, and their parts
+
+ranges-none : (table : List ℕ) (at : ℕ) → length table < at + 18 → rangesFrom table at ≡ []
+unfolding rangesFrom rows
+ranges-none table at h =
+    let none : (length table - at) / 18 ≡ 0 = omega arith in
+    rw none
+
+ranges-next : (table : List ℕ) (at : ℕ) → at + 18 ≤ length table → rangesFrom table at ≡ entryAt table at ∷ rangesFrom table (at + 18)
+unfolding rangesFrom rows
+ranges-next table at h =
+    let one : (length table - at) / 18 ≡ suc ((length table - (at + 18)) / 18) = omega arith in
+    rw one
+
+-- the parts of the rows from a position on
+abbrev pub partsFrom : List ℕ → List ℕ → ℕ → List (List ℕ)
+partsFrom s table at = partsIn s (rangesFrom table at)
+
+module _ (s table : List ℕ) (at : ℕ) where
+  pub parts-none : length table < at + 18 → partsFrom s table at ≡ []
+  unfolding partsIn
+  parts-none h = ap (partsIn s) (ranges-none table at h)
+
+  module _ (room : at + 18 ≤ length table) where
+    pub parts-kept : (from to : ℕ) → rangeOf s (entryAt table at) ≡ Kept from to
+        → partsFrom s table at ≡ take (to - from) (drop from s) ∷ partsFrom s table (at + 18)
+    unfolding partsIn andPart
+    parts-kept from to found =
+        ap (partsIn s) (ranges-next table at room) ∙ ap (λ (r : Range). andPart r s (partsFrom s table (at + 18))) found
+
+    pub parts-dropped : rangeOf s (entryAt table at) ≡ Dropped → partsFrom s table at ≡ partsFrom s table (at + 18)
+    unfolding partsIn andPart
+    parts-dropped found =
+        ap (partsIn s) (ranges-next table at room) ∙ ap (λ (r : Range). andPart r s (partsFrom s table (at + 18))) found

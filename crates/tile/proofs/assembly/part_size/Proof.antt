@@ -1,0 +1,28 @@
+-- The test is the definition's; with it Isot's two bytes are there.
+use mathlib.Core.Path.{sym, _∙_}
+use borrow.Author.Needs.{needs}
+use Rattle.tile.proofs.Assemblies.{sot-long, part-sot, part-other}
+use Rattle.tile.proofs.assembly.part_size.Statement.{statement}
+use Rattle.tile.proofs.assembly.part_size.Tie as tie
+
+is-sot-requires : tie.Need-is-sot-requires
+is-sot-requires c κs = search needs
+
+read-u16-requires : tie.Need-read-u16-requires
+read-u16-requires c κs = sot-long _ (sym (c .before .is-sot .ensures) ∙ c .if1 .taken)
+
+tile-size-requires : tie.Need-tile-size-requires
+tile-size-requires c κs = search needs
+
+returns : tie.Need-returns
+returns c =
+    let t = c .before .before in
+    let e = part-sot _ (t .before .before .before .before .args .header .now) (sym (t .before .is-sot .ensures) ∙ t .if1 .taken) in
+    cc
+
+returns-2 : tie.Need-returns-2
+returns-2 c = sym (part-other _ _ (sym (c .before .is-sot .ensures) ∙ c .if1 .left))
+
+pub part-size-spec : {M : Type 1} → statement M
+part-size-spec =
+    tie.close (tie.spec is-sot-requires read-u16-requires tile-size-requires returns returns-2)

@@ -1,0 +1,101 @@
+-- The parts from here on choose what all parts do: a dropped range is none of them, and a kept one is the first.
+use Prim.Native.Nat.{_-_, _≤_}
+use native.Mathlib.Omega.{arith}
+use mathlib.Core.Path.{_≡_, refl, sym, ap, _∙_}
+use lib.ListN.{length}
+use borrow.Author.Needs.{needs}
+use Rattle.tile.specs.declared.assembly.Range.the-variants.{Kept}
+use Rattle.tile.proofs.Assemblies.{for-first, for-none}
+use Rattle.tile.proofs.Ranges.{kept-inside, partsFrom, parts-none, parts-kept, parts-dropped}
+use Rattle.tile.specs.Assembly.{rangeOf, ranges, sizeFor}
+use Rattle.types.specs.Row.{entryAt}
+use Rattle.tile.proofs.assembly.size_for.Statement.{statement}
+use Rattle.tile.proofs.assembly.size_for.Tie as tie
+
+abbrev Inv-loop : tie.InvT-loop
+Inv-loop header tile-parts codestream at₀ at = (at ≤ length tile-parts) × (sizeFor header (partsFrom codestream tile-parts at) ≡ sizeFor header (partsFrom codestream tile-parts 0))
+
+abbrev μ-loop : tie.MeasureT-loop
+μ-loop header tile-parts codestream at₀ at = length tile-parts - at
+
+-- the range taken apart: it is kept
+found : (c : tie.After-range Inv-loop μ-loop)
+    → rangeOf (c .before .before .before .before .before .before .before .before .args .codestream .now) (entryAt (c .before .before .before .before .before .before .before .before .args .tile-parts .now) (c .before .before .before .before .loop .at)) ≡ Kept (c .range .given .0 .0) (c .range .given .0 .1 .0)
+found c = sym (c .before .before .range-at .ensures) ∙ c .range .given .1
+
+loop-holds : tie.Need-loop-holds Inv-loop μ-loop
+loop-holds c = (omega arith, refl)
+
+sub-loop : tie.Need-sub-loop Inv-loop μ-loop
+sub-loop c = search needs
+
+range-at-requires : tie.Need-range-at-requires Inv-loop μ-loop
+range-at-requires c κs = search needs
+
+add-at : tie.Need-add-at Inv-loop μ-loop
+add-at c = search needs
+
+enum-known-range : tie.Need-enum-known-range Inv-loop μ-loop
+enum-known-range c = search needs
+
+enum-told : tie.Need-enum-told Inv-loop μ-loop
+enum-told c = search needs
+
+loop-less : tie.Need-loop-less Inv-loop μ-loop
+loop-less c = omega arith
+
+loop-again : tie.Need-loop-again Inv-loop μ-loop
+loop-again c =
+    let r = c .before .before in
+    let l = r .before .before in
+    let a = l .before .before .before .before .args in
+    let gone = parts-dropped (a .codestream .now) (a .tile-parts .now) (l .loop .at) (omega arith) (sym (r .range-at .ensures) ∙ c .enum-told .given .1) in
+    (omega arith, ap (sizeFor (a .header .now)) (sym gone) ∙ l .loop .inv .1)
+
+sub-part-size : tie.Need-sub-part-size Inv-loop μ-loop
+sub-part-size c = let h = kept-inside _ _ (found (c .before)) in h .0
+
+part-part-size-start : tie.Need-part-part-size-start Inv-loop μ-loop
+part-part-size-start c = let h = kept-inside _ _ (found (c .before)) in search needs
+
+part-part-size-end : tie.Need-part-part-size-end Inv-loop μ-loop
+part-part-size-end c = let h = kept-inside _ _ (found (c .before)) in search needs
+
+part-size-requires : tie.Need-part-size-requires Inv-loop μ-loop
+part-size-requires c κs = search needs
+
+returns : tie.Need-returns Inv-loop μ-loop
+unfolding ranges
+returns c =
+    let f = c .before .before .before in
+    let l = f .before .before .before .before in
+    let a = l .before .before .before .before .args in
+    c .part-size .ensures ∙ sym (for-first (a .header .now) (parts-kept (a .codestream .now) (a .tile-parts .now) (l .loop .at) (omega arith) _ _ (found f))) ∙ l .loop .inv .1
+
+returns-2 : tie.Need-returns-2 Inv-loop μ-loop
+unfolding ranges
+returns-2 c =
+    let l = c .before in
+    let a = l .before .before .before .before .args in
+    sym (for-none (a .header .now) (parts-none (a .codestream .now) (a .tile-parts .now) (l .loop .at) (omega arith))) ∙ l .loop .inv .1
+
+pub size-for-spec : {M : Type 1} → statement M
+size-for-spec =
+    tie.close
+    (tie.spec
+    Inv-loop
+    μ-loop
+    loop-holds
+    sub-loop
+    range-at-requires
+    add-at
+    enum-known-range
+    enum-told
+    loop-less
+    loop-again
+    sub-part-size
+    part-part-size-start
+    part-part-size-end
+    part-size-requires
+    returns
+    returns-2)

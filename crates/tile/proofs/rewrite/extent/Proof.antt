@@ -1,0 +1,45 @@
+-- A u64 holds each step; where the last sum fits 32 bits those before it do, and the tests are the definition's.
+use Prim.Native.Nat.{ℕ, _+_, _-_, _*_, _^_, _≤_, _<_}
+use native.Mathlib.Omega.{arith}
+use native.Mathlib.Nat.{mul-le-mul}
+use mathlib.Core.Path.{sym, ap, _∙_}
+use borrow.Author.Needs.{needs}
+use Rattle.tile.proofs.Rewrites.{axis-inside, axis-below, axis-passes}
+use Rattle.tile.specs.declared.rewrite.Axis.the-variants.{Extent}
+use Rattle.tile.proofs.rewrite.extent.Statement.{statement}
+use Rattle.tile.proofs.rewrite.extent.Tie as tie
+
+product : (a b : ℕ) → a < 2 ^ 32 → b < 2 ^ 32 → a * b ≤ 0xffffffff * 0xffffffff
+product a b h k = mul-le-mul {n₁ = a} {m₁ = b} {n₂ = 0xffffffff} {m₂ = 0xffffffff} (omega arith) (omega arith)
+
+mul-from : tie.Need-mul-from
+mul-from c = let a = c .args in omega (arith, product (a .cell) (a .size) (search needs) (search needs))
+
+add-from : tie.Need-add-from
+add-from c = let a = c .args in omega (arith, product (a .cell) (a .size) (search needs) (search needs))
+
+add-to : tie.Need-add-to
+add-to c = let a = c .args in omega (arith, product (a .cell) (a .size) (search needs) (search needs))
+
+returns : tie.Need-returns
+returns c = sym (axis-passes _ _ _ _ (omega (arith, c .if1 .taken)))
+
+minimum-requires : tie.Need-minimum-requires
+minimum-requires c κs = search needs
+
+returns-2 : tie.Need-returns-2
+returns-2 c = sym (axis-below _ _ _ _ (omega (arith, c .before .before .if1 .left)) (omega (arith, c .before .minimum .ensures, c .if2 .taken)))
+
+cast-t13 : tie.Need-cast-t13
+cast-t13 c = search needs
+
+returns-3 : tie.Need-returns-3
+returns-3 c =
+    let a = c .before .before .before .args in
+    ap (λ (n : ℕ). Extent (n - (a .origin + a .cell * a .size))) (c .before .minimum .ensures)
+    ∙ sym (axis-inside _ _ _ _ (omega (arith, c .before .before .if1 .left)) (omega (arith, c .before .minimum .ensures, c .if2 .left)))
+
+pub extent-spec : {M : Type 1} → statement M
+extent-spec =
+    tie.close
+    (tie.spec mul-from add-from add-to returns minimum-requires returns-2 cast-t13 returns-3)

@@ -1,0 +1,114 @@
+-- The fields read are the definition's, so each answer taken apart is one of its axes.
+use Prim.Native.Nat.{ℕ}
+use mathlib.Core.Path.{_≡_, sym, ap, _∙_}
+use borrow.Author.Needs.{needs}
+use Rattle.tile.proofs.Rewrites.{across, down, grid-none, grid-across, grid-down, grid-both}
+use Rattle.tile.specs.Rewrite.{inGrid, sizeIn}
+use Rattle.tile.proofs.rewrite.size_in.Statement.{statement}
+use Rattle.tile.proofs.rewrite.size_in.Tie as tie
+
+grid : (c : tie.After-columns) → sizeIn (c .before .before .before .before .before .before .before .before .args .header .now) (c .before .before .before .before .before .before .before .before .args .isot) ≡ inGrid (c .before .before .before .before .before .before .before .before .args .header .now) (c .columns .result) (c .before .before .before .before .before .before .before .before .args .isot)
+unfolding sizeIn
+grid c = ap (λ (n : ℕ). inGrid (c .before .before .before .before .before .before .before .before .args .header .now) n (c .before .before .before .before .before .before .before .before .args .isot)) (cc)
+
+across-known : (c : tie.After-extent)
+    → across (c .before .before .before .before .before .before .before .before .before .before .args .header .now) (c .before .before .columns .result) (c .before .before .before .before .before .before .before .before .before .before .args .isot) ≡ c .extent .result
+across-known c = cc
+
+down-known : (c : tie.After-extent2)
+    → down (c .before .before .before .before .before .before .before .before .before .before .before .before .before .before .args .header .now) (c .before .before .before .before .before .before .columns .result) (c .before .before .before .before .before .before .before .before .before .before .before .before .before .before .args .isot) ≡ c .extent2 .result
+down-known c = cc
+
+read-u32-requires : tie.Need-read-u32-requires
+read-u32-requires c κs = search needs
+
+read-u32-requires-2 : tie.Need-read-u32-requires-2
+read-u32-requires-2 c κs = search needs
+
+read-u32-requires-3 : tie.Need-read-u32-requires-3
+read-u32-requires-3 c κs = search needs
+
+read-u32-requires-4 : tie.Need-read-u32-requires-4
+read-u32-requires-4 c κs = search needs
+
+read-u32-requires-5 : tie.Need-read-u32-requires-5
+read-u32-requires-5 c κs = search needs
+
+read-u32-requires-6 : tie.Need-read-u32-requires-6
+read-u32-requires-6 c κs = search needs
+
+columns-requires : tie.Need-columns-requires
+columns-requires c κs = search needs
+
+returns : tie.Need-returns
+returns c = sym (grid (c .before) ∙ grid-none _ _ _ (c .if1 .taken))
+
+rem-column : tie.Need-rem-column
+rem-column c = search needs
+
+div-row : tie.Need-div-row
+div-row c = search needs
+
+extent-requires : tie.Need-extent-requires
+extent-requires c κs = search needs
+
+enum-known-across : tie.Need-enum-known-across
+enum-known-across c = search needs
+
+enum-told : tie.Need-enum-told
+enum-told c = search needs
+
+returns-2 : tie.Need-returns-2
+returns-2 c =
+    let e = c .before .before in
+    sym (grid (e .before .before) ∙ grid-across _ _ _ (e .before .if1 .left) (across-known e ∙ c .enum-told .given .1))
+
+extent-requires-2 : tie.Need-extent-requires-2
+extent-requires-2 c κs = search needs
+
+enum-known-down : tie.Need-enum-known-down
+enum-known-down c = search needs
+
+enum-told-2 : tie.Need-enum-told-2
+enum-told-2 c = search needs
+
+returns-3 : tie.Need-returns-3
+returns-3 c =
+    let f = c .before .before in
+    let e = f .before .before .before .before in
+    sym (grid (e .before .before) ∙ grid-down _ _ _ (e .before .if1 .left) _ (across-known e ∙ f .before .before .across .given .1) (down-known f ∙ c .enum-told2 .given .1))
+
+full-or-cut-requires : tie.Need-full-or-cut-requires
+full-or-cut-requires c κs = search needs
+
+returns-4 : tie.Need-returns-4
+returns-4 c =
+    let f = c .before .before .before .before in
+    let e = f .before .before .before .before in
+    let g = grid (e .before .before) ∙ grid-both _ _ _ (e .before .if1 .left) _ _ (across-known e ∙ f .before .before .across .given .1) (down-known f ∙ c .before .before .down .given .1) in
+    cc
+
+pub size-in-spec : {M : Type 1} → statement M
+size-in-spec =
+    tie.close
+    (tie.spec
+    read-u32-requires
+    read-u32-requires-2
+    read-u32-requires-3
+    read-u32-requires-4
+    read-u32-requires-5
+    read-u32-requires-6
+    columns-requires
+    returns
+    rem-column
+    div-row
+    extent-requires
+    enum-known-across
+    enum-told
+    returns-2
+    extent-requires-2
+    enum-known-down
+    enum-told-2
+    returns-3
+    full-or-cut-requires
+    returns-4)

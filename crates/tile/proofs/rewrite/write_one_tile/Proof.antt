@@ -1,0 +1,36 @@
+-- Four pairs that adjoin are the eight fields.
+use borrow.Author.Needs.{needs}
+use Rattle.tile.proofs.Headers.{put-one}
+use Rattle.tile.proofs.rewrite.write_one_tile.Statement.{statement}
+use Rattle.tile.proofs.rewrite.write_one_tile.Tie as tie
+
+write-pair-requires : tie.Need-write-pair-requires
+write-pair-requires c κs = search needs
+
+write-pair-requires-2 : tie.Need-write-pair-requires-2
+write-pair-requires-2 c κs = search needs
+
+write-pair-requires-3 : tie.Need-write-pair-requires-3
+write-pair-requires-3 c κs = search needs
+
+write-pair-requires-4 : tie.Need-write-pair-requires-4
+write-pair-requires-4 c κs = search needs
+
+same-length : tie.Need-same-length
+same-length c = search needs
+
+returns : tie.Need-returns
+returns c =
+    let a = c .before .before .before .before .before .before .before .before .before .before .before .before .before .before .before .before .before .args in
+    cc (put-one (a .out .now) (a .width) (a .height) (search needs))
+
+pub write-one-tile-spec : {M : Type 1} → statement M
+write-one-tile-spec =
+    tie.close
+    (tie.spec
+    write-pair-requires
+    write-pair-requires-2
+    write-pair-requires-3
+    write-pair-requires-4
+    same-length
+    returns)

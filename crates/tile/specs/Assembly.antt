@@ -1,0 +1,80 @@
+-- Assembly (document 01, "Assembly"): the ranges' parts, the tile that chooses the rewrite, and header, parts and EOC joined.
+use Prim.Native.Nat.{ℕ, zero, suc, _+_, _-_, _/_}
+use mathlib.Core.Bool.{Bool, cond, _&&_}
+use mathlib.Core.List.{List, [], _∷_, _++_}
+use lib.ListN.{length, take, drop}
+use lib.Dec.{leb, eqb}
+use Rattle.numbers.specs.Bytes.{be, bytesOf, put}
+use Rattle.types.specs.Markers.{SOT, EOC}
+use Rattle.types.specs.Row.{entryAt}
+use Rattle.types.specs.declared.TilePartEntry.{TilePartEntry}
+use Rattle.tile.specs.Rewrite.{tileSize, cutTo, judged, over}
+use Rattle.tile.specs.declared.rewrite.TileSize.{TileSize}
+use Rattle.tile.specs.declared.rewrite.TileSize.the-variants.{Whole}
+use Rattle.tile.specs.declared.rewrite.Written.{Written}
+use Rattle.tile.specs.declared.assembly.Range.{Range}
+use Rattle.tile.specs.declared.assembly.Range.the-variants.{Kept, Dropped}
+
+-- ---- ranges and parts
+
+-- so many rows from a position on
+unfoldable pub rows : ℕ → List ℕ → ℕ → List TilePartEntry
+rows zero s at = []
+rows (suc n) s at = entryAt s at ∷ rows n s (at + 18)
+
+-- a partial row at the end is none
+unfoldable pub rangesFrom : List ℕ → ℕ → List TilePartEntry
+rangesFrom s at = rows ((length s - at) / 18) s at
+
+unfoldable pub ranges : List ℕ → List TilePartEntry
+ranges s = rangesFrom s 0
+
+-- a range whose end passes the codestream's is dropped
+unfoldable pub rangeOf : List ℕ → TilePartEntry → Range
+rangeOf s e = cond (leb (e .offset + e .length) (length s)) (Kept (e .offset) (e .offset + e .length)) Dropped
+
+unfoldable pub andPart : Range → List ℕ → List (List ℕ) → List (List ℕ)
+andPart (Kept from to) s rest = take (to - from) (drop from s) ∷ rest
+andPart Dropped s rest = rest
+
+-- the parts of ranges, an empty one inside too
+unfoldable pub partsIn : List ℕ → List TilePartEntry → List (List ℕ)
+partsIn s [] = []
+partsIn s (e ∷ rest) = andPart (rangeOf s e) s (partsIn s rest)
+
+-- ---- the tile, and Isot
+
+-- 6 bytes, and SOT at the start
+unfoldable pub isSot : List ℕ → Bool
+isSot part = leb 6 (length part) && eqb (be 2 part 0) SOT
+
+-- Isot, at 4, becomes 0
+unfoldable pub patched : List ℕ → List ℕ
+patched part = cond (isSot part) (put part 4 (bytesOf 2 0)) part
+
+unfoldable pub partSize : List ℕ → List ℕ → TileSize
+partSize h part = cond (isSot part) (tileSize h (be 2 part 4)) Whole
+
+-- the first part chooses the rewrite; with no part the header stays
+unfoldable pub sizeFor : List ℕ → List (List ℕ) → TileSize
+sizeFor h [] = Whole
+sizeFor h (part ∷ rest) = partSize h part
+
+-- ---- header, parts, EOC
+
+unfoldable pub joined : List (List ℕ) → List ℕ
+joined [] = []
+joined (part ∷ rest) = patched part ++ joined rest
+
+unfoldable pub assembled : List ℕ → List (List ℕ) → List ℕ
+assembled h parts = cutTo (sizeFor h parts) h ++ (joined parts ++ bytesOf 2 EOC)
+
+-- the answer of an assembly into so much room: 10, then 17, else all bytes
+unfoldable pub answerFor : List ℕ → List (List ℕ) → ℕ → Written
+answerFor h parts room = judged (sizeFor h parts) (length (assembled h parts)) room
+
+unfoldable pub assemblyAnswer : List ℕ → List ℕ → List ℕ → ℕ → Written
+assemblyAnswer h table s room = answerFor h (partsIn s (ranges table)) room
+
+unfoldable pub assemblyOut : List ℕ → List ℕ → List ℕ → List ℕ → List ℕ
+assemblyOut h table s out = over (assemblyAnswer h table s (length out)) (assembled h (partsIn s (ranges table))) out

@@ -1,0 +1,4 @@
+pub mod Siz
+pub mod Rewrite
+pub mod Assembly
+pub mod Iso

@@ -1,0 +1,3 @@
+// One tile as a codestream of its own: the header rewritten for it, and header, tile-parts and EOC put together.
+pub mod assembly;
+pub mod rewrite;
