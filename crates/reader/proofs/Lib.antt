@@ -1,0 +1,6 @@
+pub mod Moves
+pub mod Sizes
+pub mod Boxes
+pub mod Regions
+pub mod Iso
+pub mod Edges

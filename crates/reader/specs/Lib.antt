@@ -1,0 +1,4 @@
+pub mod Siz
+pub mod Search
+pub mod Growth
+pub mod Iso
