@@ -1,19 +1,42 @@
-//! Finds the original's `markers.rs`, below `OSML_SRC` or in the documents that stand beside the
-//! repository, and writes the line of Rust that takes it in where it stands.
+//! Finds the original's `markers.rs` and `reader.rs`, below `OSML_SRC` or in the documents that stand
+//! beside the repository. Writes the line of Rust that takes in the first where it stands, and what
+//! is ported of the second, cut out by name.
 
 use std::path::{Path, PathBuf};
 use std::{env, fs};
 
 const BESIDE_THE_REPOSITORY: &str = "../../../shared/docs/src";
 const MARKERS: &str = "src/j2k/markers.rs";
+const READER: &str = "src/j2k/reader.rs";
+
+const CONSTANTS: [&str; 4] = [
+    "JP2_SIGNATURE",
+    "J2K_SOC",
+    "JP2C_BOX_TYPE",
+    "HEADER_SCAN_PREFIX",
+];
+const FUNCTIONS: [&str; 4] = [
+    "find_jp2_codestream_range_buffered",
+    "parse_siz_marker",
+    "pixel_type_from_siz",
+    GROWING,
+];
+/// In it the step from a region to the next is an assignment to `REGION` from it and `LENGTH`.
+const GROWING: &str = "materialize_header_region";
+const REGION: &str = "prefix_len";
+const LENGTH: &str = "cs_len";
 
 fn main() {
     println!("cargo:rustc-check-cfg=cfg(present)");
+    println!("cargo:rerun-if-changed=build.rs");
     println!("cargo:rerun-if-env-changed=OSML_SRC");
-    let source = source_directory().join(MARKERS);
-    println!("cargo:rerun-if-changed={}", source.display());
-    if let Ok(found) = source.canonicalize() {
-        take_in(&found);
+    let [markers, reader] = [MARKERS, READER].map(|name| source_directory().join(name));
+    for source in [&markers, &reader] {
+        println!("cargo:rerun-if-changed={}", source.display());
+    }
+    if let (Ok(markers), Ok(reader)) = (markers.canonicalize(), fs::read_to_string(reader)) {
+        write("markers.rs", &taken_in(&markers));
+        write("reader.rs", &cut_out(&reader));
         println!("cargo:rustc-cfg=present");
         println!("cargo:present=yes");
     }
@@ -26,13 +49,63 @@ fn source_directory() -> PathBuf {
     }
 }
 
-fn take_in(source: &Path) {
+fn taken_in(source: &Path) -> String {
     let source = source
         .to_str()
         .expect("the path of the original is not text");
-    let line = format!("#[allow(warnings, clippy::all)]\n#[path = {source:?}]\npub mod markers;\n");
-    let written = Path::new(&variable("OUT_DIR")).join("taken_in.rs");
-    fs::write(written, line).expect("OUT_DIR can't be written");
+    format!("#[allow(warnings, clippy::all)]\n#[path = {source:?}]\npub mod markers;\n")
+}
+
+fn cut_out(source: &str) -> String {
+    let constants = CONSTANTS.map(|name| format!("pub {}\n", constant(source, name)));
+    let functions = FUNCTIONS.map(|name| format!("pub {}\n", function(source, name)));
+    let step = last_assignment(function(source, GROWING), REGION);
+    format!(
+        "{}pub struct Reader;\nimpl Reader {{\n{}}}\n\
+         pub fn next_region(mut {REGION}: usize, {LENGTH}: usize) -> usize {{ {step} {REGION} }}\n",
+        constants.concat(),
+        functions.concat(),
+    )
+}
+
+fn constant<'a>(source: &'a str, name: &str) -> &'a str {
+    up_to(from(source, &format!("const {name}:")), ";\n")
+}
+
+/// Up to the brace that closes its body; no text or comment in these has a brace of its own.
+fn function<'a>(source: &'a str, name: &str) -> &'a str {
+    let text = from(source, &format!("fn {name}("));
+    let mut open = 0;
+    for (at, letter) in text.char_indices() {
+        match letter {
+            '{' => open += 1,
+            '}' if open == 1 => return &text[..=at],
+            '}' => open -= 1,
+            _ => {}
+        }
+    }
+    panic!("the original's {name} has no end");
+}
+
+fn last_assignment<'a>(text: &'a str, name: &str) -> &'a str {
+    let place = text.rfind(&format!("{name} = "));
+    let place = place.unwrap_or_else(|| panic!("the original assigns nothing to {name}"));
+    up_to(&text[place..], ";")
+}
+
+fn from<'a>(source: &'a str, words: &str) -> &'a str {
+    let place = source.find(words);
+    &source[place.unwrap_or_else(|| panic!("the original has no {words:?}"))..]
+}
+
+fn up_to<'a>(text: &'a str, end: &str) -> &'a str {
+    let place = text.find(end);
+    &text[..place.expect("the original's statement has no end") + end.len()]
+}
+
+fn write(name: &str, text: &str) {
+    let path = Path::new(&variable("OUT_DIR")).join(name);
+    fs::write(path, text).expect("OUT_DIR can't be written");
 }
 
 fn variable(name: &str) -> String {

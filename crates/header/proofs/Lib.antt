@@ -10,3 +10,4 @@ pub mod Filling
 pub mod Lengths
 pub mod Answers
 pub mod Standard
+pub mod StandardTlm

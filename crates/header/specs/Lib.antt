@@ -5,3 +5,4 @@ pub mod Walk
 pub mod Strip
 pub mod Parse
 pub mod Iso
+pub mod IsoTlm

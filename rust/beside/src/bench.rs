@@ -7,6 +7,8 @@ use std::time::{Duration, Instant};
 
 const ROUNDS: usize = 15;
 const ROUND: Duration = Duration::from_millis(10);
+/// No round is begun after this, for calls that take longer than a round should.
+const ROW: Duration = Duration::from_millis(400);
 
 /// A function's benchmark: prints a row for each of its inputs.
 pub struct Benchmark {
@@ -29,7 +31,11 @@ pub fn row<I: ?Sized, A: PartialEq + Debug>(
     assert_eq!(ours(input), original(input), "{name}: the answers differ");
     let calls = calls_in_a_round(input, original);
     let (mut best_ours, mut best_original) = (f64::INFINITY, f64::INFINITY);
-    for _ in 0..ROUNDS {
+    let start = Instant::now();
+    for round in 0..ROUNDS {
+        if round > 0 && start.elapsed() > ROW {
+            break;
+        }
         best_ours = best_ours.min(nanoseconds(input, ours, calls));
         best_original = best_original.min(nanoseconds(input, original, calls));
     }

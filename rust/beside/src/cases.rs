@@ -3,8 +3,8 @@
 use std::collections::BTreeSet;
 
 use crate::caught::caught;
+use crate::model::Entry;
 use crate::random::Random;
-use crate::tally::hex;
 
 /// One kind of case.
 pub struct Kind {
@@ -12,9 +12,13 @@ pub struct Kind {
     pub name: &'static str,
     pub minimum: usize,
     pub payloads: fn(&mut Random) -> Vec<Vec<u8>>,
-    /// The original's answer, one line without its end; may panic.
-    pub answer: fn(&[u8]) -> String,
+    /// The original's answer, one line without its end. It may panic, and gives nothing where
+    /// document 01 leaves the answer to us.
+    pub answer: fn(&[u8]) -> Option<String>,
 }
+
+/// In bytes: as much as the program that answers the list can hold.
+const LONGEST_PAYLOAD: usize = 65_536;
 
 /// `cases`: kind 1 byte, payload's length 4 bytes big-endian, payload, and so on to the end.
 #[derive(Default)]
@@ -24,37 +28,45 @@ pub struct List {
 }
 
 impl List {
-    /// Adds a kind's cases, each payload once; gives their number.
+    /// Adds a kind's cases, each payload once, without those on which the original says nothing;
+    /// gives their number.
     pub fn add(&mut self, kind: &Kind, seed: u64) -> Result<usize, String> {
+        let Kind { name, minimum, .. } = kind;
         let mut seen = BTreeSet::new();
+        let mut count = 0;
         for payload in (kind.payloads)(&mut Random::new(seed)) {
-            if !seen.contains(&payload) {
-                self.push(kind, &payload)?;
-                seen.insert(payload);
+            if payload.len() > LONGEST_PAYLOAD {
+                return Err(format!("{name}: a payload of {} bytes", payload.len()));
+            }
+            if !seen.insert(payload.clone()) {
+                continue;
+            }
+            if let Some(answer) = caught(|| (kind.answer)(&payload)).flatten() {
+                self.push(kind.number, &payload, &answer);
+                count += 1;
             }
         }
-        if seen.len() < kind.minimum {
+        if count < *minimum {
             return Err(format!(
-                "{}: {} cases, at least {} are wanted",
-                kind.name,
-                seen.len(),
-                kind.minimum
+                "{name}: {count} cases, at least {minimum} are wanted"
             ));
         }
-        Ok(seen.len())
+        Ok(count)
     }
 
-    fn push(&mut self, kind: &Kind, payload: &[u8]) -> Result<(), String> {
-        let answer = caught(|| (kind.answer)(payload))
-            .ok_or_else(|| format!("{}: the original panics on {}", kind.name, hex(payload)))?;
-        let length = u32::try_from(payload.len()).map_err(|error| error.to_string())?;
-        self.cases.push(kind.number);
-        self.cases.extend(length.to_be_bytes());
+    fn push(&mut self, number: u8, payload: &[u8], answer: &str) {
+        self.cases.push(number);
+        self.cases.extend((payload.len() as u32).to_be_bytes());
         self.cases.extend(payload);
-        self.answers.push_str(&answer);
+        self.answers.push_str(answer);
         self.answers.push('\n');
-        Ok(())
     }
+}
+
+/// ` INDEX OFFSET LENGTH` for each entry.
+pub fn listed(entries: &[Entry]) -> String {
+    let text = |(index, offset, length): &Entry| format!(" {index} {offset} {length}");
+    entries.iter().map(text).collect()
 }
 
 #[cfg(test)]
@@ -66,7 +78,7 @@ mod tests {
         name: "lengths",
         minimum: 2,
         payloads: |_| vec![vec![7], vec![], vec![7]],
-        answer: |payload| format!("length {}", payload.len()),
+        answer: |payload| Some(format!("length {}", payload.len())),
     };
 
     #[test]
@@ -78,16 +90,28 @@ mod tests {
     }
 
     #[test]
-    fn too_few_cases_and_panics_are_errors() {
-        let few = Kind {
-            minimum: 3,
+    fn leaves_out_what_has_no_answer() {
+        let one_of_two = Kind {
+            minimum: 1,
+            answer: |payload| payload.first().map(u8::to_string),
             ..LENGTHS
         };
-        assert!(List::default().add(&few, 0).is_err());
+        let mut list = List::default();
+        assert_eq!(list.add(&one_of_two, 0), Ok(1));
+        assert_eq!(list.answers, "7\n");
         let panics = Kind {
             answer: |_| panic!("expected"),
             ..LENGTHS
         };
         assert!(List::default().add(&panics, 0).is_err());
+    }
+
+    #[test]
+    fn too_few_cases_are_an_error() {
+        let few = Kind {
+            minimum: 3,
+            ..LENGTHS
+        };
+        assert!(List::default().add(&few, 0).is_err());
     }
 }

@@ -21,7 +21,7 @@ pub struct Run {
 }
 
 impl Run {
-    /// The run's fixed cases, however long they take, then random ones while time is left.
+    /// The run's fixed cases, then random ones while time is left, or until enough were seen.
     pub fn of(comparison: &Comparison, seed: u64, time: Duration) -> Tally {
         let mut run = Run {
             random: Random::new(seed),
@@ -32,7 +32,7 @@ impl Run {
         run.tally
     }
 
-    pub fn time_left(&self) -> bool {
-        Instant::now() < self.until
+    pub fn goes_on(&self) -> bool {
+        !self.tally.enough() || Instant::now() < self.until
     }
 }

@@ -7,10 +7,34 @@ pub mod bench;
 pub mod cases;
 pub mod caught;
 pub mod compare;
+pub mod judge;
+pub mod lent;
+pub mod model;
 pub mod random;
 pub mod sample;
 pub mod status;
 pub mod tally;
 
+#[cfg(all(present, any(feature = "header", feature = "parts")))]
+mod entries;
+
+#[cfg(all(present, feature = "tile"))]
+pub mod assembly;
 #[cfg(present)]
 pub mod extent;
+#[cfg(all(present, feature = "reader"))]
+pub mod growth;
+#[cfg(all(present, feature = "header"))]
+pub mod header;
+#[cfg(all(present, feature = "reader"))]
+pub mod pixel;
+#[cfg(all(present, feature = "tile"))]
+pub mod rewrite;
+#[cfg(all(present, feature = "parts"))]
+pub mod scan;
+#[cfg(all(present, feature = "reader"))]
+pub mod search;
+#[cfg(all(present, feature = "reader"))]
+pub mod siz;
+#[cfg(all(present, feature = "parts"))]
+pub mod split;

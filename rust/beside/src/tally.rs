@@ -6,6 +6,7 @@ pub struct Tally {
     name: &'static str,
     minimum: u64,
     answers: Vec<(&'static str, u64)>,
+    by_the_document_alone: u64,
     differed: u64,
     first: Option<Difference>,
 }
@@ -23,6 +24,7 @@ impl Tally {
             name,
             minimum,
             answers: answers.iter().map(|&answer| (answer, 0)).collect(),
+            by_the_document_alone: 0,
             differed: 0,
             first: None,
         }
@@ -47,6 +49,11 @@ impl Tally {
         }
     }
 
+    /// Notes that the case just compared was none for the original to decide.
+    pub fn by_the_document_alone(&mut self) {
+        self.by_the_document_alone += 1;
+    }
+
     fn count(&mut self, answer: &'static str) {
         match self.answers.iter_mut().find(|(known, _)| *known == answer) {
             Some((_, count)) => *count += 1,
@@ -63,7 +70,7 @@ impl Tally {
         self.differed == 0 && self.enough() && self.unseen().next().is_none()
     }
 
-    fn enough(&self) -> bool {
+    pub fn enough(&self) -> bool {
         self.compared() >= self.minimum
     }
 
@@ -80,7 +87,11 @@ impl Display for Tally {
             let gap = if place == 0 { "" } else { ", " };
             write!(out, "{gap}{answer} {count}")?;
         }
-        write!(out, "), {} differed", self.differed)?;
+        write!(out, ")")?;
+        if self.by_the_document_alone > 0 {
+            write!(out, ", model only {}", self.by_the_document_alone)?;
+        }
+        write!(out, ", {} differed", self.differed)?;
         if !self.enough() {
             write!(out, "\n  too few: at least {} are wanted", self.minimum)?;
         }
@@ -97,7 +108,11 @@ impl Display for Tally {
 }
 
 pub fn hex(bytes: &[u8]) -> String {
-    bytes.iter().map(|byte| format!("{byte:02X}")).collect()
+    lower_hex(bytes).to_uppercase()
+}
+
+pub fn lower_hex(bytes: &[u8]) -> String {
+    bytes.iter().map(|byte| format!("{byte:02x}")).collect()
 }
 
 #[cfg(test)]

@@ -1,4 +1,4 @@
-//! Stands in for the original's errors: the marker module makes only this one.
+//! Stands in for the original's errors: what is compiled here makes only this one.
 
 #[derive(Debug)]
 pub enum CodecError {

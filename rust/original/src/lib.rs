@@ -1,12 +1,15 @@
-//! The original's marker module, compiled unchanged from where it stands outside the repository.
-//! Where it isn't found this crate is empty, and `PRESENT` says so.
+//! The original's marker module, compiled unchanged from where it stands outside the repository, and
+//! functions of its reader. Where it isn't found this crate is empty, and `PRESENT` says so.
 
 #![forbid(unsafe_code)]
 
+pub mod buffer;
 pub mod error;
+#[cfg(present)]
+pub mod reader;
 
 #[cfg(present)]
-include!(concat!(env!("OUT_DIR"), "/taken_in.rs"));
+include!(concat!(env!("OUT_DIR"), "/markers.rs"));
 
 /// Whether the original was found when this crate was built.
 pub const PRESENT: bool = cfg!(present);

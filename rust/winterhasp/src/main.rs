@@ -2,25 +2,20 @@
 
 #![forbid(unsafe_code)]
 
+mod commands;
+
 use std::env;
-use std::ffi::{OsStr, OsString};
-use std::fs;
+use std::ffi::OsString;
 use std::io::{self, ErrorKind, Write};
 use std::process::ExitCode;
 
-use winterhasp::{main_header_extent, MainHeaderExtent};
+use commands::COMMANDS;
 
-const USAGE: &str = "usage: winterhasp extent FILE";
 const TROUBLE: u8 = 2;
-
-/// The words after the command's name, to the text that is printed.
-type Command = fn(&[OsString]) -> Result<String, String>;
-
-const COMMANDS: [(&str, Command); 1] = [("extent", extent)];
 
 fn main() -> ExitCode {
     let arguments: Vec<OsString> = env::args_os().skip(1).collect();
-    match answer(&arguments).and_then(print) {
+    match answer(&arguments).and_then(|text| print(&text)) {
         Ok(()) => ExitCode::SUCCESS,
         Err(trouble) => {
             // Nobody is left to tell if standard error is closed too.
@@ -31,32 +26,23 @@ fn main() -> ExitCode {
 }
 
 fn answer(arguments: &[OsString]) -> Result<String, String> {
-    let (name, rest) = arguments.split_first().ok_or(USAGE)?;
-    let (_, command) = COMMANDS
+    let (name, rest) = arguments.split_first().ok_or_else(usage)?;
+    let known = COMMANDS.iter().find(|command| name == command.name);
+    let command = known.ok_or_else(usage)?;
+    (command.run)(rest).unwrap_or_else(|| Err(usage()))
+}
+
+fn usage() -> String {
+    let lines = COMMANDS
         .iter()
-        .find(|(known, _)| name == known)
-        .ok_or(USAGE)?;
-    command(rest)
-}
-
-fn extent(arguments: &[OsString]) -> Result<String, String> {
-    let [file] = arguments else {
-        return Err(USAGE.to_string());
-    };
-    Ok(match main_header_extent(&read(file)?) {
-        MainHeaderExtent::Complete(first_sot) => format!("complete {first_sot}"),
-        MainHeaderExtent::Truncated => "truncated".to_string(),
-    })
-}
-
-fn read(file: &OsStr) -> Result<Vec<u8>, String> {
-    fs::read(file).map_err(|error| format!("winterhasp: {}: {error}", file.display()))
+        .map(|command| format!("winterhasp {} {}", command.name, command.words));
+    format!("usage: {}", lines.collect::<Vec<_>>().join("\n       "))
 }
 
 /// A reader that has gone away is no trouble of ours.
-fn print(text: String) -> Result<(), String> {
+fn print(text: &str) -> Result<(), String> {
     let mut out = io::stdout().lock();
-    match writeln!(out, "{text}").and_then(|()| out.flush()) {
+    match out.write_all(text.as_bytes()).and_then(|()| out.flush()) {
         Err(error) if error.kind() != ErrorKind::BrokenPipe => {
             Err(format!("winterhasp: standard output: {error}"))
         }

@@ -1,8 +1,10 @@
-//! Times every function beside the original and prints a table for each.
-//! Status 2 in a build with overflow checks, 3 without the original.
+//! Times every function beside the original and prints a table for each: `bench [NAME]`, of the
+//! functions with that in their name. Status 2 for misuse or in a build with overflow checks, 3
+//! without the original.
 
 #![forbid(unsafe_code)]
 
+use std::env;
 use std::process::ExitCode;
 
 use beside::bench::{heading, Benchmark};
@@ -12,9 +14,26 @@ use beside::status::{MISUSE, NO_ORIGINAL};
 const BENCHMARKS: &[Benchmark] = &[
     #[cfg(present)]
     beside::extent::BENCHMARK,
+    #[cfg(all(present, feature = "header"))]
+    beside::header::BENCHMARK,
+    #[cfg(all(present, feature = "parts"))]
+    beside::scan::BENCHMARK,
+    #[cfg(all(present, feature = "parts"))]
+    beside::split::BENCHMARK,
+    #[cfg(all(present, feature = "tile"))]
+    beside::rewrite::BENCHMARK,
+    #[cfg(all(present, feature = "tile"))]
+    beside::assembly::BENCHMARK,
+    #[cfg(all(present, feature = "reader"))]
+    beside::search::BENCHMARK,
+    #[cfg(all(present, feature = "reader"))]
+    beside::siz::BENCHMARK,
+    #[cfg(all(present, feature = "reader"))]
+    beside::growth::BENCHMARK,
 ];
 
 fn main() -> ExitCode {
+    let names: Vec<String> = env::args().skip(1).collect();
     if !original::PRESENT {
         eprintln!("bench: the original is not at hand");
         return ExitCode::from(NO_ORIGINAL);
@@ -23,7 +42,13 @@ fn main() -> ExitCode {
         eprintln!("bench: built with overflow checks; build with --release");
         return ExitCode::from(MISUSE);
     }
-    for benchmark in BENCHMARKS {
+    let wanted = |benchmark: &&Benchmark| names.iter().all(|name| benchmark.name.contains(name));
+    let chosen: Vec<_> = BENCHMARKS.iter().filter(wanted).collect();
+    if names.len() > 1 || chosen.is_empty() {
+        eprintln!("usage: bench [NAME]");
+        return ExitCode::from(MISUSE);
+    }
+    for benchmark in chosen {
         heading(benchmark.name);
         (benchmark.rows)();
     }

@@ -1,4 +1,5 @@
-//! Runs every function beside the original: `compare [--seconds N] [--seed S]`.
+//! Runs every function beside the original: `compare [--seconds N] [--seed S] [--only NAME]`, of
+//! the functions with that in their name.
 //! Status 1 if anything differed or too little was seen, 2 for misuse, 3 without the original.
 
 #![forbid(unsafe_code)]
@@ -14,25 +15,54 @@ use beside::status::{FAILED, MISUSE, NO_ORIGINAL};
 const COMPARISONS: &[Comparison] = &[
     #[cfg(present)]
     beside::extent::COMPARISON,
+    #[cfg(all(present, feature = "header"))]
+    beside::header::COMPARISON,
+    #[cfg(all(present, feature = "parts"))]
+    beside::scan::COMPARISON,
+    #[cfg(all(present, feature = "parts"))]
+    beside::split::COMPARISON,
+    #[cfg(all(present, feature = "tile"))]
+    beside::rewrite::COMPARISON,
+    #[cfg(all(present, feature = "tile"))]
+    beside::assembly::COMPARISON,
+    #[cfg(all(present, feature = "reader"))]
+    beside::search::COMPARISON,
+    #[cfg(all(present, feature = "reader"))]
+    beside::siz::COMPARISON,
+    #[cfg(all(present, feature = "reader"))]
+    beside::pixel::COMPARISON,
+    #[cfg(all(present, feature = "reader"))]
+    beside::growth::COMPARISON,
+    #[cfg(all(present, feature = "reader"))]
+    beside::growth::STEP,
 ];
 
-const USAGE: &str = "usage: compare [--seconds N] [--seed S]";
+const USAGE: &str = "usage: compare [--seconds N] [--seed S] [--only NAME]";
 
-/// `seconds` are for the whole run, in equal parts for each function.
+/// `seconds` are for the whole run, in equal parts for each function; more where that is too short.
 struct Options {
     seconds: u64,
     seed: u64,
+    only: String,
+}
+
+impl Options {
+    fn chosen(&self) -> Vec<&'static Comparison> {
+        let wanted = |comparison: &&Comparison| comparison.name.contains(&self.only);
+        COMPARISONS.iter().filter(wanted).collect()
+    }
 }
 
 fn main() -> ExitCode {
-    let Some(options) = options() else {
-        eprintln!("{USAGE}");
-        return ExitCode::from(MISUSE);
-    };
-    if !original::PRESENT {
+    let options = options();
+    if !original::PRESENT && options.is_some() {
         println!("THE ORIGINAL IS NOT AT HAND: NOTHING WAS COMPARED (0 cases)");
         return ExitCode::from(NO_ORIGINAL);
     }
+    let Some(options) = options.filter(|options| !options.chosen().is_empty()) else {
+        eprintln!("{USAGE}");
+        return ExitCode::from(MISUSE);
+    };
     if !overflow_panics() {
         eprintln!("compare: built without overflow checks; build with --profile compare");
         return ExitCode::from(MISUSE);
@@ -46,9 +76,10 @@ fn main() -> ExitCode {
 
 fn compare_all(options: &Options) -> bool {
     println!("seed {}", options.seed);
-    let share = Duration::from_secs(options.seconds) / COMPARISONS.len() as u32;
+    let chosen = options.chosen();
+    let share = Duration::from_secs(options.seconds) / chosen.len() as u32;
     let mut all_hold = true;
-    for comparison in COMPARISONS {
+    for comparison in chosen {
         let tally = Run::of(comparison, options.seed, share);
         println!("{tally}");
         all_hold &= tally.holds();
@@ -60,13 +91,15 @@ fn options() -> Option<Options> {
     let mut options = Options {
         seconds: 20,
         seed: 15444,
+        only: String::new(),
     };
     let mut arguments = env::args().skip(1);
     while let Some(name) = arguments.next() {
-        let number = arguments.next()?.parse().ok()?;
+        let word = arguments.next()?;
         match name.as_str() {
-            "--seconds" => options.seconds = number,
-            "--seed" => options.seed = number,
+            "--seconds" => options.seconds = word.parse().ok()?,
+            "--seed" => options.seed = word.parse().ok()?,
+            "--only" => options.only = word,
             _ => return None,
         }
     }

@@ -17,11 +17,11 @@ pub const KIND: Kind = Kind {
     answer,
 };
 
-fn answer(prefix: &[u8]) -> String {
-    match main_header_extent(prefix) {
+fn answer(prefix: &[u8]) -> Option<String> {
+    Some(match main_header_extent(prefix) {
         MainHeaderExtent::Complete(at) => format!("extent complete {at}"),
         MainHeaderExtent::Truncated => "extent truncated".to_string(),
-    }
+    })
 }
 
 pub fn payloads(random: &mut Random) -> Vec<Vec<u8>> {
@@ -31,7 +31,7 @@ pub fn payloads(random: &mut Random) -> Vec<Vec<u8>> {
     payloads.extend(markers_on_the_edges());
     payloads.extend(lengths_on_the_edges());
     payloads.extend(damaged(random));
-    payloads.extend(built(random));
+    payloads.extend(headers::short_ones(random, 80, 200));
     payloads
 }
 
@@ -104,19 +104,6 @@ fn damaged(random: &mut Random) -> Vec<Vec<u8>> {
     let mut payloads = vec![header.to_vec(); COUNT];
     for payload in &mut payloads {
         damage(random, payload);
-    }
-    payloads
-}
-
-fn built(random: &mut Random) -> Vec<Vec<u8>> {
-    const COUNT: usize = 80;
-    const LONGEST: usize = 200;
-    let mut payloads = Vec::new();
-    while payloads.len() < COUNT {
-        let built = headers::codestream(random);
-        if built.len() <= LONGEST {
-            payloads.push(built);
-        }
     }
     payloads
 }

@@ -27,7 +27,7 @@ fn run(run: &mut Run) {
     }
     around_65_536(run);
     far_out(run);
-    while run.time_left() {
+    while run.goes_on() {
         random(run);
     }
 }

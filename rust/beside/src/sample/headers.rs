@@ -16,6 +16,49 @@ pub fn codestream(random: &mut Random) -> Vec<u8> {
     built.bytes
 }
 
+/// `count` of these, none longer than `longest`.
+pub fn short_ones(random: &mut Random, count: usize, longest: usize) -> Vec<Vec<u8>> {
+    let mut built = Vec::new();
+    while built.len() < count {
+        let next = codestream(random);
+        if next.len() <= longest {
+            built.push(next);
+        }
+    }
+    built
+}
+
+/// Headers that stop at each refusal of the walk, and just don't.
+pub fn stops() -> Vec<Vec<u8>> {
+    let mut built = Vec::new();
+    let tails: [&[u8]; 16] = [
+        &[],
+        &[0xFF],
+        &[0xFF, 0x64],
+        &[0xFF, 0x64, 0x00],
+        &[0xFF, 0x64, 0x00, 0x00],
+        &[0xFF, 0x64, 0x00, 0x01],
+        &[0xFF, 0x64, 0x00, 0x01, 0x30],
+        &[0xFF, 0x64, 0x00, 0x02],
+        &[0xFF, 0x64, 0x00, 0x03],
+        &[0xFF, 0x55, 0x00, 0x04],
+        &[0xFF, 0x55, 0x00, 0x04, 0x00],
+        &[0xFF, 0x55, 0x00, 0x03, 0x00],
+        &[0xFF, 0x55, 0x00, 0x04, 0x00, 0x30],
+        &[0xFF, 0x55, 0x00, 0x05, 0x00, 0x30],
+        &[0x00, 0x92],
+        &[0x30, 0x3F, 0x92, 0x90],
+    ];
+    for tail in tails {
+        for end in [&[][..], &[0xFF], &[0xFF, 0x90]] {
+            let mut whole = super::opened();
+            whole.raw(tail).raw(end);
+            built.push(whole.bytes);
+        }
+    }
+    built
+}
+
 /// SOC up to where the first SOT belongs.
 pub fn main_header(random: &mut Random, built: &mut Codestream) {
     built.soc();

@@ -1,11 +1,16 @@
-//! Inputs: sample A, a builder of codestreams, random headers, damage, and all short strings.
+//! Inputs: sample A, a builder of codestreams, random and telling ones, damage, all short strings.
 
+pub mod boxes;
 pub mod codestream;
 pub mod damage;
 pub mod headers;
+pub mod parts;
 pub mod short;
+pub mod sizes;
+pub mod tlms;
+pub mod zeros;
 
-use codestream::{Codestream, Siz, Tlm};
+use codestream::{Codestream, Siz, Tlm, SIZ};
 
 /// Bytes that mean something to the header walk, alone or in pairs.
 pub const TELLING: [u8; 19] = [
@@ -34,6 +39,13 @@ pub fn sample_a() -> Vec<u8> {
         .tile_part(5, &[0xFF, 0x93, 0xAA, 0xBB])
         .eoc();
     sample.bytes
+}
+
+/// SOC and the shortest SIZ that the header walk passes.
+pub fn opened() -> Codestream {
+    let mut built = Codestream::default();
+    built.soc().segment(SIZ, &[]);
+    built
 }
 
 /// Where sample A's first SOT stands.

@@ -1,0 +1,151 @@
+//! The comparison: bytes written, refusals, and the output beyond.
+
+use original::markers::build_minimal_codestream as original;
+
+use super::cases::{inputs, random_input};
+use super::Input;
+use crate::compare::{Comparison, Run};
+use crate::judge::{Case, Told};
+use crate::lent::{room, Lent};
+use crate::model::tile::build_minimal_codestream;
+use crate::model::{rows, ROW};
+use crate::sample::damage::damage;
+use crate::sample::parts::{many, sot};
+use crate::sample::sizes::{header, SAMPLE_A};
+use crate::sample::zeros::zeros;
+use crate::tally::hex;
+
+pub const COMPARISON: Comparison = Comparison {
+    name: super::NAME,
+    minimum: 1_000_000,
+    answers: &["accepted", "refused 10", "refused 17"],
+    run,
+};
+
+fn run(run: &mut Run) {
+    past_4_gigabytes(run);
+    for input in inputs(&mut run.random.clone()) {
+        every_room(run, &input);
+    }
+    long_parts(run);
+    while run.goes_on() {
+        random(run);
+    }
+}
+
+fn check(run: &mut Run, input: &Input) {
+    let size = room(&mut run.random, needed(input));
+    check_with(run, input, size);
+}
+
+/// Bytes of output; some where the assembly is refused.
+fn needed(input: &Input) -> usize {
+    let Input {
+        header,
+        ranges,
+        codestream,
+    } = input;
+    build_minimal_codestream(header, ranges, codestream, usize::MAX).map_or(50, |built| built.len())
+}
+
+fn every_room(run: &mut Run, input: &Input) {
+    let needed = needed(input);
+    for size in [0, needed - 2, needed - 1, needed, needed + 1] {
+        check_with(run, input, size);
+    }
+}
+
+fn check_with(run: &mut Run, input: &Input, size: usize) {
+    let Input {
+        header,
+        ranges,
+        codestream,
+    } = input;
+    let mut rows = input.rows(run.random.number() as u16);
+    // A partial row is none.
+    let partial = run.random.below(ROW);
+    rows.extend(run.random.fill(partial));
+    let before = Lent::preset(&mut run.random, [size]);
+    let mut ours = before.clone();
+    let [out] = &mut ours.memory;
+    ours.status = winterhasp::build_into(header, &rows, codestream, out, &mut ours.values[0]);
+    let case = Case {
+        before,
+        ours,
+        told: Told::by(|| Some(original(header, ranges, codestream))),
+        document: build_minimal_codestream(header, ranges, codestream, size),
+    };
+    case.judge(&mut run.tally, || {
+        let [header, codestream] = [header, codestream].map(|bytes| hex(bytes));
+        format!("header {header}, ranges {ranges:?}, codestream {codestream}, output {size}")
+    });
+}
+
+/// Sizes needed that pass 2^32 and 2^33, and parts that lie past 2^32, in 5 GB of zeros. For a size
+/// that passes 2^64 no machine has the rows. The original would write it all, and isn't asked.
+fn past_4_gigabytes(run: &mut Run) {
+    const LENGTH: u64 = 5 << 30;
+    const FAR: usize = (1 << 32) + 7;
+    let Some(mut codestream) = zeros(LENGTH as usize) else {
+        return;
+    };
+    let sot = sot(5, 14);
+    codestream[FAR..FAR + sot.len()].copy_from_slice(&sot);
+    let header = header(SAMPLE_A);
+    let far = FAR as u64;
+    let whole = (0, LENGTH);
+    for (ranges, size) in [
+        (vec![(far, 14)], 61),
+        (vec![(far, 14), (LENGTH, 0), (LENGTH, 1)], 61),
+        (vec![(far, 14)], 60),
+        (vec![(far, LENGTH - far), (LENGTH, 0)], 60),
+        (vec![(far, LENGTH - far + 1), (far, 12)], 59),
+        (vec![(0, 1 << 32)], 61),
+        (vec![whole], 61),
+        (vec![whole; 2], 61),
+        (vec![whole; 1000], 61),
+    ] {
+        let entries: Vec<_> = ranges.iter().map(|&(at, length)| (9, at, length)).collect();
+        let before = Lent::preset(&mut run.random, [size]);
+        let mut ours = before.clone();
+        let [out] = &mut ours.memory;
+        let value = &mut ours.values[0];
+        ours.status = winterhasp::build_into(&header, &rows(&entries), &codestream, out, value);
+        let case = Case {
+            before,
+            ours,
+            told: Told::Nothing,
+            document: build_minimal_codestream(&header, &ranges, &codestream, size),
+        };
+        case.judge(&mut run.tally, || format!("{ranges:?} of 5 GB"));
+    }
+}
+
+/// Parts and headers around 65,536 bytes, and many of them.
+fn long_parts(run: &mut Run) {
+    for size in [65_535, 65_536, 65_537] {
+        let codestream = many(3, size);
+        let part = |k: usize| ((k * size) as u64, size as u64);
+        let mut header = header(SAMPLE_A);
+        header.resize(size, 0x11);
+        let input = Input {
+            header,
+            ranges: vec![part(2), part(0), part(2), part(1), part(3)],
+            codestream,
+        };
+        every_room(run, &input);
+    }
+}
+
+fn random(run: &mut Run) {
+    let mut input = random_input(&mut run.random);
+    check(run, &input);
+    input.ranges.reverse();
+    check(run, &input);
+    for _ in 0..2 {
+        damage(&mut run.random, &mut input.codestream);
+        check(run, &input);
+    }
+    damage(&mut run.random, &mut input.header);
+    check(run, &input);
+}

@@ -1,0 +1,11 @@
+//! The original's tile-part entries as the model has them.
+
+use original::markers::TilePartEntry;
+
+use crate::model::Entry;
+
+pub fn of(told: &[TilePartEntry]) -> Vec<Entry> {
+    told.iter()
+        .map(|entry| (entry.tile_index, entry.offset, entry.length))
+        .collect()
+}

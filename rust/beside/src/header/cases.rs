@@ -1,0 +1,48 @@
+//! The replay list's cases of kind 2; the payload is the codestream.
+
+use super::original;
+use crate::cases::{listed, Kind};
+use crate::random::Random;
+use crate::sample::damage::damage;
+use crate::sample::{headers, sample_a, tlms};
+use crate::tally::lower_hex;
+
+pub const KIND: Kind = Kind {
+    number: 2,
+    name: super::NAME,
+    minimum: 300,
+    payloads,
+    answer,
+};
+
+fn answer(codestream: &[u8]) -> Option<String> {
+    let Some(header) = original(codestream) else {
+        return Some("header refused".to_string());
+    };
+    let entries = match &header.entries[..] {
+        [] => " none".to_string(),
+        some => listed(some),
+    };
+    Some(format!(
+        "header {} {} {}{entries}",
+        header.first_sot,
+        header.decode_header.len(),
+        lower_hex(&header.decode_header),
+    ))
+}
+
+pub fn payloads(random: &mut Random) -> Vec<Vec<u8>> {
+    let sample = sample_a();
+    let mut payloads: Vec<_> = (0..=sample.len()).map(|end| sample[..end].into()).collect();
+    payloads.extend(tlms::one());
+    payloads.extend(tlms::pairs());
+    payloads.extend(tlms::odd_lengths());
+    payloads.extend(headers::stops());
+    for _ in 0..100 {
+        let mut damaged = sample.clone();
+        damage(random, &mut damaged);
+        payloads.push(damaged);
+    }
+    payloads.extend(headers::short_ones(random, 150, 300));
+    payloads
+}

@@ -1,0 +1,186 @@
+//! The comparison: first SOT, decode header, table, refusals, and all that is not to be written.
+
+use super::cases::payloads;
+use super::original;
+use crate::compare::{Comparison, Run};
+use crate::judge::{Case, Leaves, Told};
+use crate::lent::{room, Lent};
+use crate::model::header::{parse_main_header, Header};
+use crate::model::{rows, ROW};
+use crate::sample::codestream::{Codestream, SOT, TLM};
+use crate::sample::damage::damage;
+use crate::sample::short::each_string;
+use crate::sample::zeros::zeros;
+use crate::sample::{headers, opened, sample_a, tlms, TELLING};
+use crate::tally::hex;
+
+pub const COMPARISON: Comparison = Comparison {
+    name: super::NAME,
+    minimum: 1_000_000,
+    answers: &[
+        "accepted",
+        "refused 1",
+        "refused 2",
+        "refused 3",
+        "refused 4",
+        "refused 5",
+        "refused 6",
+        "refused 17",
+        "refused 18",
+        "refused 19",
+    ],
+    run,
+};
+
+fn run(run: &mut Run) {
+    over_long_loans(run);
+    for payload in payloads(&mut run.random.clone()) {
+        every_room(run, &payload);
+    }
+    short_strings(run);
+    every_stlm(run);
+    many_entries(run);
+    while run.goes_on() {
+        random(run);
+    }
+}
+
+impl Leaves<3, 2> for Header {
+    fn leave(&self, before: Lent<3, 2>) -> Lent<3, 2> {
+        let values = [
+            self.first_sot,
+            self.decode_header.len() as u64,
+            self.entries.len() as u64,
+        ];
+        before.accepted(values, [&rows(&self.entries), &self.decode_header])
+    }
+}
+
+/// With rooms for what is needed, or about that.
+fn check(run: &mut Run, codestream: &[u8]) {
+    let (entries, size) = needed(codestream);
+    let entries = room(&mut run.random, entries);
+    let size = room(&mut run.random, size);
+    check_with(run, codestream, entries, size);
+}
+
+/// Rows of the table and bytes of output; some of each where the header is refused.
+fn needed(codestream: &[u8]) -> (usize, usize) {
+    match parse_main_header(codestream) {
+        Ok(header) => (header.entries.len(), header.decode_header.len()),
+        Err(_) => (2, 50),
+    }
+}
+
+fn check_with(run: &mut Run, codestream: &[u8], entries: usize, size: usize) {
+    let table = ROW * entries + run.random.below(ROW);
+    let before = Lent::preset(&mut run.random, [table, size]);
+    let mut ours = before.clone();
+    let [lent_table, lent_out] = &mut ours.memory;
+    ours.status = probe::parse_main_header(codestream, lent_table, lent_out, &mut ours.values);
+    let case = Case {
+        before,
+        ours,
+        told: Told::by(|| original(codestream)),
+        document: parse_main_header(codestream).and_then(|header| header.fit(table, size)),
+    };
+    case.judge(&mut run.tally, || {
+        // Of the longest loans all but the front is zeros.
+        let front = &codestream[..codestream.len().min(100_000)];
+        let length = codestream.len();
+        format!(
+            "{}, {length} bytes; table {table}, output {size}",
+            hex(front)
+        )
+    });
+}
+
+/// Each pair of one short, exact and one more, and nothing lent at all.
+fn every_room(run: &mut Run, codestream: &[u8]) {
+    let (entries, size) = needed(codestream);
+    check_with(run, codestream, 0, 0);
+    for entries in [entries.saturating_sub(1), entries, entries + 1] {
+        for size in [size - 1, size, size + 1] {
+            check_with(run, codestream, entries, size);
+        }
+    }
+}
+
+/// Zeros, and sample A before zeros, on both sides of the longest loan.
+fn over_long_loans(run: &mut Run) {
+    const TOO_LONG: usize = 1 << 32;
+    let Some(mut codestream) = zeros(TOO_LONG) else {
+        return;
+    };
+    let sample = sample_a();
+    for front in [&[][..], &sample] {
+        codestream[..front.len()].copy_from_slice(front);
+        check_with(run, &codestream, 2, 45);
+        check_with(run, &codestream, 0, 0);
+        check_with(run, &codestream[..TOO_LONG - 1], 2, 45);
+        check_with(run, &codestream[..TOO_LONG - 1], 1, 44);
+    }
+}
+
+/// Alone, after SOC and SIZ, as a TLM's length field and on; as they are and with a SOT behind.
+fn short_strings(run: &mut Run) {
+    const FRONTS: [(&[u8], usize); 4] = [
+        (&[], 4),
+        (&[0xFF, 0x4F, 0xFF, 0x51, 0x00, 0x02], 4),
+        (&[0xFF, 0x4F, 0xFF, 0x51, 0x00], 3),
+        (&[0xFF, 0x4F, 0xFF, 0x51, 0x00, 0x02, 0xFF, 0x55, 0x00], 3),
+    ];
+    for (front, longest) in FRONTS {
+        for length in 0..=longest {
+            each_string(front, &TELLING, length, |bytes| {
+                check(run, bytes);
+                check(run, &[bytes, &SOT.to_be_bytes()].concat());
+            });
+        }
+    }
+}
+
+/// All of Stlm with all of Ltlm from 0 to 16, by themselves and behind another TLM.
+fn every_stlm(run: &mut Run) {
+    for stlm in 0..=u8::MAX {
+        for length in 0..=16 {
+            let mut body = run.random.bytes(14);
+            body[1] = stlm;
+            body.truncate(usize::from(length).saturating_sub(2));
+            let segment = |built: &mut Codestream| {
+                built.segment_saying(TLM, length, &body).marker(SOT);
+            };
+            let mut alone = opened();
+            segment(&mut alone);
+            let mut second = opened();
+            second.segment(TLM, &[0, 0x40, 0, 0, 0, 9]);
+            segment(&mut second);
+            for built in [alone, second] {
+                every_room(run, &built.bytes);
+            }
+        }
+    }
+}
+
+/// Segments of the greatest length, and more segments than a byte numbers.
+fn many_entries(run: &mut Run) {
+    for (segments, entries, stlm) in [(1, 32_765, 0x00), (3, 16_382, 0x40), (700, 3, 0x60)] {
+        every_room(run, &tlms::many(segments, entries, stlm));
+    }
+}
+
+fn random(run: &mut Run) {
+    const CUTS: usize = 2;
+    const DAMAGED: usize = 16;
+    let built = headers::codestream(&mut run.random);
+    every_room(run, &built);
+    for _ in 0..CUTS {
+        let end = run.random.below(built.len() + 1);
+        check(run, &built[..end]);
+    }
+    for _ in 0..DAMAGED {
+        let mut damaged = built.clone();
+        damage(&mut run.random, &mut damaged);
+        check(run, &damaged);
+    }
+}

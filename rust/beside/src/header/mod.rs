@@ -1,0 +1,25 @@
+//! `parse_main_header`, ours beside the original's.
+
+mod cases;
+mod compare;
+mod rows;
+
+use original::markers;
+
+use crate::model::header::Header;
+
+pub use cases::KIND;
+pub use compare::COMPARISON;
+pub use rows::BENCHMARK;
+
+const NAME: &str = "parse_main_header";
+
+/// The original's answer, if it accepts; a table that is absent has no entries.
+fn original(codestream: &[u8]) -> Option<Header> {
+    let told = markers::parse_main_header(codestream).ok()?;
+    Some(Header {
+        first_sot: told.first_sot_offset,
+        decode_header: told.decode_header,
+        entries: crate::entries::of(&told.tlm_offset_table.unwrap_or_default()),
+    })
+}

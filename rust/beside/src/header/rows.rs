@@ -1,0 +1,72 @@
+//! The benchmark: headers of one and many TLM segments. The table and the output that ours is lent
+//! are not cleared between calls; the original allocates its own.
+
+use std::cell::RefCell;
+
+use crate::bench::{row, Benchmark};
+use crate::model::header::{parse_main_header, Header};
+use crate::model::ROW;
+use crate::sample::codestream::{Codestream, SOT};
+use crate::sample::{sample_a, tlms};
+
+pub const BENCHMARK: Benchmark = Benchmark {
+    name: super::NAME,
+    rows,
+};
+
+struct Input {
+    codestream: Vec<u8>,
+    table: RefCell<Vec<u8>>,
+    out: RefCell<Vec<u8>>,
+}
+
+impl Input {
+    fn of(codestream: Vec<u8>) -> Self {
+        let Header {
+            entries,
+            decode_header,
+            ..
+        } = parse_main_header(&codestream).expect("a header to be timed is sound");
+        Input {
+            codestream,
+            table: vec![0; ROW * entries.len()].into(),
+            out: vec![0; decode_header.len()].into(),
+        }
+    }
+}
+
+/// First SOT, the decode header's length, entries.
+fn ours(input: &Input) -> Option<[u64; 3]> {
+    let mut values = [0; 3];
+    let (mut table, mut out) = (input.table.borrow_mut(), input.out.borrow_mut());
+    match probe::parse_main_header(&input.codestream, &mut table, &mut out, &mut values) {
+        0 => Some(values),
+        _ => None,
+    }
+}
+
+fn theirs(input: &Input) -> Option<[u64; 3]> {
+    let told = original::markers::parse_main_header(&input.codestream).ok()?;
+    let entries = told.tlm_offset_table.map_or(0, |table| table.len());
+    Some([
+        told.first_sot_offset,
+        told.decode_header.len() as u64,
+        entries as u64,
+    ])
+}
+
+fn rows() {
+    let measure = |name, codestream| row(name, &Input::of(codestream), ours, theirs);
+    measure("sample A", sample_a());
+    measure("no TLM, SOT at 1 MB", padded(1 << 20));
+    measure("10 TLM of 100 entries", tlms::many(10, 100, 0x50));
+    measure("1,000 TLM of 10 entries", tlms::many(1000, 10, 0x60));
+    measure("1 TLM of 10,000 entries", tlms::many(1, 10_000, 0x60));
+    measure("1 TLM of 32,765 entries", tlms::many(1, 32_765, 0x00));
+}
+
+fn padded(first_sot: usize) -> Vec<u8> {
+    let mut built: Codestream = crate::sample::opened();
+    built.pad_to(first_sot).marker(SOT);
+    built.bytes
+}

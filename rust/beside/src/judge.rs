@@ -1,0 +1,141 @@
+//! Holds our answer to the original's, and both to document 01's.
+
+use std::fmt::Debug;
+
+use crate::caught::caught;
+use crate::lent::Lent;
+use crate::model::{Refusal, ACCEPTED};
+use crate::tally::Tally;
+
+/// What the original said.
+#[derive(Debug)]
+pub enum Told<A> {
+    Accepted(A),
+    Refused,
+    /// It panicked, or it wasn't asked.
+    Nothing,
+}
+
+impl<A> Told<A> {
+    /// `call` gives nothing where the original refuses.
+    pub fn by(call: impl FnOnce() -> Option<A>) -> Self {
+        match caught(call) {
+            Some(Some(answer)) => Told::Accepted(answer),
+            Some(None) => Told::Refused,
+            None => Told::Nothing,
+        }
+    }
+}
+
+/// An answer, and how it leaves what was lent.
+pub trait Leaves<const V: usize, const M: usize>: PartialEq + Debug {
+    fn leave(&self, before: Lent<V, M>) -> Lent<V, M>;
+}
+
+/// Bytes written, and their number.
+impl Leaves<1, 1> for Vec<u8> {
+    fn leave(&self, before: Lent<1, 1>) -> Lent<1, 1> {
+        before.accepted([self.len() as u64], [self])
+    }
+}
+
+/// One case: what was lent before and after our function, and what the others say.
+pub struct Case<A, const V: usize, const M: usize> {
+    pub before: Lent<V, M>,
+    pub ours: Lent<V, M>,
+    pub told: Told<A>,
+    pub document: Result<A, Refusal>,
+}
+
+impl<A: Leaves<V, M>, const V: usize, const M: usize> Case<A, V, M> {
+    /// Counted under document 01's answer; where the original says nothing that document alone
+    /// decides, and elsewhere it too is held to the original.
+    pub fn judge(self, tally: &mut Tally, input: impl FnOnce() -> String) {
+        let (label, ours_alone) = match &self.document {
+            Ok(_) => (ACCEPTED, false),
+            Err(refusal) => (refusal.label(), refusal.is_ours_alone()),
+        };
+        let told = match self.told {
+            Told::Accepted(_) | Told::Refused if ours_alone => Told::Nothing,
+            told => told,
+        };
+        match (told, self.document) {
+            (Told::Nothing, document) => {
+                let expected = match document {
+                    Ok(answer) => answer.leave(self.before),
+                    Err(refusal) => self.before.refused(refusal),
+                };
+                tally.compare(label, &self.ours, &expected, input);
+                tally.by_the_document_alone();
+            }
+            (Told::Accepted(answer), document) => {
+                let expected = answer.leave(self.before);
+                let ours = (self.ours, document);
+                tally.compare(label, &ours, &(expected, Ok(answer)), input);
+            }
+            (Told::Refused, Err(refusal)) => {
+                let expected = self.before.refused(refusal);
+                tally.compare(label, &self.ours, &expected, input);
+            }
+            (Told::Refused, document) => {
+                tally.compare(label, &Some(document), &None, input);
+            }
+        }
+    }
+}
+
+#[cfg(test)]
+mod tests {
+    use super::{Case, Leaves, Told};
+    use crate::lent::Lent;
+    use crate::model::Refusal;
+    use crate::tally::Tally;
+
+    impl Leaves<1, 0> for u64 {
+        fn leave(&self, before: Lent<1, 0>) -> Lent<1, 0> {
+            before.accepted([*self], [])
+        }
+    }
+
+    fn lent(status: u32, value: u64) -> Lent<1, 0> {
+        Lent {
+            status,
+            values: [value],
+            memory: [],
+        }
+    }
+
+    fn holds(ours: Lent<1, 0>, told: Told<u64>, document: Result<u64, Refusal>) -> bool {
+        let mut tally = Tally::new("f", 1, &[]);
+        let case = Case {
+            before: lent(9, 9),
+            ours,
+            told,
+            document,
+        };
+        case.judge(&mut tally, String::new);
+        tally.holds()
+    }
+
+    #[test]
+    fn all_three_must_agree() {
+        let refusal = Refusal::new(6, 3);
+        assert!(holds(lent(0, 5), Told::Accepted(5), Ok(5)));
+        assert!(!holds(lent(0, 4), Told::Accepted(5), Ok(5)));
+        assert!(!holds(lent(0, 5), Told::Accepted(5), Ok(4)));
+        assert!(!holds(lent(0, 5), Told::Accepted(5), Err(refusal)));
+        assert!(!holds(lent(0, 5), Told::Refused, Ok(5)));
+        assert!(holds(lent(6, 3), Told::Refused, Err(refusal)));
+        assert!(!holds(lent(6, 2), Told::Refused, Err(refusal)));
+        assert!(!holds(lent(7, 3), Told::Refused, Err(refusal)));
+    }
+
+    #[test]
+    fn where_the_original_says_nothing_the_document_decides() {
+        assert!(holds(lent(0, 5), Told::Nothing, Ok(5)));
+        assert!(!holds(lent(0, 4), Told::Nothing, Ok(5)));
+        let too_small = Refusal::new(17, 3);
+        assert!(holds(lent(17, 3), Told::Accepted(5), Err(too_small)));
+        assert!(!holds(lent(0, 5), Told::Accepted(5), Err(too_small)));
+    }
+}

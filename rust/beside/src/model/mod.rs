@@ -1,0 +1,104 @@
+//! Document 01 in plain Rust: for every input its answer, or its refusal's number and place.
+//! Written from the document, to stand beside the original, which only says that it refuses.
+
+pub mod header;
+pub mod parts;
+pub mod reader;
+pub mod tile;
+
+#[derive(Debug, Clone, Copy, PartialEq, Eq)]
+pub struct Refusal {
+    pub number: u32,
+    pub place: u64,
+}
+
+pub const ACCEPTED: &str = "accepted";
+
+/// By number; 0 is none.
+const LABELS: [&str; 24] = [
+    ACCEPTED,
+    "refused 1",
+    "refused 2",
+    "refused 3",
+    "refused 4",
+    "refused 5",
+    "refused 6",
+    "refused 7",
+    "refused 8",
+    "refused 9",
+    "refused 10",
+    "refused 11",
+    "refused 12",
+    "refused 13",
+    "refused 14",
+    "refused 15",
+    "refused 16",
+    "refused 17",
+    "refused 18",
+    "refused 19",
+    "refused 20",
+    "refused 21",
+    "refused 22",
+    "refused 23",
+];
+
+impl Refusal {
+    pub fn new(number: u32, place: u64) -> Self {
+        Refusal { number, place }
+    }
+
+    /// Of output and tables, too long a loan, and 15: the original has nothing that answers to them.
+    pub fn is_ours_alone(&self) -> bool {
+        matches!(self.number, 15 | 17 | 18 | 19 | 23)
+    }
+
+    pub fn label(&self) -> &'static str {
+        LABELS[self.number as usize]
+    }
+
+    /// 17, for output of `room` bytes.
+    pub fn unless_it_holds(room: usize, needed: u128) -> Result<(), Self> {
+        match needed <= room as u128 {
+            true => Ok(()),
+            false => Err(Refusal::new(17, needed.try_into().unwrap_or(u64::MAX))),
+        }
+    }
+
+    /// 18, for a table of `size` bytes.
+    pub fn unless_it_lists(size: usize, entries: usize) -> Result<(), Self> {
+        match entries <= size / ROW {
+            true => Ok(()),
+            false => Err(Refusal::new(18, entries as u64)),
+        }
+    }
+}
+
+/// Bytes of an entry in a table.
+pub const ROW: usize = 18;
+
+/// A tile-part: its tile's index, its offset and its length.
+pub type Entry = (u16, u64, u64);
+
+pub fn rows(entries: &[Entry]) -> Vec<u8> {
+    let row = |(index, offset, length): &Entry| {
+        let front = index.to_be_bytes().into_iter();
+        front
+            .chain(offset.to_be_bytes())
+            .chain(length.to_be_bytes())
+            .collect::<Vec<_>>()
+    };
+    entries.iter().flat_map(row).collect()
+}
+
+/// The number that `bytes` are.
+pub fn number(bytes: &[u8]) -> u64 {
+    bytes
+        .iter()
+        .fold(0, |sum, &byte| sum << 8 | u64::from(byte))
+}
+
+/// The number in the `size` bytes at `at`, if they are all there.
+pub fn read(bytes: &[u8], at: u64, size: usize) -> Option<u64> {
+    let from = bytes.get(usize::try_from(at).ok()?..)?;
+    from.get(..size).map(number)
+}

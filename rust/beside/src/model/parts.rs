@@ -1,0 +1,63 @@
+//! SOT scan, split.
+
+use super::{read, Entry, Refusal};
+use crate::sample::codestream::{EOC, SOT};
+
+const SOT_BYTES: u64 = 12;
+const LSOT: u64 = 10;
+
+pub fn scan_sot_markers(codestream: &[u8], start: u64) -> Result<Vec<Entry>, Refusal> {
+    let length = codestream.len() as u64;
+    let mut entries = Vec::new();
+    let mut at = start;
+    while at < length {
+        let marker = read(codestream, at, 2);
+        if marker == Some(EOC.into()) {
+            break;
+        }
+        let left = length - at;
+        if left < SOT_BYTES {
+            return Err(Refusal::new(7, at));
+        }
+        if marker != Some(SOT.into()) {
+            break;
+        }
+        if read(codestream, at + 2, 2) != Some(LSOT) {
+            return Err(Refusal::new(8, at));
+        }
+        let (isot, psot) = isot_psot(codestream, at);
+        match psot {
+            0 => {
+                entries.push((isot, at, left));
+                break;
+            }
+            _ if psot > left => return Err(Refusal::new(9, at)),
+            _ => entries.push((isot, at, psot)),
+        }
+        at += psot;
+    }
+    Ok(entries)
+}
+
+/// Of a SOT that is whole.
+fn isot_psot(bytes: &[u8], at: u64) -> (u16, u64) {
+    let field = |offset, size| read(bytes, at + offset, size).expect("SOT is whole");
+    (field(4, 2) as u16, field(6, 4))
+}
+
+/// The parts, without what is left over.
+pub fn split_tile_parts(tile: &[u8]) -> Vec<&[u8]> {
+    let mut parts = Vec::new();
+    let mut rest = tile;
+    while rest.len() as u64 >= SOT_BYTES && read(rest, 0, 2) == Some(SOT.into()) {
+        let (_, psot) = isot_psot(rest, 0);
+        let size = match psot {
+            0 => rest.len(),
+            _ => rest.len().min(psot as usize),
+        };
+        let (part, after) = rest.split_at(size);
+        parts.push(part);
+        rest = after;
+    }
+    parts
+}

@@ -1,0 +1,11 @@
+//! `rewrite_siz_for_tile`, ours beside the original's.
+
+mod cases;
+mod compare;
+mod rows;
+
+pub use cases::KIND;
+pub use compare::COMPARISON;
+pub use rows::BENCHMARK;
+
+const NAME: &str = "rewrite_siz_for_tile";

@@ -1,0 +1,54 @@
+//! The replay list's cases of kind 3; the payload is the start in 8 bytes, and the codestream.
+
+use super::original;
+use crate::cases::{listed, Kind};
+use crate::model::number;
+use crate::random::Random;
+use crate::sample::damage::damage;
+use crate::sample::{headers, parts, sample_a, SAMPLE_A_FIRST_SOT};
+
+pub const KIND: Kind = Kind {
+    number: 3,
+    name: super::NAME,
+    minimum: 300,
+    payloads: |random| {
+        let framed = |(start, codestream): (u64, Vec<u8>)| {
+            [&start.to_be_bytes(), codestream.as_slice()].concat()
+        };
+        inputs(random).into_iter().map(framed).collect()
+    },
+    answer,
+};
+
+fn answer(payload: &[u8]) -> Option<String> {
+    let (start, codestream) = payload.split_at(8);
+    Some(match original(codestream, number(start)) {
+        Some(entries) => format!("scan {}{}", entries.len(), listed(&entries)),
+        None => "scan refused".to_string(),
+    })
+}
+
+/// Start and codestream.
+pub fn inputs(random: &mut Random) -> Vec<(u64, Vec<u8>)> {
+    let sample = sample_a();
+    let first_sot = SAMPLE_A_FIRST_SOT as u64;
+    let mut inputs: Vec<_> = (0..=sample.len() as u64 + 2)
+        .chain([1 << 31, 1 << 32, (1 << 32) + first_sot, 1 << 63])
+        .chain([u64::MAX - 12, u64::MAX - 1, u64::MAX])
+        .map(|start| (start, sample.clone()))
+        .collect();
+    inputs.extend((0..=sample.len()).map(|end| (first_sot, sample[..end].to_vec())));
+    inputs.extend(parts::edges().into_iter().map(|edge| (0, edge)));
+    for _ in 0..80 {
+        let mut damaged = sample.clone();
+        damage(random, &mut damaged);
+        inputs.push((first_sot, damaged));
+    }
+    for _ in 0..80 {
+        inputs.push((0, parts::tile_parts(random)));
+    }
+    for built in headers::short_ones(random, 20, 300) {
+        inputs.push((random.below(built.len() + 1) as u64, built));
+    }
+    inputs
+}

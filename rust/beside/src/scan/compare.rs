@@ -1,0 +1,170 @@
+//! The comparison: entries, refusals, and the table beyond what was written.
+
+use super::cases::inputs;
+use super::original;
+use crate::compare::{Comparison, Run};
+use crate::judge::{Case, Leaves, Told};
+use crate::lent::{room, Lent};
+use crate::model::parts::scan_sot_markers;
+use crate::model::{rows, Entry, Refusal, ROW};
+use crate::sample::codestream::EOC;
+use crate::sample::damage::damage;
+use crate::sample::short::each_string;
+use crate::sample::zeros::zeros;
+use crate::sample::{headers, parts};
+use crate::tally::hex;
+
+pub const COMPARISON: Comparison = Comparison {
+    name: super::NAME,
+    minimum: 1_000_000,
+    answers: &[
+        "accepted",
+        "refused 7",
+        "refused 8",
+        "refused 9",
+        "refused 18",
+    ],
+    run,
+};
+
+fn run(run: &mut Run) {
+    past_4_gigabytes(run);
+    for (start, codestream) in inputs(&mut run.random.clone()) {
+        every_room(run, &codestream, start);
+    }
+    short_strings(run);
+    many(run);
+    while run.goes_on() {
+        random(run);
+    }
+}
+
+impl Leaves<1, 1> for Vec<Entry> {
+    fn leave(&self, before: Lent<1, 1>) -> Lent<1, 1> {
+        before.accepted([self.len() as u64], [&rows(self)])
+    }
+}
+
+fn check(run: &mut Run, codestream: &[u8], start: u64) {
+    let entries = room(&mut run.random, needed(codestream, start));
+    check_with(run, codestream, start, entries);
+}
+
+/// Rows; some where the scan is refused.
+fn needed(codestream: &[u8], start: u64) -> usize {
+    scan_sot_markers(codestream, start).map_or(2, |entries| entries.len())
+}
+
+/// One short, exact and one more, and no table at all.
+fn every_room(run: &mut Run, codestream: &[u8], start: u64) {
+    let needed = needed(codestream, start);
+    for entries in [0, needed.saturating_sub(1), needed, needed + 1] {
+        check_with(run, codestream, start, entries);
+    }
+}
+
+fn check_with(run: &mut Run, codestream: &[u8], start: u64, entries: usize) {
+    let table = ROW * entries + run.random.below(ROW);
+    let before = Lent::preset(&mut run.random, [table]);
+    let mut ours = before.clone();
+    ours.status =
+        winterhasp::scan_into(codestream, start, &mut ours.memory[0], &mut ours.values[0]);
+    let fit = |entries: Vec<Entry>| {
+        Refusal::unless_it_lists(table, entries.len())?;
+        Ok(entries)
+    };
+    let case = Case {
+        before,
+        ours,
+        told: Told::by(|| original(codestream, start)),
+        document: scan_sot_markers(codestream, start).and_then(fit),
+    };
+    case.judge(&mut run.tally, || {
+        // Of gigabytes all but the parts is zeros.
+        let front = &codestream[..codestream.len().min(100_000)];
+        let length = codestream.len();
+        format!("{}, {length} bytes from {start}; table {table}", hex(front))
+    });
+}
+
+/// Parts whose offsets, ends and lengths need more than 32 bits, in 5 GB of zeros.
+fn past_4_gigabytes(run: &mut Run) {
+    const LENGTH: usize = 5 << 30;
+    const LONGEST: usize = u32::MAX as usize;
+    const PARTS: [(usize, u32); 4] = [
+        (0, u32::MAX),
+        (LONGEST, 101),
+        (LONGEST + 101, 12),
+        (LONGEST + 113, 0),
+    ];
+    let Some(mut codestream) = zeros(LENGTH) else {
+        return;
+    };
+    for (isot, (at, psot)) in PARTS.into_iter().enumerate() {
+        let sot = parts::sot(isot as u16, psot);
+        codestream[at..at + sot.len()].copy_from_slice(&sot);
+    }
+    let (last, _) = PARTS[3];
+    let rest = (LENGTH - last) as u32;
+    for psot in [0, 50, rest, rest + 1, u32::MAX] {
+        codestream[last + 6..last + 10].copy_from_slice(&psot.to_be_bytes());
+        for start in PARTS.map(|(at, _)| at) {
+            every_room(run, &codestream, start as u64);
+        }
+        for end in [LONGEST, LONGEST + 1, last + 2, last + 11, last + 12] {
+            every_room(run, &codestream[..end], 0);
+        }
+    }
+    codestream[last..last + 2].copy_from_slice(&EOC.to_be_bytes());
+    every_room(run, &codestream, 0);
+}
+
+/// At the end of a part and by themselves, and in a SOT from its Lsot on.
+fn short_strings(run: &mut Run) {
+    const LETTERS: [u8; 8] = [0x00, 0x01, 0x0A, 0x0C, 0x90, 0x93, 0xD9, 0xFF];
+    let part = parts::many(1, 12);
+    let fronts: [(&[u8], usize); 4] = [(&[], 5), (&part, 5), (&part[..2], 5), (&part[..6], 4)];
+    for (front, longest) in fronts {
+        for length in 0..=longest {
+            each_string(front, &LETTERS, length, |bytes| {
+                check(run, bytes, 0);
+                check(run, &[bytes, &[0; 10]].concat(), 0);
+            });
+        }
+    }
+}
+
+fn many(run: &mut Run) {
+    for (count, size) in [(65_535, 12), (65_537, 13), (300, 500)] {
+        every_room(run, &parts::many(count, size), 0);
+    }
+}
+
+fn random(run: &mut Run) {
+    let parts = parts::tile_parts(&mut run.random);
+    around(run, &parts, 0);
+    let whole = headers::codestream(&mut run.random);
+    let start =
+        original::markers::parse_main_header(&whole).map_or(2, |told| told.first_sot_offset);
+    around(run, &whole, start);
+}
+
+/// As it is, cut, damaged, and from somewhere else.
+fn around(run: &mut Run, built: &[u8], start: u64) {
+    every_room(run, built, start);
+    for _ in 0..4 {
+        let end = run.random.below(built.len() + 1);
+        check(run, &built[..end], start);
+        let elsewhere = run.random.below(built.len() + 3) as u64;
+        check(run, built, elsewhere);
+    }
+    for _ in 0..12 {
+        let mut damaged = built.to_vec();
+        damage(&mut run.random, &mut damaged);
+        check(run, &damaged, start);
+    }
+    let far = run.random.number() >> run.random.below(64);
+    check(run, built, far);
+    let last = u64::MAX - run.random.below(14) as u64;
+    check(run, built, last);
+}

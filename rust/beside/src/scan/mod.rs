@@ -1,0 +1,20 @@
+//! `scan_sot_markers`, ours beside the original's.
+
+mod cases;
+mod compare;
+mod rows;
+
+use original::markers;
+
+use crate::model::Entry;
+
+pub use cases::KIND;
+pub use compare::COMPARISON;
+pub use rows::BENCHMARK;
+
+const NAME: &str = "scan_sot_markers";
+
+fn original(codestream: &[u8], start: u64) -> Option<Vec<Entry>> {
+    let told = markers::scan_sot_markers(codestream, start).ok()?;
+    Some(crate::entries::of(&told))
+}

@@ -1,0 +1,103 @@
+//! The comparison: all five numbers, refusals.
+
+use super::cases::{payloads, stops};
+use super::original;
+use crate::compare::{Comparison, Run};
+use crate::judge::{Case, Leaves, Told};
+use crate::lent::Lent;
+use crate::model::reader::{parse_siz_marker, Size};
+use crate::sample::codestream::SOC;
+use crate::sample::damage::damage;
+use crate::sample::headers;
+use crate::sample::sample_a;
+use crate::sample::short::each_string;
+use crate::sample::sizes::header_and_index;
+use crate::tally::hex;
+
+pub const COMPARISON: Comparison = Comparison {
+    name: super::NAME,
+    minimum: 1_000_000,
+    answers: &["accepted", "refused 20", "refused 21", "refused 22"],
+    run,
+};
+
+fn run(run: &mut Run) {
+    for payload in payloads(&mut run.random.clone()) {
+        check(run, &payload);
+    }
+    short_strings(run);
+    every_ssiz(run);
+    while run.goes_on() {
+        random(run);
+    }
+}
+
+impl Leaves<5, 0> for Size {
+    fn leave(&self, before: Lent<5, 0>) -> Lent<5, 0> {
+        before.accepted(*self, [])
+    }
+}
+
+fn check(run: &mut Run, codestream: &[u8]) {
+    let before = Lent::preset(&mut run.random, []);
+    let mut ours = before.clone();
+    ours.status = probe::parse_siz_marker(codestream, &mut ours.values);
+    let case = Case {
+        before,
+        ours,
+        told: Told::by(|| original(codestream)),
+        document: parse_siz_marker(codestream),
+    };
+    case.judge(&mut run.tally, || hex(codestream));
+}
+
+/// Behind SOC, as they are and with SIZ behind them.
+fn short_strings(run: &mut Run) {
+    const LETTERS: [u8; 9] = [0x00, 0x01, 0x02, 0x03, 0x4F, 0x50, 0x51, 0x52, 0xFF];
+    let sample = sample_a();
+    for length in 0..=5 {
+        each_string(&SOC.to_be_bytes(), &LETTERS, length, |bytes| {
+            check(run, bytes);
+            check(run, &[bytes, &sample[2..45]].concat());
+        });
+    }
+    for length in 0..=3 {
+        each_string(&[], &LETTERS, length, |bytes| check(run, bytes));
+    }
+}
+
+fn every_ssiz(run: &mut Run) {
+    for stop in stops() {
+        for ssiz in 0..=u8::MAX {
+            let mut codestream = stop.clone();
+            if let Some(place) = codestream.len().checked_sub(3) {
+                codestream[place] = ssiz;
+            }
+            check(run, &codestream);
+        }
+    }
+}
+
+fn random(run: &mut Run) {
+    let (header, _) = header_and_index(&mut run.random);
+    let whole = headers::codestream(&mut run.random);
+    for built in [header, whole] {
+        check(run, &built);
+        for _ in 0..6 {
+            let mut damaged = built.clone();
+            damage(&mut run.random, &mut damaged);
+            check(run, &damaged);
+        }
+        let front = run.random.below(16);
+        let before = run.random.bytes(front);
+        check(
+            run,
+            &[
+                &built[..built.len().min(2)],
+                &before,
+                built.get(2..).unwrap_or(&[]),
+            ]
+            .concat(),
+        );
+    }
+}

@@ -1,0 +1,99 @@
+//! The commands, each from the words behind its name to the text that is printed.
+
+use std::ffi::{OsStr, OsString};
+use std::fs;
+
+use winterhasp::{main_header_extent, MainHeaderExtent};
+#[cfg(feature = "parts")]
+use winterhasp::{scan_sot_markers, TilePart};
+
+pub struct Command {
+    pub name: &'static str,
+    pub words: &'static str,
+    /// Nothing if there are more or fewer words than these.
+    pub run: fn(&[OsString]) -> Option<Result<String, String>>,
+}
+
+pub const COMMANDS: &[Command] = &[
+    Command {
+        name: "extent",
+        words: "FILE",
+        run: |words| match words {
+            [file] => Some(extent(file)),
+            _ => None,
+        },
+    },
+    #[cfg(feature = "parts")]
+    Command {
+        name: "parts",
+        words: "FILE",
+        run: |words| match words {
+            [file] => Some(parts(file)),
+            _ => None,
+        },
+    },
+    #[cfg(all(feature = "parts", feature = "tile"))]
+    Command {
+        name: "tile",
+        words: "FILE INDEX OUT",
+        run: |words| match words {
+            [file, index, out] => Some(tile(file, index, out)),
+            _ => None,
+        },
+    },
+];
+
+fn extent(file: &OsStr) -> Result<String, String> {
+    Ok(match main_header_extent(&read(file)?) {
+        MainHeaderExtent::Complete(first_sot) => format!("complete {first_sot}\n"),
+        MainHeaderExtent::Truncated => "truncated\n".to_string(),
+    })
+}
+
+#[cfg(feature = "parts")]
+fn parts(file: &OsStr) -> Result<String, String> {
+    let codestream = read(file)?;
+    let (_, parts) = tile_parts(file, &codestream)?;
+    let line = |part: &TilePart| format!("{} {} {}\n", part.index, part.offset, part.length);
+    Ok(parts.iter().map(line).collect())
+}
+
+/// Writes a codestream of tile `index` alone. Its header is all that stands before the first SOT: a
+/// TLM stays in it.
+#[cfg(all(feature = "parts", feature = "tile"))]
+fn tile(file: &OsStr, index: &OsStr, out: &OsStr) -> Result<String, String> {
+    let index: u16 = index
+        .to_str()
+        .and_then(|word| word.parse().ok())
+        .ok_or("winterhasp: INDEX is a number from 0 to 65535")?;
+    let codestream = read(file)?;
+    let (first_sot, mut parts) = tile_parts(file, &codestream)?;
+    parts.retain(|part| part.index == index);
+    if parts.is_empty() {
+        return Err(trouble(file, &format!("no part of tile {index}")));
+    }
+    let header = &codestream[..first_sot as usize];
+    let built = winterhasp::build_minimal_codestream(header, &parts, &codestream)
+        .map_err(|refusal| trouble(file, &refusal))?;
+    fs::write(out, built).map_err(|error| trouble(out, &error))?;
+    Ok(String::new())
+}
+
+/// The first SOT, and the tile-parts from there on.
+#[cfg(feature = "parts")]
+fn tile_parts(file: &OsStr, codestream: &[u8]) -> Result<(u64, Vec<TilePart>), String> {
+    let MainHeaderExtent::Complete(first_sot) = main_header_extent(codestream) else {
+        return Err(trouble(file, &"no codestream with a SOT"));
+    };
+    let parts = scan_sot_markers(codestream, first_sot);
+    let parts = parts.map_err(|refusal| trouble(file, &refusal))?;
+    Ok((first_sot, parts))
+}
+
+fn read(file: &OsStr) -> Result<Vec<u8>, String> {
+    fs::read(file).map_err(|error| trouble(file, &error))
+}
+
+fn trouble(file: &OsStr, what: &dyn std::fmt::Display) -> String {
+    format!("winterhasp: {}: {what}", file.display())
+}
