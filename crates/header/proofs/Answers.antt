@@ -20,7 +20,7 @@ use Rattle.header.specs.Parse.{readAs, stands, judged, withRoom, parsed,
 use Rattle.header.specs.declared.parse.MainHeaderInfo.{MainHeaderInfo}
 use Rattle.header.specs.declared.parse.MainHeader.{MainHeader}
 use Rattle.header.specs.declared.parse.MainHeader.the-variants.{Header, Refused}
-use Rattle.header.proofs.Steps.{by-test}
+use Rattle.numbers.proofs.Choice.{by-test}
 use Rattle.header.proofs.Tlms.{length-placed}
 
 module _ (s : List ℕ) where

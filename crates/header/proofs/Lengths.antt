@@ -1,11 +1,11 @@
 -- Lengths along the walk: an entry takes 2 bytes or more, and the decode header with the TLM segments is as long as the main header.
 use Prim.Native.Nat.{ℕ, _+_, _-_, _*_, _≤_}
 use native.Mathlib.Omega.{arith}
-use mathlib.Core.Path.{_≡_, refl}
-use mathlib.Core.Bool.{Bool, true, false}
+use mathlib.Core.Path.{_≡_}
 use mathlib.Core.List.{List, _∷_}
 use lib.ListN.{length, take, drop, length-append, length-take}
 use borrow.Author.Tests.{eq-eqb, ne-eqb}
+use Rattle.numbers.proofs.Choice.{by-bool}
 use Rattle.chain.specs.Chain.{Visit, Run, stay, step}
 use Rattle.chain.proofs.Laws.{chain-run}
 use Rattle.header.specs.Tlm.{entryCount, entriesIn}
@@ -22,10 +22,6 @@ record Measured (s : List ℕ) (at : ℕ) (visits : List Visit) (stop : ℕ) : T
   inside : stop ≤ length s
   entries : at + length (tlmEntries s visits) * 2 ≤ stop
   lengths : at + (length (kept s visits) + tlmBytes s visits) ≡ stop
-
-by-bool : {X : Type 0} (b : Bool) → (b ≡ true → X) → (b ≡ false → X) → X
-by-bool true f g = f refl
-by-bool false f g = g refl
 
 measured-on : (s : List ℕ) (at stop : ℕ) (rest : List Visit) (p : Passing) → walkStepAt s at ≡ Passed p → Measured s (p .next) rest stop
     → Measured s at (record { at = at; next = p .next } ∷ rest) stop

@@ -16,7 +16,7 @@ use Rattle.header.specs.Step.{delimits, segmentEnd, stepAt}
 use Rattle.header.specs.Iso.{Item, tilePart, marker, segment, none, isMarker, isBare, isOutside, itemAt}
 use Rattle.header.specs.declared.step.HeaderStep.{HeaderStep}
 use Rattle.header.specs.declared.step.HeaderStep.the-variants.{Sot, Delimiter, Segment, CutShort}
-use Rattle.header.proofs.Steps.{by-test}
+use Rattle.numbers.proofs.Choice.{by-test, by-bool}
 
 -- the standard's items as steps
 abbrev pub stepOf : Item → HeaderStep
@@ -24,10 +24,6 @@ stepOf tilePart = Sot
 stepOf (marker next) = Delimiter next
 stepOf (segment next) = Segment next
 stepOf none = CutShort
-
-by-bool : {X : Type 0} (b : Bool) → (b ≡ true → X) → (b ≡ false → X) → X
-by-bool true f g = f refl
-by-bool false f g = g refl
 
 -- two tests that say the same
 same-leb : (a b c d : ℕ) → (a ≤ b → c ≤ d) → (c ≤ d → a ≤ b) → leb a b ≡ leb c d

@@ -2,7 +2,7 @@
 use Prim.Native.Nat.{ℕ, _+_, _≤_, _<_}
 use native.Mathlib.Omega.{arith}
 use mathlib.Core.Path.{_≡_, refl}
-use mathlib.Core.Bool.{Bool, true, false, cond}
+use mathlib.Core.Bool.{true, false}
 use mathlib.Core.List.{List, [], _∷_}
 use mathlib.Core.Logic.{⊎-elim}
 use lib.ListN.{length}
@@ -11,6 +11,7 @@ use borrow.Author.Tests.{le-leb, lt-leb, eq-eqb, ne-eqb, leb-true, eqb-true}
 use denote.Enum.Declared.{tagOf}
 use types.Run.{OneOf}
 use Rattle.header.proofs.step.HeaderStep.{the-type}
+use Rattle.numbers.proofs.Choice.{by-test}
 use Rattle.numbers.specs.Bytes.{be}
 use Rattle.types.specs.Markers.{SOT}
 use Rattle.header.specs.Step.{delimits, segmentEnd, stepAt}
@@ -52,11 +53,6 @@ Told s at Sot = (at + 2 ≤ length s) × (be 2 s at ≡ SOT)
 Told s at (Delimiter next) = (at < next) × (next ≤ length s) × (next ≡ at + 2) × (delimits (be 2 s at) ≡ true)
 Told s at (Segment next) = (at < next) × (next ≤ length s) × (next ≡ segmentEnd s at) × (at + 4 ≤ length s)
 Told s at CutShort = Unit {0}
-
--- a property of a choice, from each side
-pub by-test : {A : Type 0} (P : A → Type 0) (b : Bool) {x y : A} → (b ≡ true → P x) → (b ≡ false → P y) → P (cond b x y)
-by-test P true f g = f refl
-by-test P false f g = g refl
 
 pub step-told : (s : List ℕ) (at : ℕ) → Told s at (stepAt s at)
 unfolding stepAt

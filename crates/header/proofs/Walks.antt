@@ -25,7 +25,8 @@ use Rattle.header.specs.declared.walk.WalkStep.{WalkStep}
 use Rattle.header.specs.declared.walk.WalkStep.the-variants.{Passed, FirstSot, Refused}
 use Rattle.header.proofs.walk.WalkStep.{the-type}
 use Rattle.types.specs.declared.Refusal.{Refusal}
-use Rattle.header.proofs.Steps.{Told, step-told, by-test}
+use Rattle.numbers.proofs.Choice.{by-test}
+use Rattle.header.proofs.Steps.{Told, step-told}
 
 -- ---- what is passed
 

@@ -16,7 +16,7 @@ use Rattle.parts.specs.Scan.{refusal, ScanEnd, ended, refused, scanFrom,
 use Rattle.parts.specs.declared.scan.Scanned.{Scanned}
 use Rattle.parts.specs.declared.scan.Scanned.the-variants.{Table, Refused}
 use Rattle.parts.proofs.Scans.{step-outside, scan-ended, entries-ended}
-use Rattle.parts.proofs.Tests.{by-test}
+use Rattle.numbers.proofs.Choice.{by-test}
 
 -- ---- the answer
 

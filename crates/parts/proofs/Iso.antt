@@ -14,7 +14,7 @@ use Rattle.parts.specs.Sot.{lsot, isot, psot}
 use Rattle.parts.specs.Scan.{entryOf, eocAt, sotStepAt, scanStepAt}
 use Rattle.parts.specs.Iso.{IsoTilePart, sized, toEoc, none, tpsot, isoLength, isoTilePart}
 use Rattle.parts.specs.declared.scan.ScanStep.the-variants.{Part}
-use Rattle.parts.proofs.Tests.{by-test}
+use Rattle.numbers.proofs.Choice.{by-test}
 use Rattle.parts.proofs.Scans.{sot-rest, sot-part, step-sot}
 
 -- what the scan's step gives for each

@@ -19,7 +19,7 @@ use Rattle.parts.specs.Scan.{ended, moveAt, visited, scanFrom, entriesFr
 use Rattle.parts.specs.Split.{splitStepAt, partsFrom, partsOf}
 use Rattle.parts.specs.declared.split.SplitStep.the-variants.{Part}
 use Rattle.parts.specs.Tiles.{ofTile, bytesAt, joined, AllLong}
-use Rattle.parts.proofs.Tests.{by-test}
+use Rattle.numbers.proofs.Choice.{by-test}
 use Rattle.parts.proofs.Scans.{Stands, move-passed, rises}
 use Rattle.parts.proofs.Splits.{step-few, step-part, end-rest, end-psot, parts-on, parts-ended}
 

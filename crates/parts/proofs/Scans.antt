@@ -19,7 +19,8 @@ use Rattle.parts.specs.Sot.{lsot, psot}
 use Rattle.parts.specs.Scan.{refusal, entryOf, eocAt, sotStepAt, scanStepAt, ScanEnd, ended, refused, moveOf, moveAt, scanFrom, visited, entriesFrom}
 use Rattle.parts.specs.declared.scan.ScanStep.{ScanStep}
 use Rattle.parts.specs.declared.scan.ScanStep.the-variants.{Part, Ended, Refused}
-use Rattle.parts.proofs.Tests.{by-test, end-on}
+use Rattle.numbers.proofs.Choice.{by-test}
+use Rattle.chain.proofs.Laws.{end-on}
 
 -- ---- the step, case by case
 

@@ -15,7 +15,8 @@ use Rattle.parts.specs.Sot.{psot}
 use Rattle.parts.specs.Split.{partEnd, splitStepAt, SplitEnd, ended, moveOf, moveAt, splitFrom, visited, partsFrom, partsOf}
 use Rattle.parts.specs.declared.split.SplitStep.{SplitStep}
 use Rattle.parts.specs.declared.split.SplitStep.the-variants.{Part, Ended}
-use Rattle.parts.proofs.Tests.{by-test, end-on}
+use Rattle.numbers.proofs.Choice.{by-test}
+use Rattle.chain.proofs.Laws.{end-on}
 
 -- ---- the step, case by case
 

@@ -15,7 +15,8 @@ use Rattle.numbers.proofs.Laws.{be-join, be-bound, be-part}
 use Rattle.types.specs.Markers.{SOC}
 use Rattle.types.specs.declared.Refusal.{Refusal}
 use Rattle.chain.specs.Chain.{Move, end, on, Rises}
-use Rattle.reader.proofs.Moves.{Told, told-on, by-test, ended-end, ended-on, ended-told}
+use Rattle.numbers.proofs.Choice.{by-test}
+use Rattle.reader.proofs.Moves.{Told, told-on, ended-end, ended-on, ended-told}
 use Rattle.reader.specs.Search.{refused, JP2C, SIGNATURE, boxAt, content, passed, onBox, moveAt, foundFrom, isJp2, foundIn, partOf, contentOf}
 use Rattle.reader.specs.declared.search.Found.{Found}
 use Rattle.reader.specs.declared.search.Found.the-variants.{Codestream, Refused}

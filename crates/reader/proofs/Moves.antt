@@ -1,14 +1,8 @@
--- What a move says of its answer or of where it goes; the answer of a chain, by what its step finds; and a property of a choice.
+-- What a move says of its answer or of where it goes; the answer of a chain, by what its step finds.
 use Prim.Native.Nat.{ℕ}
-use mathlib.Core.Path.{_≡_, refl, ap}
-use mathlib.Core.Bool.{Bool, true, false, cond}
+use mathlib.Core.Path.{_≡_, ap}
 use Rattle.chain.specs.Chain.{Move, end, on, Chain, Rises, also, chain}
 use Rattle.chain.proofs.Laws.{chain-end, chain-on, chain-stops}
-
--- a property of a choice, from each side
-pub by-test : {A : Type 0} (P : A → Type 0) (b : Bool) {x y : A} → (b ≡ true → P x) → (b ≡ false → P y) → P (cond b x y)
-by-test P true f g = f refl
-by-test P false f g = g refl
 
 -- E of the answer of a move that ends, O of the position from which it goes on
 unfoldable pub Told : {A : Type 0} → (A → Type 0) → (ℕ → Type 0) → Move A → Type 0

@@ -16,7 +16,8 @@ use Rattle.chain.proofs.Laws.{chain-end, chain-on, chain-run, chain-stops}
 use Rattle.header.specs.Extent.{extentOf}
 use Rattle.header.specs.declared.extent.MainHeaderExtent.the-variants.{Complete, Truncated}
 use Rattle.types.specs.declared.CodestreamOffset.{CodestreamOffset}
-use Rattle.reader.proofs.Moves.{Told, told-on, told-end, by-test}
+use Rattle.numbers.proofs.Choice.{by-test}
+use Rattle.reader.proofs.Moves.{Told, told-on, told-end}
 use Rattle.reader.specs.declared.growth.Grown.{Grown}
 use Rattle.reader.specs.Growth.{nextRegion, regionAt, isComplete, suffices, moveAt, growthFrom, grownAt, grown, tried}
 

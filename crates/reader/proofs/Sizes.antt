@@ -10,7 +10,8 @@ use borrow.Author.Tests.{le-leb, lt-leb, eq-eqb, ne-eqb, leb-true}
 use Rattle.numbers.specs.Bytes.{be}
 use Rattle.types.specs.Markers.{SIZ}
 use Rattle.chain.specs.Chain.{Move, end, on, Rises}
-use Rattle.reader.proofs.Moves.{Told, told-on, by-test, ended-end, ended-on}
+use Rattle.numbers.proofs.Choice.{by-test}
+use Rattle.reader.proofs.Moves.{Told, told-on, ended-end, ended-on}
 use Rattle.reader.specs.Siz.{refused, infoAt, sizAt, moveAt, sizFrom, between, sampleType}
 use Rattle.reader.specs.declared.siz.SampleType.the-variants.{UInt8, Int8, UInt16, Int16, UInt32, Int32}
 use Rattle.reader.specs.declared.siz.SizRead.{SizRead}

@@ -16,7 +16,7 @@ use Rattle.types.specs.Row.{entryAt}
 use Rattle.tile.specs.Assembly.{rangeOf, isSot, patched, partSize, sizeFor, joined, assembled}
 use Rattle.tile.specs.declared.rewrite.TileSize.{TileSize}
 use Rattle.tile.specs.declared.assembly.Range.the-variants.{Kept}
-use Rattle.tile.proofs.Tests.{by-test}
+use Rattle.numbers.proofs.Choice.{by-test}
 use Rattle.tile.proofs.Ranges.{kept-inside, length-part, partsFrom, parts-kept}
 use Rattle.tile.proofs.Puts.{take-put, drop-put}
 use Rattle.tile.proofs.Headers.{size-room, length-cut}

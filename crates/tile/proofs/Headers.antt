@@ -20,7 +20,7 @@ use Rattle.tile.specs.declared.rewrite.TileSize.{TileSize}
 use Rattle.tile.specs.declared.rewrite.Written.{Written}
 use Rattle.tile.specs.declared.rewrite.Written.the-variants.{Bytes, Refused}
 use Rattle.tile.proofs.rewrite.TileSize.{the-type}
-use Rattle.tile.proofs.Tests.{by-test}
+use Rattle.numbers.proofs.Choice.{by-test}
 use Rattle.tile.proofs.Puts.{take-put, drop-put, put-start, put-inside}
 use Rattle.tile.specs.declared.rewrite.TileSize.the-variants as size
 

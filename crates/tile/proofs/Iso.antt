@@ -18,7 +18,7 @@ use Rattle.tile.specs.declared.rewrite.Axis.{Axis}
 use Rattle.tile.specs.declared.rewrite.Axis.the-variants.{Extent, Outside}
 use Rattle.tile.specs.declared.rewrite.TileSize.{TileSize}
 use Rattle.tile.specs.declared.rewrite.TileSize.the-variants.{Whole, Cut, Refused}
-use Rattle.tile.proofs.Tests.{by-test}
+use Rattle.numbers.proofs.Choice.{by-test}
 use Rattle.tile.proofs.Rewrites.{across, down, size-siz}
 
 -- ---- one axis

@@ -1,5 +1,4 @@
 pub mod Puts
-pub mod Tests
 pub mod Rewrites
 pub mod Headers
 pub mod Ranges

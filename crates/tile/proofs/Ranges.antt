@@ -11,7 +11,7 @@ use Rattle.types.specs.declared.TilePartEntry.{TilePartEntry}
 use Rattle.tile.specs.Assembly.{rows, rangesFrom, rangeOf, andPart, partsIn}
 use Rattle.tile.specs.declared.assembly.Range.{Range}
 use Rattle.tile.specs.declared.assembly.Range.the-variants.{Kept, Dropped}
-use Rattle.tile.proofs.Tests.{by-test}
+use Rattle.numbers.proofs.Choice.{by-test}
 
 -- ---- a range
 

@@ -22,7 +22,7 @@ use Rattle.tile.specs.declared.rewrite.TileSize.{TileSize}
 use Rattle.tile.specs.declared.rewrite.TileSize.the-variants.{Whole, Cut}
 use Rattle.tile.specs.declared.rewrite.Written.the-variants.{Bytes}
 use Rattle.tile.proofs.rewrite.TileSize.{the-type}
-use Rattle.tile.proofs.Tests.{by-test}
+use Rattle.numbers.proofs.Choice.{by-test}
 use Rattle.tile.specs.declared.rewrite.TileSize.the-variants as size
 use Rattle.tile.specs.declared.rewrite.Written.the-variants as answer
 
