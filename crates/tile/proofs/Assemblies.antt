@@ -9,9 +9,9 @@ use lib.ListN.{length, take, drop, length-append}
 use lib.Dec.{leb, eqb}
 use borrow.Author.Tests.{leb-true, leb-false, lt-leb}
 use Rattle.numbers.specs.Bytes.{be, bytesOf, put}
-use Rattle.numbers.proofs.Laws.{length-bytes, length-put}
+use Rattle.numbers.proofs.Laws.{length-bytes, length-put, be-put, be-bytesOf}
 use Rattle.types.specs.Markers.{SOT, EOC}
-use Rattle.tile.specs.Rewrite.{tileSize, cutTo, Room, withRoom, judged}
+use Rattle.tile.specs.Rewrite.{tileSize, cutTo, Room, rewritten, withRoom, judged}
 use Rattle.types.specs.Row.{entryAt}
 use Rattle.tile.specs.Assembly.{rangeOf, isSot, patched, partSize, sizeFor, joined, assembled}
 use Rattle.tile.specs.declared.rewrite.TileSize.{TileSize}
@@ -64,6 +64,12 @@ module _ (part : List ℕ) where
   pub patched-rest : drop 6 (patched part) ≡ drop 6 part
   patched-rest = of-patched (λ p. drop 6 p ≡ drop 6 part) refl (λ h. drop-put part 4 (bytesOf 2 0) 2 (length-bytes 2 0) (omega arith))
 
+  pub patched-isot : isSot part ≡ true → be 2 (patched part) 4 ≡ 0
+  patched-isot e =
+      ap (λ (p : List ℕ). be 2 p 4) (patched-sot e)
+      ∙ be-put 2 part 4 (bytesOf 2 0) 0 (omega (arith, sot-long part e)) (omega (arith, length-bytes 2 0))
+      ∙ be-bytesOf 2 0 (omega arith)
+
 -- ---- the parts, joined
 
 pub joined-next : {parts rest : List (List ℕ)} {part : List ℕ} → parts ≡ part ∷ rest → joined parts ≡ patched part ++ joined rest
@@ -100,9 +106,19 @@ pub for-none : (h : List ℕ) {parts : List (List ℕ)} → parts ≡ [] → siz
 unfolding sizeFor
 for-none h e = ap (sizeFor h) e
 
-pub assembled-is : (h : List ℕ) (parts : List (List ℕ)) → assembled h parts ≡ cutTo (sizeFor h parts) h ++ (joined parts ++ bytesOf 2 EOC)
-unfolding assembled
-assembled-is h parts = refl
+-- header, parts and EOC: the header as it is with no part, or with a first part that has no Isot; else rewritten for its tile
+pub assembled-none : (h : List ℕ) → assembled h [] ≡ h ++ bytesOf 2 EOC
+unfolding assembled joined sizeFor cutTo
+assembled-none h = refl
+
+module _ (h part : List ℕ) (rest : List (List ℕ)) where
+  pub assembled-tile : isSot part ≡ true → assembled h (part ∷ rest) ≡ rewritten h (be 2 part 4) ++ (joined (part ∷ rest) ++ bytesOf 2 EOC)
+  unfolding assembled sizeFor rewritten
+  assembled-tile e = ap (λ (s : TileSize). cutTo s h ++ (joined (part ∷ rest) ++ bytesOf 2 EOC)) (part-sot part h e)
+
+  pub assembled-other : isSot part ≡ false → assembled h (part ∷ rest) ≡ h ++ (joined (part ∷ rest) ++ bytesOf 2 EOC)
+  unfolding assembled sizeFor cutTo
+  assembled-other e = ap (λ (s : TileSize). cutTo s h ++ (joined (part ∷ rest) ++ bytesOf 2 EOC)) (part-other part h e)
 
 pub length-assembled : (h : List ℕ) (parts : List (List ℕ)) → length (assembled h parts) ≡ length h + 2 + length (joined parts)
 unfolding assembled

@@ -26,7 +26,7 @@ whole h parts out room =
     let body : List ℕ = joined parts in
     let long : length head ≡ length h = length-cut (sizeFor h parts) h (for-room h parts) in
     let both : length (head ++ body) ≡ length h + length body = simp length-append (omega arith) in
-    let all = length-assembled h parts in
+    let total = length-assembled h parts in
     let first : put (put out 0 head) (length h) body ≡ put out 0 (head ++ body) =
     ap (λ (n : ℕ). put (put out 0 head) n body) (sym (zero-add (length h))) ∙ put-put out 0 head body (length h) long (omega arith) in
     ap (λ (o : List ℕ). put o (length h + length body) (bytesOf 2 EOC)) first
@@ -34,24 +34,30 @@ whole h parts out room =
     ∙ put-put out 0 (head ++ body) (bytesOf 2 EOC) (length h + length body) both (omega (arith, length-bytes 2 EOC))
     ∙ ap (put out 0) (append-assoc head body (bytesOf 2 EOC))
 
--- the parts of the ranges
-parts : (c : tie.Start) → List (List ℕ)
+-- the parts of the ranges, and the whole
+parts : tie.Start → List (List ℕ)
 parts c = partsIn (c .args .codestream .now) (ranges (c .args .tile-parts .now))
 
+abbrev all : tie.Start → List ℕ
+all c = assembled (c .args .decode-header .now) (parts c)
+
+abbrev start : tie.After-judge → tie.Start
+start c = c .before .before .before .before .before .before .before
+
 answered : (c : tie.After-judge)
-    → c .judge .result ≡ judged (sizeFor (c .before .before .before .before .before .before .before .args .decode-header .now) (parts (c .before .before .before .before .before .before .before))) (length (assembled (c .before .before .before .before .before .before .before .args .decode-header .now) (parts (c .before .before .before .before .before .before .before)))) (length (c .before .before .before .before .before .before .before .args .out .now))
+    → c .judge .result ≡ judged (sizeFor (start c .args .decode-header .now) (parts (start c))) (length (all (start c))) (length (start c .args .out .now))
 unfolding parts
 answered c =
     let n = c .before in
-    let room : ℕ = length (c .before .before .before .before .before .before .before .args .out .now) in
+    let room : ℕ = length (start c .args .out .now) in
     c .judge .ensures
     ∙ ap (λ (s : TileSize). judged s (n .size-needed .result) room) (n .before .size-for .ensures)
-    ∙ ap (λ (k : ℕ). judged (sizeFor (c .before .before .before .before .before .before .before .args .decode-header .now) (parts (c .before .before .before .before .before .before .before))) k room) (n .size-needed .ensures)
-    ∙ judged-saturated _ _ room (omega arith)
+    ∙ ap (λ (k : ℕ). judged (sizeFor (start c .args .decode-header .now) (parts (start c))) k room) (n .size-needed .ensures)
+    ∙ judged-saturated (sizeFor (start c .args .decode-header .now) (parts (start c))) (length (all (start c))) room (omega arith)
 
 -- an answer of so many bytes has the room
 accepted : (c : tie.After-enum-told)
-    → (length (assembled (c .before .before .before .before .before .before .before .before .before .args .decode-header .now) (parts (c .before .before .before .before .before .before .before .before .before))) ≡ c .enum-told .given .0 .0) × (length (assembled (c .before .before .before .before .before .before .before .before .before .args .decode-header .now) (parts (c .before .before .before .before .before .before .before .before .before))) ≤ length (c .before .before .before .before .before .before .before .before .before .args .out .now))
+    → (length (all (start (c .before .before))) ≡ c .enum-told .given .0 .0) × (length (all (start (c .before .before))) ≤ length (start (c .before .before) .args .out .now))
 accepted c = judged-bytes _ _ _ _ (sym (answered (c .before .before)) ∙ c .enum-told .given .1)
 
 size-for-requires : tie.Need-size-for-requires
@@ -79,7 +85,7 @@ write-header-requires : tie.Need-write-header-requires
 unfolding parts
 write-header-requires c κs =
     let j = c .before .before .before in
-    let s = j .before .before .before .before .before .before .before in
+    let s = start j in
     (rw (j .before .before .size-for .ensures) (for-room _ _), omega (arith, accepted (c .before), length-assembled (s .args .decode-header .now) (parts s)))
 
 write-parts-requires : tie.Need-write-parts-requires
@@ -87,7 +93,7 @@ unfolding parts
 write-parts-requires c κs =
     let w = c .before .before .before in
     let t = w .before .before in
-    let s = t .before .before .before .before .before .before .before .before .before in
+    let s = start (t .before .before) in
     omega (arith, accepted t, length-assembled (s .args .decode-header .now) (parts s), w .write-header .kept)
 
 write-u16-requires : tie.Need-write-u16-requires
@@ -96,7 +102,7 @@ write-u16-requires c κs =
     let p = c .before .before .before in
     let w = p .before .before .before .before in
     let t = w .before .before in
-    let s = t .before .before .before .before .before .before .before .before .before in
+    let s = start (t .before .before) in
     omega (arith, accepted t, length-assembled (s .args .decode-header .now) (parts s), w .write-header .kept, p .write-parts .kept, p .write-parts .ensures .0)
 
 same-length : tie.Need-same-length
@@ -110,7 +116,7 @@ returns-2 c =
     let w = p .before .before .before .before in
     let t = w .before .before in
     let j = t .before .before in
-    let s = j .before .before .before .before .before .before .before in
+    let s = start j in
     let h : List ℕ = s .args .decode-header .now in
     let out : List ℕ = s .args .out .now in
     let head = w .write-header .ensures ∙ ap (λ (x : TileSize). put out 0 (cutTo x h)) (j .before .before .size-for .ensures) in
@@ -120,7 +126,7 @@ returns-2 c =
           ∙ ap (λ (n : ℕ). put (p .write-parts .last .1 .1 .0) n (bytesOf 2 EOC)) (p .write-parts .ensures .0)
           ∙ ap (λ (o : List ℕ). put o (length h + length (joined (parts s))) (bytesOf 2 EOC)) body
           ∙ whole h (parts s) out (accepted t .1)
-          ∙ sym (over-bytes _ _ (assembled h (parts s)) out (sym (answered j) ∙ t .enum-told .given .1) (accepted t .0)),
+          ∙ sym (over-bytes _ _ (all s) out (sym (answered j) ∙ t .enum-told .given .1) (accepted t .0)),
     )
 
 pub build-minimal-codestream-spec : {M : Type 1} → statement M

@@ -18,9 +18,15 @@ Inv-loop header tile-parts codestream at₀ at = (at ≤ length tile-parts) × (
 abbrev μ-loop : tie.MeasureT-loop
 μ-loop header tile-parts codestream at₀ at = length tile-parts - at
 
+abbrev start : tie.At-loop Inv-loop μ-loop → tie.Start Inv-loop μ-loop
+start c = c .before .before .before .before
+
+abbrev head : tie.After-range Inv-loop μ-loop → tie.At-loop Inv-loop μ-loop
+head c = c .before .before .before .before
+
 -- the range taken apart: it is kept
 found : (c : tie.After-range Inv-loop μ-loop)
-    → rangeOf (c .before .before .before .before .before .before .before .before .args .codestream .now) (entryAt (c .before .before .before .before .before .before .before .before .args .tile-parts .now) (c .before .before .before .before .loop .at)) ≡ Kept (c .range .given .0 .0) (c .range .given .0 .1 .0)
+    → rangeOf (start (head c) .args .codestream .now) (entryAt (start (head c) .args .tile-parts .now) (head c .loop .at)) ≡ Kept (c .range .given .0 .0) (c .range .given .0 .1 .0)
 found c = sym (c .before .before .range-at .ensures) ∙ c .range .given .1
 
 loop-holds : tie.Need-loop-holds Inv-loop μ-loop
@@ -48,7 +54,7 @@ loop-again : tie.Need-loop-again Inv-loop μ-loop
 loop-again c =
     let r = c .before .before in
     let l = r .before .before in
-    let a = l .before .before .before .before .args in
+    let a = start l .args in
     let gone = parts-dropped (a .codestream .now) (a .tile-parts .now) (l .loop .at) (omega arith) (sym (r .range-at .ensures) ∙ c .enum-told .given .1) in
     (omega arith, ap (sizeFor (a .header .now)) (sym gone) ∙ l .loop .inv .1)
 
@@ -68,15 +74,15 @@ returns : tie.Need-returns Inv-loop μ-loop
 unfolding ranges
 returns c =
     let f = c .before .before .before in
-    let l = f .before .before .before .before in
-    let a = l .before .before .before .before .args in
+    let l = head f in
+    let a = start l .args in
     c .part-size .ensures ∙ sym (for-first (a .header .now) (parts-kept (a .codestream .now) (a .tile-parts .now) (l .loop .at) (omega arith) _ _ (found f))) ∙ l .loop .inv .1
 
 returns-2 : tie.Need-returns-2 Inv-loop μ-loop
 unfolding ranges
 returns-2 c =
     let l = c .before in
-    let a = l .before .before .before .before .args in
+    let a = start l .args in
     sym (for-none (a .header .now) (parts-none (a .codestream .now) (a .tile-parts .now) (l .loop .at) (omega arith))) ∙ l .loop .inv .1
 
 pub size-for-spec : {M : Type 1} → statement M

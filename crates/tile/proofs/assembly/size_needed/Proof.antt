@@ -50,9 +50,15 @@ Inv-loop header tile-parts codestream size₀ at₀ size at = Summed header tile
 abbrev μ-loop : tie.MeasureT-loop
 μ-loop header tile-parts codestream size₀ at₀ size at = length tile-parts - at
 
+abbrev start : tie.At-loop Inv-loop μ-loop → tie.Start Inv-loop μ-loop
+start c = c .before .before .before .before
+
+abbrev head : tie.After-range Inv-loop μ-loop → tie.At-loop Inv-loop μ-loop
+head c = c .before .before .before .before
+
 -- the range taken apart: it is kept
 found : (c : tie.After-range Inv-loop μ-loop)
-    → rangeOf (c .before .before .before .before .before .before .before .before .args .codestream .now) (entryAt (c .before .before .before .before .before .before .before .before .args .tile-parts .now) (c .before .before .before .before .loop .at)) ≡ Kept (c .range .given .0 .0) (c .range .given .0 .1 .0)
+    → rangeOf (start (head c) .args .codestream .now) (entryAt (start (head c) .args .tile-parts .now) (head c .loop .at)) ≡ Kept (c .range .given .0 .0) (c .range .given .0 .1 .0)
 found c = sym (c .before .before .range-at .ensures) ∙ c .range .given .1
 
 add-size : tie.Need-add-size Inv-loop μ-loop
@@ -96,13 +102,13 @@ loop-less-2 c = omega arith
 loop-again-2 : tie.Need-loop-again-2 Inv-loop μ-loop
 loop-again-2 c =
     let f = c .before .before in
-    kept (omega arith) (found f) (c .saturated .ensures) (f .before .before .before .before .loop .inv)
+    kept (omega arith) (found f) (c .saturated .ensures) (head f .loop .inv)
 
 returns : tie.Need-returns Inv-loop μ-loop
 unfolding ranges
 returns c =
     let l = c .before in
-    let a = l .before .before .before .before .args in
+    let a = start l .args in
     let none = ap length (joined-none (parts-none (a .codestream .now) (a .tile-parts .now) (l .loop .at) (omega arith))) in
     omega (arith, l .loop .inv .total, l .loop .inv .fits, length-assembled (a .header .now) (partsFrom (a .codestream .now) (a .tile-parts .now) 0))
 

@@ -12,10 +12,15 @@ use Rattle.numbers.proofs.Laws.{length-bytes}
 use Rattle.tile.proofs.assembly.write_part.Statement.{statement}
 use Rattle.tile.proofs.assembly.write_part.Tie as tie
 
--- the output with the part in it
+abbrev start : tie.After-copy → tie.Start
+start c = c .before .before .before .before
+
+-- the output with what was copied in it
+abbrev after : List ℕ → ℕ → List ℕ → List ℕ
+after out at part = take at out ++ (part ++ drop (length out - at) (drop at out))
+
 copied : (c : tie.After-copy)
-    → take (c .before .before .before .before .args .at) (c .before .before .before .before .args .out .now) ++ (c .copy .last .1 .0 ++ drop (length (c .before .before .before .before .args .out .now) - c .before .before .before .before .args .at) (drop (c .before .before .before .before .args .at) (c .before .before .before .before .args .out .now)))
-    ≡ put (c .before .before .before .before .args .out .now) (c .before .before .before .before .args .at) (c .before .before .before .before .args .part .now)
+    → after (start c .args .out .now) (start c .args .at) (c .copy .last .1 .0) ≡ put (start c .args .out .now) (start c .args .at) (start c .args .part .now)
 copied c = put-part _ _ _ _ (c .copy .ensures .1)
 
 sub-copy : tie.Need-sub-copy
@@ -49,7 +54,7 @@ returns c =
     let w = c .before .before in
     let t = w .before .before in
     let k = t .before .before .before .before in
-    let a = k .before .before .before .before .args in
+    let a = start k .args in
     let sot = sym (t .before .is-sot .ensures) ∙ t .if1 .taken in
     w .write-u16 .ensures ∙ ap (λ (s : List ℕ). put s (a .at + 4) (bytesOf 2 0)) (copied k)
     ∙ put-inside (a .out .now) (a .at) (a .part .now) 4 (bytesOf 2 0) (omega (arith, length-bytes 2 0, sot-long _ sot)) (search needs)
@@ -61,7 +66,7 @@ same-length-2 c = search needs
 returns-2 : tie.Need-returns-2
 returns-2 c =
     let k = c .before .before .before .before in
-    let a = k .before .before .before .before .args in
+    let a = start k .args in
     copied k ∙ ap (put (a .out .now) (a .at)) (sym (patched-other _ (sym (c .before .is-sot .ensures) ∙ c .if1 .left)))
 
 pub write-part-spec : {M : Type 1} → statement M

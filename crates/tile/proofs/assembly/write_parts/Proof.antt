@@ -64,9 +64,15 @@ Inv-loop tile-parts codestream out₀ start place₀ at₀ out place at = Filled
 abbrev μ-loop : tie.MeasureT-loop
 μ-loop tile-parts codestream out₀ start place₀ at₀ out place at = length tile-parts - at
 
+abbrev start : tie.At-loop Inv-loop μ-loop → tie.Start Inv-loop μ-loop
+start c = c .before .before .before .before
+
+abbrev head : tie.After-range Inv-loop μ-loop → tie.At-loop Inv-loop μ-loop
+head c = c .before .before .before .before
+
 -- the range taken apart: it is kept
 found : (c : tie.After-range Inv-loop μ-loop)
-    → rangeOf (c .before .before .before .before .before .before .before .before .args .codestream .now) (entryAt (c .before .before .before .before .before .before .before .before .args .tile-parts .now) (c .before .before .before .before .loop .at)) ≡ Kept (c .range .given .0 .0) (c .range .given .0 .1 .0)
+    → rangeOf (start (head c) .args .codestream .now) (entryAt (start (head c) .args .tile-parts .now) (head c .loop .at)) ≡ Kept (c .range .given .0 .0) (c .range .given .0 .1 .0)
 found c = sym (c .before .before .range-at .ensures) ∙ c .range .given .1
 
 loop-holds : tie.Need-loop-holds Inv-loop μ-loop
@@ -108,8 +114,8 @@ write-part-requires : tie.Need-write-part-requires Inv-loop μ-loop
 unfolding ranges
 write-part-requires c κs =
     let f = c .before .before .before in
-    let l = f .before .before .before .before in
-    let s = l .before .before .before .before in
+    let l = head f in
+    let s = start l in
     let long = length-part (s .args .codestream .now) (f .range .given .0 .0) (f .range .given .0 .1 .0) (kept-inside _ _ (found f)) in
     omega (arith, part-room _ _ (omega arith) (found f) (s .pre) (l .loop .inv))
 
@@ -120,8 +126,8 @@ add-place : tie.Need-add-place Inv-loop μ-loop
 unfolding ranges
 add-place c =
     let f = c .before .before .before .before .before .before in
-    let l = f .before .before .before .before in
-    omega (arith, part-room _ _ (omega arith) (found f) (l .before .before .before .before .pre) (l .loop .inv), l .loop .inv .same)
+    let l = head f in
+    omega (arith, part-room _ _ (omega arith) (found f) (start l .pre) (l .loop .inv), l .loop .inv .same)
 
 loop-less-2 : tie.Need-loop-less-2 Inv-loop μ-loop
 loop-less-2 c = omega arith
@@ -130,8 +136,8 @@ loop-again-2 : tie.Need-loop-again-2 Inv-loop μ-loop
 unfolding ranges
 loop-again-2 c =
     let f = c .before .before .before .before .before .before in
-    let l = f .before .before .before .before in
-    kept _ _ _ (omega arith) (found f) (c .before .before .write-part .kept .1 .0) (c .before .before .write-part .ensures) (l .before .before .before .before .pre) (l .loop .inv)
+    let l = head f in
+    kept _ _ _ (omega arith) (found f) (c .before .before .write-part .kept .1 .0) (c .before .before .write-part .ensures) (start l .pre) (l .loop .inv)
 
 same-length : tie.Need-same-length Inv-loop μ-loop
 same-length c = c .before .loop .inv .same
@@ -140,7 +146,7 @@ returns : tie.Need-returns Inv-loop μ-loop
 unfolding ranges
 returns c =
     let l = c .before in
-    let a = l .before .before .before .before .args in
+    let a = start l .args in
     let none = joined-none (parts-none (a .codestream .now) (a .tile-parts .now) (l .loop .at) (omega arith)) in
     (omega (arith, ap length none, l .loop .inv .ends), sym (put-none (l .loop .out) (l .loop .place)) ∙ ap (put (l .loop .out) (l .loop .place)) (sym none) ∙ l .loop .inv .whole)
 

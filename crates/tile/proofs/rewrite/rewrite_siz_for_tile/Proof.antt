@@ -9,8 +9,11 @@ use Rattle.tile.specs.Rewrite.{judged, cutTo, rewriteAnswer, rewritten, 
 use Rattle.tile.proofs.rewrite.rewrite_siz_for_tile.Statement.{statement}
 use Rattle.tile.proofs.rewrite.rewrite_siz_for_tile.Tie as tie
 
+abbrev start : tie.After-judge → tie.Start
+start c = c .before .before .before .before
+
 answered : (c : tie.After-judge)
-    → c .judge .result ≡ rewriteAnswer (c .before .before .before .before .args .decode-header .now) (c .before .before .before .before .args .isot) (length (c .before .before .before .before .args .out .now))
+    → c .judge .result ≡ rewriteAnswer (start c .args .decode-header .now) (start c .args .isot) (length (start c .args .out .now))
 unfolding rewriteAnswer
 answered c = cc
 
@@ -45,7 +48,7 @@ unfolding rewriteOut rewritten
 returns-2 c =
     let t = c .before .before .before .before in
     let j = t .before .before in
-    let a = j .before .before .before .before .args in
+    let a = start j .args in
     let e = t .enum-told .given .1 in
     let size = j .before .tile-size .ensures in
     let n = judged-bytes _ _ _ _ (sym (j .judge .ensures) ∙ e) .0 in (

@@ -7,16 +7,22 @@ use Rattle.tile.specs.Rewrite.{inGrid, sizeIn}
 use Rattle.tile.proofs.rewrite.size_in.Statement.{statement}
 use Rattle.tile.proofs.rewrite.size_in.Tie as tie
 
-grid : (c : tie.After-columns) → sizeIn (c .before .before .before .before .before .before .before .before .args .header .now) (c .before .before .before .before .before .before .before .before .args .isot) ≡ inGrid (c .before .before .before .before .before .before .before .before .args .header .now) (c .columns .result) (c .before .before .before .before .before .before .before .before .args .isot)
+abbrev start : tie.After-columns → tie.Start
+start c = c .before .before .before .before .before .before .before .before
+
+grid : (c : tie.After-columns) → sizeIn (start c .args .header .now) (start c .args .isot) ≡ inGrid (start c .args .header .now) (c .columns .result) (start c .args .isot)
 unfolding sizeIn
-grid c = ap (λ (n : ℕ). inGrid (c .before .before .before .before .before .before .before .before .args .header .now) n (c .before .before .before .before .before .before .before .before .args .isot)) (cc)
+grid c = ap (λ (n : ℕ). inGrid (start c .args .header .now) n (start c .args .isot)) (cc)
 
 across-known : (c : tie.After-extent)
-    → across (c .before .before .before .before .before .before .before .before .before .before .args .header .now) (c .before .before .columns .result) (c .before .before .before .before .before .before .before .before .before .before .args .isot) ≡ c .extent .result
+    → across (start (c .before .before) .args .header .now) (c .before .before .columns .result) (start (c .before .before) .args .isot) ≡ c .extent .result
 across-known c = cc
 
-down-known : (c : tie.After-extent2)
-    → down (c .before .before .before .before .before .before .before .before .before .before .before .before .before .before .args .header .now) (c .before .before .before .before .before .before .columns .result) (c .before .before .before .before .before .before .before .before .before .before .before .before .before .before .args .isot) ≡ c .extent2 .result
+-- the place before the second axis where the columns were counted
+abbrev counted : tie.After-extent2 → tie.After-columns
+counted c = c .before .before .before .before .before .before
+
+down-known : (c : tie.After-extent2) → down (start (counted c) .args .header .now) (counted c .columns .result) (start (counted c) .args .isot) ≡ c .extent2 .result
 down-known c = cc
 
 read-u32-requires : tie.Need-read-u32-requires
