@@ -1,7 +1,11 @@
--- What each answer is at the boundary: the number that is returned, and what `value` holds, given what it held.
+-- What each answer is at the boundary: the number that is returned, and what `value` holds, given what it held where that matters.
 use Prim.Native.Nat.{ℕ}
 use Rattle.header.specs.declared.extent.MainHeaderExtent.{MainHeaderExtent}
 use Rattle.header.specs.declared.extent.MainHeaderExtent.the-variants.{Complete, Truncated}
+use Rattle.parts.specs.declared.scan.Scanned.{Scanned}
+use Rattle.parts.specs.declared.scan.Scanned.the-variants as scanned
+use Rattle.tile.specs.declared.rewrite.Written.{Written}
+use Rattle.tile.specs.declared.rewrite.Written.the-variants as written
 
 abbrev pub extentNumber : MainHeaderExtent → ℕ
 extentNumber (Complete o) = 1
@@ -10,3 +14,21 @@ extentNumber Truncated = 0
 abbrev pub extentValue : MainHeaderExtent → ℕ → ℕ
 extentValue (Complete o) held = o .0
 extentValue Truncated held = held
+
+-- the scan: entries, or the refusal's place
+abbrev pub scanNumber : Scanned → ℕ
+scanNumber (scanned.Table n) = 0
+scanNumber (scanned.Refused r) = r .number
+
+abbrev pub scanValue : Scanned → ℕ
+scanValue (scanned.Table n) = n
+scanValue (scanned.Refused r) = r .place
+
+-- rewrite and assembly: bytes written, or the refusal's place
+abbrev pub writtenNumber : Written → ℕ
+writtenNumber (written.Bytes n) = 0
+writtenNumber (written.Refused r) = r .number
+
+abbrev pub writtenValue : Written → ℕ
+writtenValue (written.Bytes n) = n
+writtenValue (written.Refused r) = r .place

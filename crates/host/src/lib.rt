@@ -1,9 +1,17 @@
 // The boundary for C: thin calls on numbers and byte slices. Each answers 0 where it accepts, or the refusal's number, and
 // `value` then holds the result or the place; the extent, which never refuses, says 1 for Complete and 0 for Truncated.
 ghost use mathlib.Core.Path.{_≡_};
+ghost use Prim.Native.Nat.{_/_};
+ghost use lib.ListN.{length};
 ghost use Rattle.header.specs.Extent.{extentOf};
-ghost use Rattle.host.specs.Answers.{extentNumber, extentValue};
+ghost use Rattle.parts.specs.Scan.{scanned, scannedTable};
+ghost use Rattle.tile.specs.Rewrite.{rewriteAnswer, rewriteOut};
+ghost use Rattle.tile.specs.Assembly.{assemblyAnswer, assemblyOut};
+ghost use Rattle.host.specs.Answers.{extentNumber, extentValue, scanNumber, scanValue, writtenNumber, writtenValue};
 use header::extent::MainHeaderExtent;
+use parts::scan::Scanned;
+use tile::rewrite::Written;
+use types::Refusal;
 
 #[no_mangle]
 pub extern "C" fn winterhasp_main_header_extent(prefix: &[u8], value: &mut u64) -> u32
@@ -17,4 +25,92 @@ pub extern "C" fn winterhasp_main_header_extent(prefix: &[u8], value: &mut u64) 
         }
         MainHeaderExtent::Truncated => 0,
     }
+}
+
+fn tell_refused(refusal: Refusal, value: &mut u64) -> u32
+    ensures { λ r. ⌜ r ≡ refusal .number ⌝ }
+    ensures { λ _. ⌜ now (value .exit) ≡ refusal .place ⌝ }
+{
+    *value = refusal.place;
+    refusal.number
+}
+
+fn tell_scanned(answer: Scanned, value: &mut u64) -> u32
+    ensures { λ r. ⌜ r ≡ scanNumber answer ⌝ }
+    ensures { λ _. ⌜ now (value .exit) ≡ scanValue answer ⌝ }
+{
+    match answer {
+        Scanned::Table(entries) => {
+            *value = entries;
+            0
+        }
+        Scanned::Refused(refusal) => tell_refused(refusal, value),
+    }
+}
+
+// `value`: entries. The table has a row for each 18 bytes.
+#[no_mangle]
+pub extern "C" fn winterhasp_scan_sot_markers(
+    codestream: &[u8],
+    first_sot_offset: u64,
+    table: &mut [u8],
+    value: &mut u64,
+) -> u32
+    ensures { λ r. ⌜ r ≡ scanNumber (scanned (now (codestream .entry)) «first_sot_offset» (length (now (table .entry)) / 18)) ⌝ }
+    ensures { λ _. ⌜ now (value .exit) ≡ scanValue (scanned (now (codestream .entry)) «first_sot_offset» (length (now (table .entry)) / 18)) ⌝ }
+    ensures { λ _. ⌜ now (table .exit) ≡ scannedTable (now (codestream .entry)) «first_sot_offset» (now (table .entry)) ⌝ }
+{
+    let answer = parts::scan::scan_sot_markers(codestream, first_sot_offset, table);
+    tell_scanned(answer, value)
+}
+
+fn tell_written(answer: Written, value: &mut u64) -> u32
+    ensures { λ r. ⌜ r ≡ writtenNumber answer ⌝ }
+    ensures { λ _. ⌜ now (value .exit) ≡ writtenValue answer ⌝ }
+{
+    match answer {
+        Written::Bytes(written) => {
+            *value = written;
+            0
+        }
+        Written::Refused(refusal) => tell_refused(refusal, value),
+    }
+}
+
+// `value`: bytes written.
+#[no_mangle]
+pub extern "C" fn winterhasp_rewrite_siz_for_tile(
+    decode_header: &[u8],
+    isot: u16,
+    out: &mut [u8],
+    value: &mut u64,
+) -> u32
+    ensures { λ r. ⌜ r ≡ writtenNumber (rewriteAnswer (now («decode_header» .entry)) isot (length (now (out .entry)))) ⌝ }
+    ensures { λ _. ⌜ now (value .exit) ≡ writtenValue (rewriteAnswer (now («decode_header» .entry)) isot (length (now (out .entry)))) ⌝ }
+    ensures { λ _. ⌜ now (out .exit) ≡ rewriteOut (now («decode_header» .entry)) isot (now (out .entry)) ⌝ }
+{
+    let answer = tile::rewrite::rewrite_siz_for_tile(decode_header, isot, out);
+    tell_written(answer, value)
+}
+
+// `tile_parts`: rows as the scan writes them. `value`: bytes written.
+#[no_mangle]
+pub extern "C" fn winterhasp_build_minimal_codestream(
+    decode_header: &[u8],
+    tile_parts: &[u8],
+    codestream: &[u8],
+    out: &mut [u8],
+    value: &mut u64,
+) -> u32
+    ensures { λ r. ⌜ r ≡ writtenNumber (assemblyAnswer (now («decode_header» .entry)) (now («tile_parts» .entry)) (now (codestream .entry)) (length (now (out .entry)))) ⌝ }
+    ensures { λ _. ⌜ now (value .exit) ≡ writtenValue (assemblyAnswer (now («decode_header» .entry)) (now («tile_parts» .entry)) (now (codestream .entry)) (length (now (out .entry)))) ⌝ }
+    ensures { λ _. ⌜ now (out .exit) ≡ assemblyOut (now («decode_header» .entry)) (now («tile_parts» .entry)) (now (codestream .entry)) (now (out .entry)) ⌝ }
+{
+    let answer = tile::assembly::build_minimal_codestream(
+        decode_header,
+        tile_parts,
+        codestream,
+        out,
+    );
+    tell_written(answer, value)
 }

@@ -1,1 +1,9 @@
+pub mod Computing
 pub mod Edges
+pub mod Entries
+pub mod Items
+pub mod Rewalked
+pub mod Rescanned
+pub mod Demand3
+pub mod Settled
+pub mod Premises

@@ -1,6 +1,7 @@
--- Sample A of document 01, segment by segment.
-use Prim.Native.Nat.{ℕ}
+-- Sample A of document 01, segment by segment, and the pieces that its edges are made of.
+use Prim.Native.Nat.{ℕ, _+_}
 use mathlib.Core.List.{List, [], _∷_, _++_}
+use lib.ListN.{length, replicate}
 use Rattle.numbers.specs.Bytes.{bytesOf}
 use Rattle.types.specs.Markers.{SOC, SIZ, TLM, SOT, EOC}
 
@@ -13,28 +14,54 @@ unfoldable pub four : ℕ → List ℕ
 unfolding bytesOf
 four n = bytesOf 4 n
 
--- SIZ: image end and origin, tile size and origin, one 8-bit component
+abbrev pub zeros : ℕ → List ℕ
+zeros n = replicate n 0
+
+-- SIZ: image end and origin, tile size; the tile origin is 0; one 8-bit component
 unfoldable pub siz : ℕ → ℕ → ℕ → ℕ → ℕ → ℕ → List ℕ
 unfolding two four
 siz x y xo yo xt yt =
     two SIZ ++ two 41 ++ two 0 ++ four x ++ four y ++ four xo ++ four yo ++ four xt ++ four yt ++ four 0 ++ four 0
     ++ two 1 ++ (7 ∷ 1 ∷ 1 ∷ [])
 
+-- SOC and SIZ: 45 bytes
+unfoldable pub header : ℕ → ℕ → ℕ → ℕ → ℕ → ℕ → List ℕ
+unfolding two siz
+header x y xo yo xt yt = two SOC ++ siz x y xo yo xt yt
+
+-- TLM of an Stlm, and the bytes of its entries
+unfoldable pub tlm : ℕ → List ℕ → List ℕ
+unfolding two
+tlm stlm entries = two TLM ++ two (4 + length entries) ++ (0 ∷ stlm ∷ entries)
+
 -- SOT: tile, Psot; tile-part 0 of 1
 unfoldable pub sot : ℕ → ℕ → List ℕ
 unfolding two four
 sot tile psot = two SOT ++ two 10 ++ two tile ++ four psot ++ (0 ∷ 1 ∷ [])
 
--- SOC and SIZ, 10 by 6 in tiles of 4 by 4: 45 bytes
+-- a tile-part: SOT, SOD and a body
+unfoldable pub part : ℕ → ℕ → List ℕ → List ℕ
+unfolding sot
+part tile psot body = sot tile psot ++ (0xff ∷ 0x93 ∷ body)
+
+-- 10 by 6 in tiles of 4 by 4
 unfoldable pub head : List ℕ
-unfolding two siz
-head = two SOC ++ siz 10 6 0 0 4 4
+unfolding header
+head = header 10 6 0 0 4 4
+
+-- TLM segments between that and a tile-part
+unfoldable pub withTlm : List ℕ → List ℕ
+unfolding head part
+withTlm segments = head ++ segments ++ part 0 14 []
 
 -- TLM with indices of 1 byte and lengths of 2
-unfoldable pub tlm : List ℕ
-unfolding two
-tlm = two TLM ++ two 10 ++ (0 ∷ 0x10 ∷ 0 ∷ 0 ∷ 14 ∷ 5 ∷ 0 ∷ 16 ∷ [])
-
 unfoldable pub A : List ℕ
-unfolding two head tlm sot
-A = head ++ tlm ++ sot 0 14 ++ (0xff ∷ 0x93 ∷ []) ++ sot 5 16 ++ (0xff ∷ 0x93 ∷ 0xaa ∷ 0xbb ∷ []) ++ two EOC
+unfolding two head tlm part
+A = head ++ tlm 0x10 (0 ∷ 0 ∷ 14 ∷ 5 ∷ 0 ∷ 16 ∷ []) ++ part 0 14 [] ++ part 5 16 (0xaa ∷ 0xbb ∷ []) ++ two EOC
+
+-- JP2's signature box, and the first bytes of a jp2c box of a length
+unfoldable pub signature : List ℕ
+signature = 0 ∷ 0 ∷ 0 ∷ 0xc ∷ 0x6a ∷ 0x50 ∷ 0x20 ∷ 0x20 ∷ 0xd ∷ 0xa ∷ 0x87 ∷ 0xa ∷ []
+
+unfoldable pub jp2c : ℕ → List ℕ
+jp2c size = 0 ∷ 0 ∷ 0 ∷ size ∷ 0x6a ∷ 0x70 ∷ 0x32 ∷ 0x63 ∷ []

@@ -4,4 +4,3 @@ pub mod Splits
 pub mod Adjoin
 pub mod Joined
 pub mod Iso
-pub mod Edges

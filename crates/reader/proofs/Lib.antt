@@ -3,4 +3,3 @@ pub mod Sizes
 pub mod Boxes
 pub mod Regions
 pub mod Iso
-pub mod Edges

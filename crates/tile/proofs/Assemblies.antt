@@ -106,6 +106,10 @@ pub for-none : (h : List ℕ) {parts : List (List ℕ)} → parts ≡ [] → siz
 unfolding sizeFor
 for-none h e = ap (sizeFor h) e
 
+pub assembled-is : (h : List ℕ) (parts : List (List ℕ)) → assembled h parts ≡ cutTo (sizeFor h parts) h ++ (joined parts ++ bytesOf 2 EOC)
+unfolding assembled
+assembled-is h parts = refl
+
 -- header, parts and EOC: the header as it is with no part, or with a first part that has no Isot; else rewritten for its tile
 pub assembled-none : (h : List ℕ) → assembled h [] ≡ h ++ bytesOf 2 EOC
 unfolding assembled joined sizeFor cutTo

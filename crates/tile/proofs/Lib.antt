@@ -4,4 +4,3 @@ pub mod Headers
 pub mod Ranges
 pub mod Assemblies
 pub mod Iso
-pub mod Edges

@@ -1,0 +1,61 @@
+-- What is unfolded to compute a walk, a scan, a split, an assembly or a search over sample bytes.
+use Rattle.numbers.specs.Bytes.{be, bytesOf, put}
+use Rattle.numbers.specs.Ceiling.{ceilDiv}
+use Rattle.types.specs.Row.{rowOf, rowsOf}
+use Rattle.chain.specs.Chain.{also, onMove, counted, chain}
+use Rattle.header.specs.Step.{delimits, segmentEnd, stepAt, moveOf, moveAt, stepsFrom}
+use Rattle.header.specs.Extent.{endedAs, extentEnd, extentOf}
+use Rattle.header.specs.Tlm.{entryCount, tlmAt, entryIn, entriesIn, placed}
+use Rattle.header.specs.Walk.{cutAt, tlmStep, passedAt, walkStepOf, walkStepAt, walkMove, walkAt, walkFrom}
+use Rattle.header.specs.Strip.{kept, decodeHeader, tlmEntries}
+use Rattle.header.specs.Parse.{readAs, stands, judged, tlmTable}
+use Rattle.parts.specs.Scan.{eocAt, sotStepAt, scanStepAt, scanFrom, entriesFrom, scanned, written, scannedTable}
+use Rattle.parts.specs.Split.{partEnd, splitStepAt, splitFrom, partsFrom, partsOf}
+use Rattle.parts.specs.Tiles.{ofTile}
+use Rattle.tile.specs.Siz.{pair, oneTile}
+use Rattle.tile.specs.Rewrite.{fitting, less, axisOf, columnsOf, sized, bothAxes, inGrid, sizeIn, tileSize, cutTo, rewritten, over, rewriteAnswer, rewriteOut}
+use Rattle.tile.specs.Assembly.{rows, rangesFrom, ranges, rangeOf, andPart, partsIn, isSot, patched, partSize, sizeFor, joined, assembled, answerFor, assemblyAnswer, assemblyOut}
+use Rattle.tile.specs.Iso.{isoColumns, isoStart, isoEnd, isoExtent, isoWidth}
+use Rattle.reader.specs.Search.{boxAt, content, passed, onBox, foundFrom, isJp2, foundIn}
+use Rattle.laws.specs.Sample.{two, four, siz, header, tlm, sot, part, head, withTlm, A, signature, jp2c}
+use Rattle.parts.specs.Scan as scan
+use Rattle.parts.specs.Split as split
+use Rattle.tile.specs.Rewrite as rewrite
+use Rattle.reader.specs.Search as search
+use Rattle.reader.specs.Siz as siz-reading
+
+unfoldable pub samples : Unit {0}
+unfolding be bytesOf put rowOf rowsOf two four siz header tlm sot part head withTlm A signature jp2c also onMove counted chain
+samples = tt
+
+unfoldable pub extents : Unit {0}
+unfolding samples delimits segmentEnd stepAt moveOf moveAt stepsFrom endedAs extentEnd extentOf
+extents = tt
+
+unfoldable pub walks : Unit {0}
+unfolding samples delimits segmentEnd stepAt entryCount tlmAt entryIn entriesIn placed cutAt tlmStep passedAt walkStepOf walkStepAt walkMove walkAt walkFrom kept decodeHeader tlmEntries readAs stands judged tlmTable
+walks = tt
+
+unfoldable pub scan-runs : Unit {0}
+unfolding samples eocAt sotStepAt scanStepAt scan.moveOf scan.moveAt scanFrom entriesFrom scan.endedAs scan.judged scan.withRoom scanned written scannedTable ofTile
+scan-runs = tt
+
+unfoldable pub split-runs : Unit {0}
+unfolding samples partEnd splitStepAt split.moveOf split.moveAt splitFrom partsFrom partsOf
+split-runs = tt
+
+unfoldable pub tiles : Unit {0}
+unfolding samples pair oneTile ceilDiv fitting less axisOf columnsOf sized bothAxes inGrid sizeIn tileSize cutTo rewritten rewrite.withRoom rewrite.judged over rewriteAnswer rewriteOut rows rangesFrom ranges rangeOf andPart partsIn isSot patched partSize sizeFor joined assembled answerFor assemblyAnswer assemblyOut
+tiles = tt
+
+unfoldable pub iso-tiles : Unit {0}
+unfolding samples ceilDiv isoColumns isoStart isoEnd isoExtent isoWidth
+iso-tiles = tt
+
+unfoldable pub searches : Unit {0}
+unfolding samples boxAt content passed onBox search.moveAt foundFrom isJp2 foundIn
+searches = tt
+
+unfoldable pub siz-readings : Unit {0}
+unfolding samples siz-reading.sizRead siz-reading.sizFrom siz-reading.moveAt
+siz-readings = tt

@@ -1,0 +1,195 @@
+-- Demand 3. The entries of a scan adjoin; a tile's entries joined and split again are the same parts; and the codestream assembled of them is walked
+-- as the decode header was (`Rewalked`) and scanned as they were (`Rescanned`).
+use Prim.Native.Nat.{ℕ, _+_, _≤_}
+use native.Mathlib.Omega.{arith}
+use mathlib.Core.Path.{_≡_, refl, sym, ap, ap₂, _∙_}
+use mathlib.Core.Bool.{Bool, true, false, _&&_}
+use mathlib.Core.List.{List, [], _++_, map}
+use lib.ListN.{length, drop, length-append}
+use lib.Seq.{take-at}
+use lib.Dec.{leb, eqb}
+use borrow.Author.Tests.{le-leb, eq-eqb, eqb-true}
+use Rattle.numbers.specs.Bytes.{be, bytesOf}
+use Rattle.numbers.proofs.Laws.{be-front}
+use Rattle.types.specs.Markers.{SOC, SIZ, SOT, EOC}
+use Rattle.types.specs.Row.{rowsOf}
+use Rattle.types.specs.declared.Refusal.{Refusal}
+use Rattle.types.specs.declared.TilePartEntry.{TilePartEntry}
+use Rattle.header.specs.Walk.{walkFrom}
+use Rattle.header.specs.Strip.{decodeHeader, tlmEntries}
+use Rattle.header.specs.Parse.{readAs, stands, judged}
+use Rattle.header.specs.declared.parse.MainHeaderInfo.{MainHeaderInfo}
+use Rattle.header.specs.declared.parse.MainHeader.{MainHeader}
+use Rattle.header.specs.declared.parse.MainHeader.the-variants.{Header}
+use Rattle.header.proofs.Answers.{judged-read, judged-no-soc, judged-no-siz, judged-walk}
+use Rattle.parts.specs.Scan.{entriesFrom}
+use Rattle.parts.specs.Tiles.{ofTile, bytesAt, AllLong}
+use Rattle.parts.proofs.Adjoin.{scan-adjoins}
+use Rattle.parts.proofs.Joined.{split-joined}
+use Rattle.tile.specs.Rewrite.{tileSize, cutTo, rewritten, over}
+use Rattle.tile.specs.Assembly.{partsIn, patched, sizeFor, joined, assembled, answerFor, assemblyAnswer, assemblyOut}
+use Rattle.tile.specs.declared.rewrite.TileSize.{TileSize}
+use Rattle.tile.specs.declared.rewrite.TileSize.the-variants.{Whole, Cut, Refused}
+use Rattle.tile.specs.declared.rewrite.Written.{Written}
+use Rattle.tile.specs.declared.rewrite.Written.the-variants.{Bytes}
+use Rattle.tile.proofs.Rewrites.{room-enough}
+use Rattle.tile.proofs.Headers.{length-rewritten}
+use Rattle.tile.proofs.Assemblies.{part-sot, for-first, assembled-is}
+use Rattle.laws.specs.Demand3.{Accepted, decodeHeaderOf, assembledOf, Assembles, Standing, Reassembled, Demand3}
+use Rattle.laws.proofs.Entries.{OfTile, All, none, more, entries-of-tile, ranges-back, parts-in}
+use Rattle.laws.proofs.Rewalked.{Rewalked, rewalked}
+use Rattle.laws.proofs.Rescanned.{part-tile, part-is-sot, patched-long, patched-marker, rescan, scans-table}
+use Rattle.header.specs.declared.parse.MainHeader.the-variants as parse
+use Rattle.tile.specs.Rewrite as rewrite
+
+-- ---- the header that was accepted
+
+header-refused : {r : Refusal} {h : MainHeaderInfo} → _≡_ {A = MainHeader} (parse.Refused r) (Header h) → ⊥
+header-refused e = let z : _≡_ {A = ℕ} 0 1 = cc in omega arith
+
+and-second : (a b : Bool) → (a && b) ≡ true → b ≡ true
+and-second true b e = e
+and-second false b e = let z : _≡_ {A = ℕ} 0 1 = cc in absurd (omega arith)
+
+marker-of : (s : List ℕ) (at marker : ℕ) → stands s at marker ≡ true → be 2 s at ≡ marker
+unfolding stands
+marker-of s at marker e = eqb-true _ _ (and-second (leb (at + 2) (length s)) (eqb (be 2 s at) marker) e)
+
+stands-there : (s : List ℕ) (at marker : ℕ) → at + 2 ≤ length s → be 2 s at ≡ marker → stands s at marker ≡ true
+unfolding stands
+stands-there s at marker h e = rw (le-leb _ _ h, eq-eqb _ _ e)
+
+module _ (s : List ℕ) (h : MainHeaderInfo) (e : judged s ≡ Header h) where
+  soc-stands : stands s 0 SOC ≡ true
+  soc-stands = by (stands s 0 SOC) refl
+    where
+      by : (b : Bool) → stands s 0 SOC ≡ b → stands s 0 SOC ≡ true
+      by true f = f
+      by false f = absurd (header-refused (sym (judged-no-soc s (judged-read s h e .short) f) ∙ e))
+
+  siz-stands : stands s 2 SIZ ≡ true
+  siz-stands = by (stands s 2 SIZ) refl
+    where
+      by : (b : Bool) → stands s 2 SIZ ≡ b → stands s 2 SIZ ≡ true
+      by true f = f
+      by false f = absurd (header-refused (sym (judged-no-siz s (judged-read s h e .short) soc-stands f) ∙ e))
+
+-- ---- a header walk that stops at an SOT accepts
+
+accepted-at : (s a : List ℕ) (to : ℕ) → be 2 s 0 ≡ SOC → be 2 s 2 ≡ SIZ → length a ≤ 0xffff_ffff → Rewalked s a to
+    → (info : MainHeaderInfo) × (judged a ≡ Header info) × (info .«first_sot_offset» .0 ≡ to)
+unfolding readAs
+accepted-at s a to soc siz short r =
+    let long = r .long in
+    let info : MainHeaderInfo =
+    record {
+      «first_sot_offset» = record { 0 = walkFrom a 2 .stopped };
+      «decode_header_length» = length (decodeHeader a (walkFrom a 2 .visits));
+      «tlm_entries» = length (tlmEntries a (walkFrom a 2 .visits));
+    } in (
+      info,
+      judged-walk a short (stands-there a 0 SOC (omega arith) (r .soc ∙ soc)) (stands-there a 2 SIZ (omega arith) (r .siz ∙ siz))
+          ∙ ap (readAs a (walkFrom a 2)) (r .stops .ended),
+      r .stops .stopped,
+    )
+
+-- ---- what is assembled
+
+-- the parts with Isot 0, and EOC
+abbrev rest-of : List ℕ → List TilePartEntry → List ℕ
+rest-of s es = joined (map (bytesAt s) es) ++ bytesOf 2 EOC
+
+module _ (s : List ℕ) (tile : ℕ) where
+  -- the first part chooses the tile
+  size-is : (d : List ℕ) {es : List TilePartEntry} → All (OfTile s tile) es → AllLong es → (es ≡ [] → ⊥) → sizeFor d (partsIn s es) ≡ tileSize d tile
+  unfolding AllLong
+  size-is d none long some = absurd (some refl)
+  size-is d (more {e = e} o all) long some =
+      for-first d (parts-in s tile (more o all))
+      ∙ part-sot (bytesAt s e) d (part-is-sot s tile e o (long .0))
+      ∙ ap (tileSize d) (part-tile s tile e o (long .0))
+
+  -- behind the header stands an SOT
+  rest-begins : {es : List TilePartEntry} → All (OfTile s tile) es → AllLong es → (es ≡ [] → ⊥) → (2 ≤ length (rest-of s es)) × (be 2 (rest-of s es) 0 ≡ SOT)
+  unfolding AllLong joined
+  rest-begins none long some = absurd (some refl)
+  rest-begins (more {e = e} {rest = rest} o all) long some =
+      let part : List ℕ = patched (bytesAt s e) in
+      let y : List ℕ = joined (map (bytesAt s) rest) in
+      let twelve = long .0 in
+      let size = patched-long s tile e o (long .0) in (
+        simp length-append (omega arith),
+        be-front 2 (part ++ y) (bytesOf 2 EOC) 0 (simp length-append (omega arith))
+            ∙ be-front 2 part y 0 (omega arith)
+            ∙ patched-marker s tile e o (long .0),
+      )
+
+  assembled-whole : (d : List ℕ) {es : List TilePartEntry} → All (OfTile s tile) es → AllLong es → (es ≡ [] → ⊥)
+      → assembled d (partsIn s es) ≡ rewritten d tile ++ rest-of s es
+  unfolding rewritten
+  assembled-whole d {es} all long some =
+      assembled-is d (partsIn s es)
+      ∙ ap₂ (λ (z : TileSize) (ps : List (List ℕ)). cutTo z d ++ (joined ps ++ bytesOf 2 EOC)) (size-is d all long some) (parts-in s tile all)
+
+-- a rewrite that accepts, with room
+bytes-of : (z : TileSize) (n room : ℕ) → ((r : Refusal) → z ≡ Refused r → ⊥) → n ≤ room → rewrite.judged z n room ≡ Bytes n
+unfolding rewrite.judged
+bytes-of Whole n room accepts h = room-enough n room h
+bytes-of (Cut w g) n room accepts h = room-enough n room h
+bytes-of (Refused r) n room accepts h = absurd (accepts r refl)
+
+-- ---- the third sentence
+
+module _ (s : List ℕ) (p : ℕ) (c : Accepted s p) (tile : ℕ) (es : List TilePartEntry) (all : All (OfTile s tile) es) (out : List ℕ) (m : Assembles s tile es out) where
+  answered : assemblyAnswer (decodeHeaderOf s) (rowsOf es) s (length out) ≡ Bytes (length (assembledOf s es))
+  unfolding assemblyAnswer answerFor
+  answered =
+      ap (λ (rs : List TilePartEntry). answerFor (decodeHeaderOf s) (partsIn s rs) (length out)) (ranges-back s tile (c .bytes) (judged-read s (c .info) (c .header) .short) all)
+      ∙ bytes-of (sizeFor (decodeHeaderOf s) (partsIn s es)) (length (assembledOf s es)) (length out)
+      (λ r e. m .accepts r (sym (size-is s tile (decodeHeaderOf s) all (m .long) (m .some)) ∙ e))
+      (m .room)
+
+  written-out : assemblyOut (decodeHeaderOf s) (rowsOf es) s out ≡ assembledOf s es ++ drop (length (assembledOf s es)) out
+  unfolding assemblyOut over
+  written-out =
+      ap₂ (λ (w : Written) (rs : List TilePartEntry). over w (assembledOf s rs) out) answered
+      (ranges-back s tile (c .bytes) (judged-read s (c .info) (c .header) .short) all)
+
+  walked : 2 ≤ length (rest-of s es) → be 2 (rest-of s es) 0 ≡ SOT → be 2 s 2 ≡ SIZ
+      → Rewalked s (rewritten (decodeHeaderOf s) tile ++ rest-of s es) (length (decodeHeaderOf s))
+  unfolding rewritten
+  walked long begins siz =
+      rewalked s (c .bytes) (rest-of s es) long begins siz (omega (arith, m .siz)) (tileSize (decodeHeaderOf s) tile) (judged-read s (c .info) (c .header) .ends)
+
+  standing : Standing (rewritten (decodeHeaderOf s) tile) es (assembledOf s es)
+  standing =
+      let head : List ℕ = rewritten (decodeHeaderOf s) tile in
+      let rest : List ℕ = rest-of s es in
+      let whole : assembledOf s es ≡ head ++ rest = assembled-whole s tile (decodeHeaderOf s) all (m .long) (m .some) in
+      let begins = rest-begins s tile all (m .long) (m .some) in
+      let soc : be 2 s 0 ≡ SOC = marker-of s 0 SOC (soc-stands s (c .info) (c .header)) in
+      let siz : be 2 s 2 ≡ SIZ = marker-of s 2 SIZ (siz-stands s (c .info) (c .header)) in
+      let accepted = accepted-at s (head ++ rest) (length (decodeHeaderOf s)) soc siz (omega (arith, m .short, ap length whole)) (walked (begins .0) (begins .1) siz) in
+      let scanned = rescan s tile all (m .long) (m .sized) head in
+      rw whole
+      (record {
+        front = take-at head rest (length head) refl;
+        info = accepted .0;
+        walk = accepted .1;
+        first = accepted .2 ∙ sym (length-rewritten (decodeHeaderOf s) tile);
+        scan = scans-table scanned;
+        entries = scanned .entries;
+      })
+
+  reassembled : Reassembled s tile es out
+  reassembled = record { answer = answered; output = written-out; standing = standing }
+
+-- ---- all of it
+
+pub demand-3 : (s : List ℕ) (p : ℕ) → Accepted s p → Demand3 s p
+demand-3 s p c =
+    record {
+      adjoin = scan-adjoins s p;
+      split = λ tile long. split-joined s p tile long;
+      assembly = λ tile out m. reassembled s p c tile (ofTile tile (entriesFrom s p)) (entries-of-tile s p tile) out m;
+    }

@@ -1,0 +1,146 @@
+-- The scan over the parts of a tile, joined with Isot 0, and EOC: at each part stand SOT, Lsot 10, Isot 0 and its length in Psot, so the scan passes
+-- the parts one by one, and EOC ends it.
+use Prim.Native.Nat.{ℕ, suc, _+_, _≤_}
+use native.Mathlib.Nat.{add-zero}
+use native.Mathlib.Omega.{arith}
+use mathlib.Core.Path.{_≡_, refl, sym, ap, ap₂, _∙_}
+use mathlib.Core.Logic.{⊎-elim}
+use mathlib.Core.Bool.{true}
+use mathlib.Core.List.{List, [], _∷_, _++_, map, append-assoc}
+use lib.ListN.{length, length-append, length-take, length-drop, length-map}
+use borrow.Author.Tests.{le-leb, eq-eqb}
+use Rattle.numbers.specs.Bytes.{be, bytesOf, put}
+use Rattle.numbers.proofs.Laws.{be-rest, be-front, be-part, be-put, be-put-before, be-put-after, be-bytesOf, length-bytes}
+use Rattle.types.specs.Markers.{SOT, EOC}
+use Rattle.types.specs.declared.TilePartEntry.{TilePartEntry}
+use Rattle.chain.specs.Chain.{Chain, also}
+use Rattle.parts.specs.Sot.{lsot, isot, psot}
+use Rattle.parts.specs.Scan.{ScanEnd, ended, eocAt, scanStepAt, scanFrom, visited, entriesFrom, endedAs, judged}
+use Rattle.parts.specs.Tiles.{bytesAt, AllLong}
+use Rattle.parts.specs.declared.scan.ScanStep.the-variants.{Part, Ended}
+use Rattle.parts.specs.declared.scan.Scanned.the-variants.{Table}
+use Rattle.parts.proofs.Scans.{step-eoc, step-sot, sot-part, scan-ended, scan-part, entries-ended, entries-part, same-part}
+use Rattle.tile.specs.Assembly.{isSot, patched, joined}
+use Rattle.tile.proofs.Assemblies.{patched-sot, length-patched}
+use Rattle.laws.specs.Demand3.{NoPsot0, underZero}
+use Rattle.laws.proofs.Entries.{OfTile, All, none, more, sot-no-eoc}
+
+-- ---- a part, with Isot 0
+
+module _ (s : List ℕ) (tile : ℕ) (e : TilePartEntry) (o : OfTile s tile e) (long : 12 ≤ e .length) where
+  length-bytesAt : length (bytesAt s e) ≡ e .length
+  unfolding bytesAt
+  length-bytesAt = simp (length-take, length-drop) (omega (arith, o .stands .inside))
+
+  read-part : (k i : ℕ) → i + k ≤ e .length → be k (bytesAt s e) i ≡ be k s (e .offset + i)
+  unfolding bytesAt
+  read-part k i h = be-part k s (e .offset) (e .length) i h
+
+  part-begins : be 2 (bytesAt s e) 0 ≡ SOT
+  part-begins = read-part 2 0 (omega arith) ∙ ap (be 2 s) (add-zero (e .offset)) ∙ o .stands .marker
+
+  pub part-tile : be 2 (bytesAt s e) 4 ≡ tile
+  part-tile = read-part 2 4 (omega arith) ∙ o .isot
+
+  pub part-is-sot : isSot (bytesAt s e) ≡ true
+  unfolding isSot
+  part-is-sot = rw (le-leb 6 (length (bytesAt s e)) (omega (arith, length-bytesAt)), eq-eqb _ _ part-begins)
+
+  patched-is : patched (bytesAt s e) ≡ put (bytesAt s e) 4 (bytesOf 2 0)
+  patched-is = patched-sot (bytesAt s e) part-is-sot
+
+  pub patched-long : length (patched (bytesAt s e)) ≡ e .length
+  patched-long = length-patched (bytesAt s e) ∙ length-bytesAt
+
+  pub patched-marker : be 2 (patched (bytesAt s e)) 0 ≡ SOT
+  patched-marker = rw patched-is (be-put-before 2 (bytesAt s e) 4 (bytesOf 2 0) 0 (omega (arith, length-bytesAt)) (omega arith) ∙ part-begins)
+
+  patched-lsot : be 2 (patched (bytesAt s e)) 2 ≡ 10
+  patched-lsot =
+      rw patched-is (be-put-before 2 (bytesAt s e) 4 (bytesOf 2 0) 2 (omega (arith, length-bytesAt)) (omega arith) ∙ read-part 2 2 (omega arith) ∙ o .lsot)
+
+  patched-isot : be 2 (patched (bytesAt s e)) 4 ≡ 0
+  patched-isot =
+      rw patched-is (be-put 2 (bytesAt s e) 4 (bytesOf 2 0) 0 (omega (arith, length-bytesAt)) (omega (arith, length-bytes 2 0)) ∙ be-bytesOf 2 0 (omega arith))
+
+  patched-psot : be 4 (patched (bytesAt s e)) 6 ≡ psot s (e .offset)
+  unfolding bytesOf
+  patched-psot =
+      rw patched-is (be-put-after 4 (bytesAt s e) 4 (bytesOf 2 0) 0 (omega (arith, length-bytesAt)) ∙ read-part 4 6 (omega arith))
+
+  -- ---- behind any front, and with anything after it
+
+  module _ (some : psot s (e .offset) ≡ 0 → ⊥) (front y : List ℕ) where
+    read-at : (k i : ℕ) → i + k ≤ e .length → be k (front ++ (patched (bytesAt s e) ++ y)) (length front + i) ≡ be k (patched (bytesAt s e)) i
+    read-at k i h = be-rest k front (patched (bytesAt s e) ++ y) i ∙ be-front k (patched (bytesAt s e)) y i (omega (arith, patched-long))
+
+    step-there : scanStepAt (front ++ (patched (bytesAt s e) ++ y)) (length front) ≡ Part (record { «tile_index» = 0; offset = length front; length = e .length })
+    step-there =
+        let a : List ℕ = front ++ (patched (bytesAt s e) ++ y) in
+        let marker : be 2 a (length front) ≡ SOT = ap (be 2 a) (sym (add-zero (length front))) ∙ read-at 2 0 (omega arith) ∙ patched-marker in
+        let zero : isot a (length front) ≡ 0 = read-at 2 4 (omega arith) ∙ patched-isot in
+        let kept : psot a (length front) ≡ psot s (e .offset) = read-at 4 6 (omega arith) ∙ patched-psot in
+        let size : psot s (e .offset) ≡ e .length = ⊎-elim (λ l. l) (λ z. absurd (some (z .0))) (o .stands .long) in
+        let whole : length a ≡ length front + (e .length + length y) = simp length-append (omega (arith, patched-long)) in
+        step-sot a (length front) (omega arith) (sot-no-eoc a (length front) marker) (omega arith) marker
+        ∙ sot-part a (length front) (read-at 2 2 (omega arith) ∙ patched-lsot) (λ z. some (sym kept ∙ z)) (omega arith)
+        ∙ same-part zero (kept ∙ size)
+
+-- ---- all of them, and EOC
+
+eoc-ends : (front : List ℕ) → scanStepAt (front ++ bytesOf 2 EOC) (length front) ≡ Ended
+unfolding eocAt
+eoc-ends front =
+    let a : List ℕ = front ++ bytesOf 2 EOC in
+    let whole : length a ≡ length front + 2 = simp (length-append, length-bytes) in
+    let marker : be 2 a (length front) ≡ EOC =
+    ap (be 2 a) (sym (add-zero (length front))) ∙ be-rest 2 front (bytesOf 2 EOC) 0 ∙ be-bytesOf 2 EOC (omega arith) in
+    step-eoc a (length front) (omega arith) (rw (le-leb (length front + 2) (length a) (omega arith), eq-eqb _ _ marker))
+
+-- the scan from a position on is not refused, and gives these entries' lengths under index 0
+pub record Scans (a : List ℕ) (at : ℕ) (es : List TilePartEntry) : Type 0 where
+  pub stops : scanFrom a at .ended ≡ ended
+  pub entries : entriesFrom a at ≡ underZero at es
+
+scans-as : {a b : List ℕ} {at there : ℕ} {es : List TilePartEntry} → a ≡ b → at ≡ there → Scans a at es → Scans b there es
+scans-as e f h = rw (← e, ← f) h
+
+scans-end : (a : List ℕ) (at : ℕ) → scanStepAt a at ≡ Ended → Scans a at []
+unfolding underZero
+scans-end a at e = record { stops = ap (λ (c : Chain ScanEnd). c .ended) (scan-ended a at e); entries = entries-ended a at e }
+
+scans-part : (a : List ℕ) (at : ℕ) (e : TilePartEntry) (es : List TilePartEntry)
+    → scanStepAt a at ≡ Part (record { «tile_index» = 0; offset = at; length = e .length }) → Scans a (at + e .length) es → Scans a at (e ∷ es)
+unfolding underZero also
+scans-part a at e es found after =
+    let part : TilePartEntry = record { «tile_index» = 0; offset = at; length = e .length } in
+    record {
+      stops = ap (λ (c : Chain ScanEnd). c .ended) (scan-part a at part found) ∙ after .stops;
+      entries = entries-part a at part found ∙ ap (λ (l : List TilePartEntry). part ∷ l) (after .entries);
+    }
+
+pub rescan : (s : List ℕ) (tile : ℕ) {es : List TilePartEntry} → All (OfTile s tile) es → AllLong es → NoPsot0 s es → (front : List ℕ)
+    → Scans (front ++ (joined (map (bytesAt s) es) ++ bytesOf 2 EOC)) (length front) es
+unfolding AllLong NoPsot0 joined
+rescan s tile none long some front = scans-end (front ++ bytesOf 2 EOC) (length front) (eoc-ends front)
+rescan s tile (more {e = e} {rest = rest} o all) long some front =
+    let part : List ℕ = patched (bytesAt s e) in
+    let y : List ℕ = joined (map (bytesAt s) rest) in
+    let there : length (front ++ part) ≡ length front + e .length = length-append front part ∙ ap (λ (n : ℕ). length front + n) (patched-long s tile e o (long .0)) in
+    rw (append-assoc part y (bytesOf 2 EOC))
+    (scans-part (front ++ (part ++ (y ++ bytesOf 2 EOC))) (length front) e rest
+    (step-there s tile e o (long .0) (some .0) front (y ++ bytesOf 2 EOC))
+    (scans-as (append-assoc front part (y ++ bytesOf 2 EOC)) there (rescan s tile all (long .1) (some .1) (front ++ part))))
+
+length-under : (at : ℕ) (es : List TilePartEntry) → length (underZero at es) ≡ length es
+unfolding underZero
+length-under at [] = refl
+length-under at (e ∷ es) = ap suc (length-under (at + e .length) es)
+
+-- so it is accepted
+pub scans-table : {a : List ℕ} {at : ℕ} {es : List TilePartEntry} → Scans a at es → judged (scanFrom a at) ≡ Table (length es)
+unfolding judged endedAs entriesFrom
+scans-table {a} {at} {es} h =
+    let count : length (scanFrom a at .visits) ≡ length es =
+    sym (length-map (scanFrom a at .visits) (visited a)) ∙ ap length (h .entries) ∙ length-under at es in
+    ap₂ endedAs (h .stops) count
