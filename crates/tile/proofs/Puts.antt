@@ -1,13 +1,13 @@
--- Laws of bytes replaced: a replacement inside another, what lies before and after one, and one at the start.
+-- Laws of bytes replaced: a replacement inside another, what lies before and after one, and a copy.
 use Prim.Native.Nat.{ℕ, _+_, _-_, _≤_}
-use native.Mathlib.Nat.{zero-add, add-zero, add-assoc}
+use native.Mathlib.Nat.{add-assoc}
 use native.Mathlib.Omega.{arith}
 use mathlib.Core.Path.{_≡_, sym, ap, _∙_}
-use mathlib.Core.List.{List, [], _++_, append-assoc, append-nil}
-use lib.ListN.{length, take, drop, length-append, length-drop, drop-of-length-le, take-append-drop}
+use mathlib.Core.List.{List, _++_, append-assoc, append-nil}
+use lib.ListN.{length, take, drop, length-append, length-drop, drop-of-length-le}
 use lib.Seq.{take-at, drop-at, take-append-le, drop-append-le, take-append-add, drop-append-add, take-length, take-all, drop-drop, length-take-le}
 use Rattle.numbers.specs.Bytes.{put}
-use Rattle.numbers.proofs.Laws.{length-put}
+use Rattle.numbers.proofs.Laws.{length-put, put-start}
 
 -- what stands before it stays
 pub take-put : (s : List ℕ) (at : ℕ) (bs : List ℕ) → at ≤ length s → take at (put s at bs) ≡ take at s
@@ -20,15 +20,6 @@ unfolding put
 drop-put s at bs n e h =
     let front : length (take at s ++ bs) ≡ at + n = simp length-append (omega (arith, length-take-le at s h)) in
     rw (← append-assoc (take at s) bs (drop (at + length bs) s)) (drop-at (take at s ++ bs) _ (at + n) front ∙ ap (λ (k : ℕ). drop (at + k) s) e)
-
-pub put-none : (s : List ℕ) (at : ℕ) → put s at [] ≡ s
-unfolding put
-put-none s at = rw add-zero (take-append-drop at s)
-
--- all bytes from the start on
-pub put-start : (s bs : List ℕ) → put s 0 bs ≡ bs ++ drop (length bs) s
-unfolding put
-put-start s bs = ap (λ (n : ℕ). bs ++ drop n s) (zero-add (length bs))
 
 -- a copy to the start
 pub put-copy : (s bs : List ℕ) → take (length bs) bs ++ drop (length bs) s ≡ put s 0 bs
