@@ -3,6 +3,8 @@
 use std::ffi::{OsStr, OsString};
 use std::fs;
 
+#[cfg(feature = "parts")]
+use crate::found;
 use winterhasp::{main_header_extent, MainHeaderExtent};
 #[cfg(feature = "parts")]
 use winterhasp::{scan_sot_markers, TilePart};
@@ -20,6 +22,15 @@ pub const COMMANDS: &[Command] = &[
         words: "FILE",
         run: |words| match words {
             [file] => Some(extent(file)),
+            _ => None,
+        },
+    },
+    #[cfg(feature = "reader")]
+    Command {
+        name: "codestream",
+        words: "FILE",
+        run: |words| match words {
+            [file] => Some(codestream(file)),
             _ => None,
         },
     },
@@ -50,30 +61,37 @@ fn extent(file: &OsStr) -> Result<String, String> {
     })
 }
 
+/// Its offset in the file, and its length.
+#[cfg(feature = "reader")]
+fn codestream(file: &OsStr) -> Result<String, String> {
+    let range = found::codestream(&read(file)?).map_err(|refusal| trouble(file, &refusal))?;
+    Ok(format!("{} {}\n", range.start, range.len()))
+}
+
+/// Index, offset in the codestream, and length of each tile-part.
 #[cfg(feature = "parts")]
 fn parts(file: &OsStr) -> Result<String, String> {
-    let codestream = read(file)?;
+    let codestream = read_codestream(file)?;
     let (_, parts) = tile_parts(file, &codestream)?;
     let line = |part: &TilePart| format!("{} {} {}\n", part.index, part.offset, part.length);
     Ok(parts.iter().map(line).collect())
 }
 
-/// Writes a codestream of tile `index` alone. Its header is all that stands before the first SOT: a
-/// TLM stays in it.
+/// Writes a codestream of tile `index` alone.
 #[cfg(all(feature = "parts", feature = "tile"))]
 fn tile(file: &OsStr, index: &OsStr, out: &OsStr) -> Result<String, String> {
     let index: u16 = index
         .to_str()
         .and_then(|word| word.parse().ok())
         .ok_or("winterhasp: INDEX is a number from 0 to 65535")?;
-    let codestream = read(file)?;
+    let codestream = read_codestream(file)?;
     let (first_sot, mut parts) = tile_parts(file, &codestream)?;
     parts.retain(|part| part.index == index);
     if parts.is_empty() {
         return Err(trouble(file, &format!("no part of tile {index}")));
     }
-    let header = &codestream[..first_sot as usize];
-    let built = winterhasp::build_minimal_codestream(header, &parts, &codestream)
+    let built = found::decode_header(&codestream, first_sot as usize)
+        .and_then(|header| winterhasp::build_minimal_codestream(&header, &parts, &codestream))
         .map_err(|refusal| trouble(file, &refusal))?;
     fs::write(out, built).map_err(|error| trouble(out, &error))?;
     Ok(String::new())
@@ -88,6 +106,13 @@ fn tile_parts(file: &OsStr, codestream: &[u8]) -> Result<(u64, Vec<TilePart>), S
     let parts = scan_sot_markers(codestream, first_sot);
     let parts = parts.map_err(|refusal| trouble(file, &refusal))?;
     Ok((first_sot, parts))
+}
+
+#[cfg(feature = "parts")]
+fn read_codestream(file: &OsStr) -> Result<Vec<u8>, String> {
+    let bytes = read(file)?;
+    let range = found::codestream(&bytes).map_err(|refusal| trouble(file, &refusal))?;
+    Ok(bytes[range].to_vec())
 }
 
 fn read(file: &OsStr) -> Result<Vec<u8>, String> {

@@ -3,6 +3,8 @@
 #![forbid(unsafe_code)]
 
 mod commands;
+#[cfg(feature = "parts")]
+mod found;
 
 use std::env;
 use std::ffi::OsString;

@@ -2,8 +2,6 @@
 
 use original::markers::build_minimal_codestream as original;
 
-use super::cases::{inputs, random_input};
-use super::Input;
 use crate::compare::{Comparison, Run};
 use crate::judge::{Case, Told};
 use crate::lent::{room, Lent};
@@ -12,6 +10,7 @@ use crate::model::{rows, ROW};
 use crate::sample::damage::damage;
 use crate::sample::parts::{many, sot};
 use crate::sample::sizes::{header, SAMPLE_A};
+use crate::sample::tiles::{inputs, random_input, Input};
 use crate::sample::zeros::zeros;
 use crate::tally::hex;
 

@@ -5,10 +5,10 @@ use std::cell::RefCell;
 
 use original::markers;
 
-use super::Input;
 use crate::bench::{row, Benchmark};
 use crate::sample::parts;
 use crate::sample::sizes::{header, SAMPLE_A};
+use crate::sample::tiles::Input;
 
 pub const BENCHMARK: Benchmark = Benchmark {
     name: super::NAME,

@@ -7,6 +7,7 @@ pub mod headers;
 pub mod parts;
 pub mod short;
 pub mod sizes;
+pub mod tiles;
 pub mod tlms;
 pub mod zeros;
 

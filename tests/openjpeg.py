@@ -1,0 +1,510 @@
+#!/usr/bin/env python3
+"""Our tile-parts and tiles beside OpenJPEG's: tests/openjpeg.py [--seconds N] [--bin DIR]
+
+Makes small images, compresses them by opj_compress over a grid of options, and for each file holds
+  the tile-parts that `winterhasp parts` lists to those that OpenJPEG meets as it decodes, and
+  each tile that `winterhasp tile` cuts, decoded, to the crop of the whole picture, decoded.
+A tile is moved to the origin as it is cut. Where image and tile origin are 0 and tile sides and
+subsampling are powers of two, a side at least 2^levels times the subsampling, every tile has to be
+equal; elsewhere right and wrong ones are counted by kind of grid.
+Status 1 if anything differs that must not, 2 if the run can't be made.
+"""
+
+import argparse
+import ctypes
+import itertools
+import random
+import re
+import shutil
+import struct
+import subprocess
+import sys
+import tempfile
+import time
+from collections import Counter
+from concurrent.futures import ThreadPoolExecutor
+from pathlib import Path
+from typing import NamedTuple
+
+ROOT = Path(__file__).resolve().parent.parent
+SEED = 15444
+WORKERS = 2
+MUST = "origin 0, powers of two, large enough"
+
+
+class Image(NamedTuple):
+    """Size in samples of a component that isn't subsampled; (dx, dy) of each component."""
+
+    width: int
+    height: int
+    components: tuple = ((1, 1),)
+    bits: int = 8
+
+    def sampling(self):
+        return ":".join(f"{dx}x{dy}" for dx, dy in self.components)
+
+
+class Grid(NamedTuple):
+    """What decides where tiles stand and how they are divided."""
+
+    image: Image
+    tile: tuple
+    levels: int
+    origin: tuple = (0, 0)
+    tile_origin: tuple = (0, 0)
+    subsampling: tuple = (1, 1)
+
+    def words(self):
+        pair = "{0[0]},{0[1]}".format
+        words = ["-t", pair(self.tile), "-n", str(self.levels + 1)]
+        for option, value, usual in [
+            ("-d", self.origin, (0, 0)),
+            ("-T", self.tile_origin, (0, 0)),
+            ("-s", self.subsampling, (1, 1)),
+        ]:
+            words += [option, pair(value)] if value != usual else []
+        return words
+
+
+class Siz(NamedTuple):
+    """A codestream's own account of image and tiles, with (dx, dy) of each component."""
+
+    size: tuple
+    origin: tuple
+    tile: tuple
+    tile_origin: tuple
+    components: list
+
+
+GRAY = Image(130, 100)
+GRAY_12 = Image(90, 70, bits=12)
+COLOUR = Image(97, 75, ((1, 1),) * 3)
+HALF_WIDTH = Image(128, 60, ((1, 1), (2, 1)))
+CHROMA_HALVED = Image(128, 96, ((1, 1), (2, 2), (2, 2), (1, 1)))
+NARROW = Image(3, 150)
+
+MANY_TILES = Grid(Image(130, 130), (8, 8), 2)
+
+GRIDS = [
+    *(Grid(GRAY, (64, 64), levels) for levels in range(7)),
+    Grid(GRAY, (32, 32), 5),
+    Grid(GRAY, (128, 64), 5),
+    Grid(GRAY, (32, 128), 3),
+    Grid(GRAY, (256, 256), 5),
+    Grid(NARROW, (64, 64), 5),
+    Grid(NARROW, (2, 32), 1),
+    Grid(GRAY_12, (32, 32), 4),
+    Grid(COLOUR, (32, 32), 5),
+    Grid(COLOUR, (64, 32), 2),
+    Grid(HALF_WIDTH, (64, 32), 4),
+    Grid(CHROMA_HALVED, (64, 64), 5),
+    Grid(CHROMA_HALVED, (32, 32), 4),
+    Grid(GRAY_12, (64, 64), 4, subsampling=(2, 2)),
+    Grid(COLOUR, (64, 64), 5, subsampling=(2, 1)),
+    Grid(GRAY_12, (128, 64), 4, subsampling=(4, 4)),
+    # side too small; opj_compress refuses one below 2^levels by itself
+    Grid(CHROMA_HALVED, (32, 32), 5),
+    Grid(HALF_WIDTH, (16, 16), 4),
+    Grid(COLOUR, (32, 32), 5, subsampling=(2, 2)),
+    Grid(GRAY_12, (64, 64), 5, subsampling=(4, 4)),
+    # subsampling not a power of two
+    Grid(GRAY_12, (128, 128), 5, subsampling=(3, 3)),
+    Grid(GRAY_12, (64, 64), 1, subsampling=(3, 1)),
+    # side not a power of two
+    Grid(GRAY, (130, 100), 5),
+    Grid(GRAY, (96, 96), 5),
+    Grid(GRAY, (96, 96), 1),
+    Grid(GRAY, (65, 64), 3),
+    Grid(COLOUR, (50, 40), 2),
+    Grid(GRAY, (50, 50), 0),
+    Grid(CHROMA_HALVED, (48, 48), 3),
+    Grid(GRAY_12, (96, 96), 5, subsampling=(3, 3)),
+    # origin not 0
+    Grid(GRAY, (64, 64), 3, origin=(5, 3)),
+    Grid(GRAY, (64, 64), 3, origin=(64, 64), tile_origin=(64, 64)),
+    Grid(GRAY, (64, 64), 3, origin=(32, 32), tile_origin=(32, 32)),
+    Grid(COLOUR, (64, 64), 5, origin=(7, 9), tile_origin=(3, 5)),
+    Grid(CHROMA_HALVED, (64, 64), 4, origin=(2, 2)),
+    Grid(GRAY_12, (50, 30), 2, origin=(11, 0), tile_origin=(11, 0)),
+]
+
+PROGRESSIONS = ["LRCP", "RLCP", "RPCL", "PCRL", "CPRL"]
+DIVISIONS = [[], ["-TP", "R"], ["-TP", "L"], ["-TP", "C"]]
+TLM = [[], ["-TLM"]]
+SUFFIXES = ["j2k", "jp2"]
+LAYERS = [[], ["-r", "20,5,1"]]
+EXTRAS = [[], ["-I"], ["-b", "32,16"], ["-SOP"], ["-PLT"], ["-c", "[128,128]"]]
+FILES_OF_A_GRID = 10
+
+
+def cases():
+    """(grid, other options, suffix) of each file, in an order that mixes them well."""
+    chance = random.Random(SEED)
+    ways = list(itertools.product(PROGRESSIONS, DIVISIONS, TLM, LAYERS, EXTRAS, SUFFIXES))
+    chance.shuffle(ways)
+    found = []
+    for grid, way in zip(GRIDS * FILES_OF_A_GRID + [MANY_TILES] * 2, ways):
+        progression, *options, suffix = way
+        found.append((grid, ["-p", progression, *itertools.chain(*options)], suffix))
+    chance.shuffle(found)
+    return found
+
+
+def give_up(why):
+    print(f"openjpeg: {why}", file=sys.stderr)
+    sys.exit(2)
+
+
+# Images
+
+
+def samples(image, dx, dy, salt):
+    """A slope, an edge and some noise, so that no two places look alike."""
+    chance = random.Random(f"{image} {salt}")
+    top = (1 << image.bits) - 1
+    for y in range(image.height // dy):
+        for x in range(image.width // dx):
+            edge = top // 3 if (x // 9 + y // 13) % 2 else 0
+            yield (x * 3 * dx + y * 5 * dy + salt * 40 + edge + chance.randrange(top // 8)) & top
+
+
+def write_image(image, folder):
+    """Gives the words that have opj_compress read it."""
+    planes = [list(samples(image, dx, dy, salt)) for salt, (dx, dy) in enumerate(image.components)]
+    code = "B" if image.bits <= 8 else ">H"
+    packed = lambda numbers: b"".join(struct.pack(code, number) for number in numbers)
+    head = f"{image.width} {image.height}\n{(1 << image.bits) - 1}\n".encode()
+    if len(planes) == 1:
+        path, content = folder / "image.pgm", b"P5\n" + head + packed(planes[0])
+    elif image.components == ((1, 1),) * 3:
+        path, content = folder / "image.ppm", b"P6\n" + head + packed(sum(zip(*planes), ()))
+    else:
+        path, content = folder / "image.raw", b"".join(map(packed, planes))
+    path.write_bytes(content)
+    if path.suffix != ".raw":
+        return ["-i", str(path)]
+    form = f"{image.width},{image.height},{len(planes)},{image.bits},u@{image.sampling()}"
+    return ["-i", str(path), "-F", form, "-mct", "0"]
+
+
+def write_images(folder):
+    """The words for each image of the grids."""
+    words = {}
+    for image in {grid.image for grid in GRIDS + [MANY_TILES]}:
+        place = folder / f"image{len(words)}"
+        place.mkdir()
+        words[image] = write_image(image, place)
+    return words
+
+
+# OpenJPEG
+
+
+def install():
+    if shutil.which("opj_compress") is None:
+        for words in ["update -q", "install -y -q libopenjp2-tools"]:
+            if subprocess.run(["apt-get", *words.split()]).returncode:
+                give_up("libopenjp2-tools can't be installed")
+
+
+def told(words):
+    """A program's answer, as bytes, or none if it fails."""
+    ended = subprocess.run([str(word) for word in words], capture_output=True)
+    return ended.stdout if ended.returncode == 0 else None
+
+
+class Library:
+    """The library behind the tools. opj_dump reads the main header alone and lists no tile-part;
+    the library's own dump, asked for once the file is decoded, lists them all. Not strictly
+    decoded, as there are files of its own that it fails to decode otherwise."""
+
+    SUFFIX_FORMATS = {"j2k": 0, "jp2": 2}
+    MAIN_HEADER_INDEX = 16
+    IS_INPUT = 1
+    # More than opj_dparameters_t has.
+    PARAMETERS = 1 << 16
+
+    def __init__(self):
+        self.opj = ctypes.CDLL("libopenjp2.so.7")
+        self.libc = ctypes.CDLL(None)
+        for function in [
+            self.opj.opj_create_decompress,
+            self.opj.opj_stream_create_default_file_stream,
+            self.libc.fopen,
+        ]:
+            function.restype = ctypes.c_void_p
+
+    def dump(self, path, out):
+        """Writes the index of `path` to `out`; whether that went well."""
+        opj = self.opj
+        codec = ctypes.c_void_p(opj.opj_create_decompress(self.SUFFIX_FORMATS[path.suffix[1:]]))
+        parameters = ctypes.create_string_buffer(self.PARAMETERS)
+        opj.opj_set_default_decoder_parameters(parameters)
+        name = str(path).encode()
+        stream = ctypes.c_void_p(opj.opj_stream_create_default_file_stream(name, self.IS_INPUT))
+        image = ctypes.c_void_p()
+        decoded = (
+            opj.opj_setup_decoder(codec, parameters)
+            and opj.opj_decoder_set_strict_mode(codec, False)
+            and opj.opj_read_header(stream, codec, ctypes.byref(image))
+            and opj.opj_decode(codec, stream, image)
+        )
+        if decoded:
+            file = ctypes.c_void_p(self.libc.fopen(str(out).encode(), b"w"))
+            opj.opj_dump_codec(codec, self.MAIN_HEADER_INDEX, file)
+            self.libc.fclose(file)
+        opj.opj_stream_destroy(stream)
+        opj.opj_destroy_codec(codec)
+        opj.opj_image_destroy(image)
+        return bool(decoded)
+
+    def index(self, path):
+        """Where the codestream starts in the file, and (tile, offset in the file, length) of each
+        tile-part in the file's order; nothing if the file can't be decoded."""
+        out = path.with_suffix(".index")
+        return read_index(out.read_text()) if self.dump(path, out) else None
+
+
+def read_index(text):
+    start = int(re.search(r"Main header start position=(\d+)", text)[1])
+    tile, parts = None, []
+    line = r"nb of tile-part in tile \[(\d+)\]|star_pos=(\d+), end_header=\d+, end_pos=(\d+)"
+    for new_tile, begin, end in re.findall(line, text):
+        if new_tile:
+            tile = int(new_tile)
+        else:
+            parts.append((tile, int(begin), int(end) - int(begin)))
+    return start, sorted(parts, key=lambda part: part[1])
+
+
+def decoded(path, *words):
+    """(width, height, bytes of a sample, samples) of each component, or none."""
+    out = path.with_suffix(".pgx")
+    if told(["opj_decompress", "-quiet", "-i", path, "-o", out, *words]) is None:
+        return None
+    planes = []
+    while (plane := path.with_name(f"{path.stem}_{len(planes)}.pgx")).exists():
+        planes.append(read_pgx(plane.read_bytes()))
+        plane.unlink()
+    return planes
+
+
+def read_pgx(content):
+    head, _, body = content.partition(b"\n")
+    bits, width, height = map(int, head.split()[-3:])
+    return width, height, (bits + 7) // 8, body
+
+
+# Codestreams, ISO/IEC 15444-1 Annex A, and tiles, Annex B
+
+TLM_MARKER, SOT_MARKER = 0xFF55, 0xFF90
+
+
+def markers(codestream):
+    """Of the main header, behind SOC; OpenJPEG writes no delimiters there."""
+    found, at = [], 2
+    while not found or found[-1] != SOT_MARKER:
+        marker, length = struct.unpack_from(">HH", codestream, at)
+        found.append(marker)
+        at += 2 + length
+    return found
+
+
+def read_siz(codestream):
+    numbers = struct.unpack_from(">8IH", codestream, 8)
+    pairs = [numbers[at : at + 2] for at in range(0, 8, 2)]
+    components = [struct.unpack_from("BB", codestream, 43 + 3 * at) for at in range(numbers[8])]
+    return Siz(*pairs, components)
+
+
+def is_power_of_two(number):
+    return number & (number - 1) == 0
+
+
+def kind(siz, levels):
+    """What keeps tiles from being moved to the origin without loss, or MUST."""
+    needed = [max(factors) << levels for factors in zip(*siz.components)]
+    reasons = []
+    if siz.origin != (0, 0) or siz.tile_origin != (0, 0):
+        reasons.append("origin not 0")
+    if not all(map(is_power_of_two, siz.tile)):
+        reasons.append("side not a power of two")
+    if not all(map(is_power_of_two, sum(siz.components, ()))):
+        reasons.append("subsampling not a power of two")
+    if any(side < least for side, least in zip(siz.tile, needed)):
+        reasons.append("side too small")
+    return ", ".join(reasons) or MUST
+
+
+def up(number, divisor):
+    return -(-number // divisor)
+
+
+def bounds(siz, tile):
+    """((x0, x1), (y0, y1)) of a tile on the reference grid."""
+    columns = up(siz.size[0] - siz.tile_origin[0], siz.tile[0])
+    found = []
+    for axis, place in enumerate((tile % columns, tile // columns)):
+        start = siz.tile_origin[axis] + place * siz.tile[axis]
+        end = min(start + siz.tile[axis], siz.size[axis])
+        found.append((max(start, siz.origin[axis]), end))
+    return found
+
+
+def crop(siz, tile, planes):
+    """A tile's part of the whole picture, as `decoded` gives it."""
+    found = []
+    for factors, (width, _, sample, body) in zip(siz.components, planes):
+        left, top = (up(start, factor) for start, factor in zip(siz.origin, factors))
+        axes = zip(bounds(siz, tile), factors)
+        (x0, x1), (y0, y1) = ([up(edge, factor) for edge in edges] for edges, factor in axes)
+        starts = [((y - top) * width + x0 - left) * sample for y in range(y0, y1)]
+        rows = [body[start : start + (x1 - x0) * sample] for start in starts]
+        found.append((x1 - x0, y1 - y0, sample, b"".join(rows)))
+    return found
+
+
+# One file
+
+# In place of a kind, for a file of which no tile is looked at.
+NOT_MADE = "not compressed by opj_compress"
+LISTS_DIFFER = "tile-parts differ"
+
+
+class Seen(NamedTuple):
+    """What came of one file: tiles counted under their outcome, troubles as text."""
+
+    kind: str
+    outcomes: Counter
+    troubles: list
+
+    @classmethod
+    def without_tiles(cls, kind, name):
+        return cls(kind, Counter(), [f"{kind}: {name}"])
+
+
+class Run:
+    def __init__(self, binary, folder, seconds):
+        self.winterhasp = binary
+        self.folder = folder
+        self.until = time.monotonic() + seconds
+        self.library = Library()
+        self.images = write_images(folder)
+
+    def file(self, number, grid, options, suffix):
+        """What was seen, or none if time is up."""
+        if time.monotonic() > self.until:
+            return None
+        folder = self.folder / f"file{number}"
+        folder.mkdir()
+        path = folder / f"whole.{suffix}"
+        words = [*grid.words(), *options]
+        image = grid.image
+        size = f"{image.width} by {image.height}, {image.bits} bits at {image.sampling()}"
+        name = f"{suffix} of {size}: {' '.join(words)}"
+        try:
+            made = told(["opj_compress", *self.images[image], "-o", path, *words])
+            if made is None or not path.exists():
+                return Seen.without_tiles(NOT_MADE, name)
+            return self.compared(path, grid, name)
+        finally:
+            shutil.rmtree(folder)
+
+    def compared(self, path, grid, name):
+        (start, length), *_ = [*self.numbers("codestream", path), (0, 0)]
+        parts = [(tile, start + at, size) for tile, at, size in self.numbers("parts", path)]
+        if self.library.index(path) != (start, parts):
+            return Seen.without_tiles(LISTS_DIFFER, name)
+        # As a bare codestream, since a JP2's colours may be converted.
+        codestream = path.with_name("codestream.j2k")
+        codestream.write_bytes(path.read_bytes()[start : start + length])
+        siz = read_siz(codestream.read_bytes())
+        planes = decoded(codestream)
+        seen = Seen(kind(siz, grid.levels), Counter(), [])
+        for tile in sorted({tile for tile, _, _ in parts}):
+            outcome = self.outcome(path, tile, planes and crop(siz, tile, planes))
+            seen.outcomes[outcome] += 1
+            if seen.kind == MUST and outcome != "equal":
+                seen.troubles.append(f"tile {tile} {outcome}: {name}")
+        return seen
+
+    def numbers(self, command, path):
+        """Those of each line that is printed; no line if it is refused."""
+        lines = (told([self.winterhasp, command, path]) or b"").splitlines()
+        return [tuple(map(int, line.split())) for line in lines]
+
+    def outcome(self, path, tile, expected):
+        cut = path.with_name(f"tile{tile}.j2k")
+        if told([self.winterhasp, "tile", path, tile, cut]) is None:
+            return "not cut"
+        if TLM_MARKER in markers(cut.read_bytes()):
+            return "cut with TLM"
+        if not expected:
+            return "whole not decoded"
+        planes = decoded(cut, "-t", "0")
+        if not planes:
+            return "not decoded"
+        return "equal" if planes == expected else "different"
+
+
+# All of them
+
+
+def table(seen):
+    columns = ["equal", "different", "not decoded", "not cut", "cut with TLM", "whole not decoded"]
+    print("| kind of grid | files | tiles | " + " | ".join(columns) + " |")
+    print("|---|" + "---:|" * (2 + len(columns)))
+    for sort in sorted({one.kind for one in seen}, key=lambda sort: (sort != MUST, sort)):
+        chosen = [one for one in seen if one.kind == sort]
+        sums = sum((one.outcomes for one in chosen), Counter())
+        cells = [len(chosen), sum(sums.values()), *(sums[column] for column in columns)]
+        print(f"| {sort} | " + " | ".join(map(str, cells)) + " |")
+
+
+def summary(results):
+    """Prints it; whether all is as it must be. A file that wasn't made is none of our trouble."""
+    for trouble in itertools.chain(*(one.troubles for one in results if one)):
+        print(trouble)
+    seen = [one for one in results if one and one.kind != NOT_MADE]
+    table(seen)
+    if None in results:
+        print(f"{results.count(None)} files left out, as time was up")
+    troubles = list(itertools.chain(*(one.troubles for one in seen)))
+    same = sum(one.kind != LISTS_DIFFER for one in seen)
+    equal = sum(one.outcomes["equal"] for one in seen if one.kind == MUST)
+    print(
+        f"openjpeg: {len(seen)} files, {same} tile-part lists equal, "
+        f"{equal} tiles equal where they must be, {len(troubles)} different"
+    )
+    return not troubles and equal > 0
+
+
+def binary(folder):
+    """The command line, if it has all that is asked of it."""
+    path = Path(folder).resolve() / "winterhasp"
+    if not path.exists():
+        give_up(f"no {path}; build it by cargo build --release in rust/")
+    usage = subprocess.run([path], capture_output=True, text=True).stderr
+    for command in ["codestream", "parts", "tile"]:
+        if f"winterhasp {command} " not in usage:
+            give_up(f"{path} has no command {command}")
+    return path
+
+
+def main():
+    arguments = argparse.ArgumentParser(description=__doc__.splitlines()[0])
+    arguments.add_argument("--seconds", type=float, default=100)
+    arguments.add_argument("--bin", default=ROOT / "rust/target/release")
+    chosen = arguments.parse_args()
+    program = binary(chosen.bin)
+    install()
+    with tempfile.TemporaryDirectory() as folder:
+        run = Run(program, Path(folder), chosen.seconds)
+        with ThreadPoolExecutor(WORKERS) as workers:
+            files = [workers.submit(run.file, at, *case) for at, case in enumerate(cases())]
+            results = [file.result() for file in files]
+    return 0 if summary(results) else 1
+
+
+if __name__ == "__main__":
+    sys.exit(main())
