@@ -1,4 +1,4 @@
-//! Runs every function beside the original: `compare [--seconds N] [--seed S] [--only NAME]`, of
+//! Runs every function beside the original: `compare [--seconds N | --minutes N] [--seed S] [--only NAME]`, of
 //! the functions with that in their name.
 //! Status 1 if anything differed or too little was seen, 2 for misuse, 3 without the original.
 
@@ -37,7 +37,7 @@ const COMPARISONS: &[Comparison] = &[
     beside::growth::STEP,
 ];
 
-const USAGE: &str = "usage: compare [--seconds N] [--seed S] [--only NAME]";
+const USAGE: &str = "usage: compare [--seconds N | --minutes N] [--seed S] [--only NAME]";
 
 /// `seconds` are for the whole run, in equal parts for each function; more where that is too short.
 struct Options {
@@ -98,6 +98,7 @@ fn options() -> Option<Options> {
         let word = arguments.next()?;
         match name.as_str() {
             "--seconds" => options.seconds = word.parse().ok()?,
+            "--minutes" => options.seconds = word.parse::<u64>().ok()?.checked_mul(60)?,
             "--seed" => options.seed = word.parse().ok()?,
             "--only" => options.only = word,
             _ => return None,
