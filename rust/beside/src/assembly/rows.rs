@@ -43,8 +43,24 @@ fn theirs(timed: &Timed) -> Option<u64> {
     Some(built.len() as u64)
 }
 
+/// As many bytes, copied from one place to another and nothing else.
+fn copied(timed: &Timed) -> Option<u64> {
+    let mut out = timed.out.borrow_mut();
+    let whole = &timed.input.codestream;
+    out[..whole.len()].copy_from_slice(whole);
+    Some(out.len() as u64)
+}
+
 fn rows() {
-    for (count, size) in [(1, 14), (1, 65_536), (16, 65_536), (1000, 100)] {
+    for (count, size) in [
+        (1, 14),
+        (1, 1 << 10),
+        (16, 1 << 16),
+        (1, 1 << 20),
+        (1_000, 1_049),
+        (1, 1 << 26),
+        (1_000, 67_109),
+    ] {
         let range = |k: usize| ((k * size) as u64, size as u64);
         let input = Input {
             header: header(SAMPLE_A),
@@ -59,5 +75,11 @@ fn rows() {
         };
         let name = format!("{count} parts of {size} bytes");
         row(&name, &timed, ours, theirs);
+        row(
+            &format!("{name}, beside a plain copy"),
+            &timed,
+            ours,
+            copied,
+        );
     }
 }

@@ -63,6 +63,8 @@ fn rows() {
     measure("1,000 TLM of 10 entries", tlms::many(1000, 10, 0x60));
     measure("1 TLM of 10,000 entries", tlms::many(1, 10_000, 0x60));
     measure("1 TLM of 32,765 entries", tlms::many(1, 32_765, 0x00));
+    measure("100 TLM of 10,000 entries", tlms::many(100, 10_000, 0x60));
+    measure("no TLM, SOT at 4 MB", padded(1 << 22));
 }
 
 fn padded(first_sot: usize) -> Vec<u8> {
