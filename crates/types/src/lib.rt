@@ -3,7 +3,7 @@
 pub mod markers;
 
 ghost use mathlib.Core.Path.{_≡_};
-ghost use Prim.Native.Nat.{_+_, _≤_};
+ghost use Prim.Native.Nat.{_+_, _≤_, _<_, _^_};
 ghost use lib.ListN.{length};
 ghost use Rattle.numbers.specs.Bytes.{put};
 ghost use Rattle.types.specs.Offsets.{inFile, inCodestream};
@@ -65,10 +65,19 @@ impl FileOffset {
 }
 
 // One tile-part: its tile (Isot), where it starts in the codestream, and its length from the SOT marker on.
+#[repr(C)]
 pub struct TilePartEntry {
     pub tile_index: u16,
     pub offset: u64,
     pub length: u64,
+}
+
+// Where a tile-part ends.
+pub fn end_of(entry: TilePartEntry) -> u64
+    requires { ⌜ entry .offset + entry .length < 2 ^ 64 ⌝ }
+    ensures { λ r. ⌜ r ≡ entry .offset + entry .length ⌝ }
+{
+    entry.offset + entry.length
 }
 
 // The bytes of a record in a lent table: index 2, offset 8, length 8.
