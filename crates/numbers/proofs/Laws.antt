@@ -44,19 +44,19 @@ unfolding bytesOf
 length-bytes zero v = refl
 length-bytes (suc k) v = rw (length-append, length-bytes k (v / 256)) (add-one k)
 
--- ---- bytes replaced
+-- ---- items replaced
 
-pub length-put : (s : List ℕ) (at : ℕ) (bs : List ℕ) → at + length bs ≤ length s → length (put s at bs) ≡ length s
+pub length-put : {A : Type 0} (s : List A) (at : ℕ) (bs : List A) → at + length bs ≤ length s → length (put s at bs) ≡ length s
 unfolding put
 length-put s at bs h = simp (length-append, length-take, length-drop) (omega arith)
 
 -- nothing replaced
-pub put-none : (s : List ℕ) (at : ℕ) → put s at [] ≡ s
+pub put-none : {A : Type 0} (s : List A) (at : ℕ) → put s at [] ≡ s
 unfolding put
 put-none s at = ap (λ (n : ℕ). take at s ++ drop n s) (add-zero at) ∙ take-append-drop at s
 
 -- a replacement at the start
-pub put-start : (s bs : List ℕ) → put s 0 bs ≡ bs ++ drop (length bs) s
+pub put-start : {A : Type 0} (s bs : List A) → put s 0 bs ≡ bs ++ drop (length bs) s
 unfolding put
 put-start s bs = ap (λ (n : ℕ). bs ++ drop n s) (zero-add (length bs))
 
@@ -66,12 +66,12 @@ unfolding put
 put-sets bs s at h = sets-eq bs s at h ∙ append-assoc (take at s) bs (drop (at + length bs) s)
 
 -- two adjoining replacements are one
-pub put-put : (s : List ℕ) (at : ℕ) (xs ys : List ℕ) (n : ℕ) → length xs ≡ n → at + (n + length ys) ≤ length s
+pub put-put : {A : Type 0} (s : List A) (at : ℕ) (xs ys : List A) (n : ℕ) → length xs ≡ n → at + (n + length ys) ≤ length s
     → put (put s at xs) (at + n) ys ≡ put s at (xs ++ ys)
 unfolding put
-put-put s at xs ys n e h =
+put-put {A} s at xs ys n e h =
     let front : length (take at s ++ xs) ≡ at + n = simp (length-append, length-take) (omega arith) in
-    let tail : List ℕ = drop (at + n) s in
+    let tail : List A = drop (at + n) s in
     let cut : drop (length ys) tail ≡ drop (at + (n + length ys)) s = drop-drop (length ys) (at + n) s ∙ rw add-assoc in
     rw (e, ← append-assoc (take at s) xs tail, take-at (take at s ++ xs) tail (at + n) front)
     (rw (← front) (rw drop-append-add (rw (front, cut, length-append, e) (simp append-assoc))))

@@ -1,4 +1,4 @@
--- Big-endian numbers in a list of bytes, the bytes that hold a number, and a list with some of its bytes replaced.
+-- Big-endian numbers in a list of bytes, the bytes that hold a number, and a list with some of its items replaced.
 use Prim.Native.Nat.{ℕ, zero, suc, _+_, _*_, _/_, _%_}
 use mathlib.Core.List.{List, [], _∷_, _++_}
 use lib.ListN.{length, getD, take, drop}
@@ -13,6 +13,6 @@ unfoldable pub bytesOf : ℕ → ℕ → List ℕ
 bytesOf zero v = []
 bytesOf (suc k) v = bytesOf k (v / 256) ++ (v % 256 ∷ [])
 
--- s with the bytes from at on replaced by bs
-unfoldable pub put : List ℕ → ℕ → List ℕ → List ℕ
+-- s with what stands from at on replaced by bs
+unfoldable pub put : {A : Type 0} → List A → ℕ → List A → List A
 put s at bs = take at s ++ (bs ++ drop (at + length bs) s)
