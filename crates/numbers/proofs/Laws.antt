@@ -6,8 +6,8 @@ use native.Mathlib.Numerals.{add-one}
 use native.Mathlib.Omega.{arith}
 use mathlib.Core.Path.{_≡_, refl, sym, ap, ap₂, _∙_}
 use mathlib.Core.List.{List, [], _∷_, _++_, append-assoc, append-nil}
-use lib.ListN.{take-append-drop, length, getD, take, drop, length-append, length-take, length-drop, List·getD-append, drop-of-length-le}
-use lib.Seq.{take-length, take-all, length-take-le, getD-append-add, getD-append-seam, getD-take, getD-drop, sets, sets-eq, take-at, drop-drop, drop-append-add}
+use lib.ListN.{take-append-drop, length, getD, set, take, drop, length-append, length-take, length-drop, List·getD-append, drop-of-length-le}
+use lib.Seq.{take-length, take-all, length-take-le, getD-append-add, getD-append-seam, getD-take, getD-drop, set-split, sets, sets-eq, take-at, drop-drop, drop-append-add}
 use lib.Arith.{mod-mul, digits-div, digits-mod, digits-lt}
 use lib.Dec.{lit<}
 use Rattle.numbers.specs.Bytes.{be, bytesOf, put}
@@ -64,6 +64,11 @@ put-start s bs = ap (λ (n : ℕ). bs ++ drop n s) (zero-add (length bs))
 pub put-sets : (bs s : List ℕ) (at : ℕ) → at + length bs ≤ length s → sets s at bs ≡ put s at bs
 unfolding put
 put-sets bs s at h = sets-eq bs s at h ∙ append-assoc (take at s) bs (drop (at + length bs) s)
+
+-- a single store
+pub put-one : {A : Type 0} (s : List A) (at : ℕ) (x : A) → at < length s → set s at x ≡ put s at (x ∷ [])
+unfolding put
+put-one s at x h = set-split s at x h ∙ ap (λ (n : ℕ). take at s ++ (x ∷ drop n s)) (sym (add-one at))
 
 -- two adjoining replacements are one
 pub put-put : {A : Type 0} (s : List A) (at : ℕ) (xs ys : List A) (n : ℕ) → length xs ≡ n → at + (n + length ys) ≤ length s

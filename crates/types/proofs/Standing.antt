@@ -1,0 +1,59 @@
+-- How records stand in a table: as rows of bytes, or as themselves. A loop that fills a table, one record a turn, is argued once for both: what is left,
+-- put where the next record goes, makes the same table before a turn and after it.
+use Prim.Native.Nat.{ℕ, _+_, _≤_}
+use native.Mathlib.Omega.{arith}
+use mathlib.Core.Path.{_≡_, refl, sym, ap, _∙_}
+use mathlib.Core.List.{List, [], _∷_, _++_}
+use lib.ListN.{length, length-append}
+use Rattle.numbers.specs.Bytes.{put}
+use Rattle.numbers.proofs.Laws.{put-put, put-none, length-put}
+use Rattle.types.specs.declared.TilePartEntry.{TilePartEntry}
+use Rattle.types.specs.Row.{rowOf, rowsOf}
+use Rattle.types.proofs.Laws.{length-row}
+
+pub record Layout (B : Type 0) : Type 0 where
+  pub one : TilePartEntry → List B
+  pub all : List TilePartEntry → List B
+  pub width : ℕ
+  pub none : all [] ≡ []
+  pub more : (e : TilePartEntry) (es : List TilePartEntry) → all (e ∷ es) ≡ one e ++ all es
+  pub wide : (e : TilePartEntry) → length (one e) ≡ width
+
+pub rows-none : rowsOf [] ≡ []
+unfolding rowsOf
+rows-none = refl
+
+pub rows-more : (e : TilePartEntry) (es : List TilePartEntry) → rowsOf (e ∷ es) ≡ rowOf e ++ rowsOf es
+unfolding rowsOf
+rows-more e es = refl
+
+abbrev pub rows : Layout ℕ
+rows = record { one = rowOf; all = rowsOf; width = 18; none = rows-none; more = rows-more; wide = length-row }
+
+abbrev pub records : Layout TilePartEntry
+records = record { one = λ e. e ∷ []; all = λ es. es; width = 1; none = refl; more = λ e es. refl; wide = λ e. refl }
+
+module _ {B : Type 0} (L : Layout B) where
+  pub length-more : (e : TilePartEntry) (es : List TilePartEntry) → length (L .all (e ∷ es)) ≡ L .width + length (L .all es)
+  length-more e es = rw (L .more, length-append, L .wide)
+
+  -- nothing is left
+  pub put-last : (t : List B) (at : ℕ) → put t at (L .all []) ≡ t
+  put-last t at = rw (L .none) (put-none t at)
+
+  -- one more stands
+  pub record Stored (t next : List B) (at : ℕ) (e : TilePartEntry) (es : List TilePartEntry) : Type 0 where
+    pub same : length next ≡ length t
+    pub whole : put next (at + L .width) (L .all es) ≡ put t at (L .all (e ∷ es))
+
+  pub stored : {t next : List B} {at : ℕ} {e : TilePartEntry} (es : List TilePartEntry) → next ≡ put t at (L .one e) → at + length (L .all (e ∷ es)) ≤ length t
+      → Stored t next at e es
+  stored {t} {next} {at} {e} es new room =
+      let long = length-more e es in
+      record {
+        same = ap length new ∙ length-put t at (L .one e) (omega (arith, L .wide e));
+        whole =
+            ap (λ (x : List B). put x (at + L .width) (L .all es)) new
+            ∙ put-put t at (L .one e) (L .all es) (L .width) (L .wide e) (omega arith)
+            ∙ ap (put t at) (sym (L .more e es));
+      }
