@@ -6,7 +6,7 @@ use mathlib.Core.Path.{_≡_, refl, sym, ap, ap₂, _∙_}
 use mathlib.Core.List.{List, _++_}
 use lib.ListN.{length, drop, length-map}
 use lib.Dec.{leb}
-use borrow.Author.Tests.{le-leb, lt-leb}
+use borrow.Author.Tests.{le-leb, lt-leb, leb-true}
 use Rattle.numbers.specs.Bytes.{put}
 use Rattle.types.specs.Row.{rowsOf}
 use Rattle.types.proofs.Laws.{length-rows}
@@ -79,13 +79,24 @@ module _ (s : List ℕ) (start : ℕ) (table : List ℕ) where
 
 -- ---- what an accepting answer says
 
-accepted : (s : List ℕ) (start rows n : ℕ) (a : Scanned) → judged (scanFrom s start) ≡ a → withRoom rows a ≡ Table n → judged (scanFrom s start) ≡ Table n
+accepted : (s : List ℕ) (start rows n : ℕ) (a : Scanned) → judged (scanFrom s start) ≡ a → withRoom rows a ≡ Table n
+    → (judged (scanFrom s start) ≡ Table n) × (n ≤ rows)
 unfolding withRoom
-accepted s start rows n (Table m) e w = by-test (λ (a : Scanned). a ≡ Table n → judged (scanFrom s start) ≡ Table n) (leb m rows) (λ _ k. e ∙ k) (λ _ k. absurd (table-refused k)) w
+accepted s start rows n (Table m) e w =
+    by-test (λ (a : Scanned). a ≡ Table n → (judged (scanFrom s start) ≡ Table n) × (n ≤ rows)) (leb m rows)
+    (λ h k. let same : m ≡ n = cc in (e ∙ k, omega (arith, leb-true m rows h)))
+    (λ _ k. absurd (table-refused k)) w
 accepted s start rows n (Refused r) e w = absurd (table-refused w)
 
 -- a call that gives a table counted its records, and its scan was not refused
 pub answer-accepts : (s : List ℕ) (start rows n : ℕ) → scanned s start rows ≡ Table n
     → (scanFrom s start .ended ≡ ended) × (length (entriesFrom s start) ≡ n)
 unfolding scanned
-answer-accepts s start rows n e = judged-table s start n (accepted s start rows n (judged (scanFrom s start)) refl e)
+answer-accepts s start rows n e = judged-table s start n (accepted s start rows n (judged (scanFrom s start)) refl e .0)
+
+-- its table is of all records, and has room for them
+pub answer-counts : (s : List ℕ) (start rows n : ℕ) → scanned s start rows ≡ Table n
+    → (n ≡ length (entriesFrom s start)) × (n ≤ rows)
+unfolding scanned
+answer-counts s start rows n e =
+    let a = accepted s start rows n (judged (scanFrom s start)) refl e in (sym (judged-table s start n (a .0) .1), a .1)

@@ -3,7 +3,7 @@
 use Prim.Native.Nat.{ℕ, _+_, _-_, _≤_, _<_}
 use native.Mathlib.Omega.{arith}
 use mathlib.Core.Path.{_≡_, refl, sym, ap, _∙_}
-use mathlib.Core.Logic.{_⊎_, inl, inr}
+use mathlib.Core.Logic.{_⊎_, inl, inr, ⊎-elim}
 use mathlib.Core.Bool.{true, false}
 use mathlib.Core.List.{List, [], _∷_, map}
 use lib.ListN.{length}
@@ -16,10 +16,10 @@ use Rattle.types.specs.declared.TilePartEntry.{TilePartEntry}
 use Rattle.chain.specs.Chain.{on, Chain, Rises, also}
 use Rattle.chain.proofs.Laws.{chain-end, chain-on}
 use Rattle.parts.specs.Sot.{lsot, psot}
-use Rattle.parts.specs.Scan.{refusal, entryOf, eocAt, sotStepAt, scanStepAt, ScanEnd, ended, refused, moveOf, moveAt, scanFrom, visited, entriesFrom}
+use Rattle.parts.specs.Scan.{refusal, entryOf, partAt, eocAt, sotStepAt, scanStepAt, ScanEnd, ended, refused, moveOf, moveAt, scanFrom, visited, entriesFrom}
 use Rattle.parts.specs.declared.scan.ScanStep.{ScanStep}
 use Rattle.parts.specs.declared.scan.ScanStep.the-variants.{Part, Ended, Refused}
-use Rattle.numbers.proofs.Choice.{by-test}
+use Rattle.numbers.proofs.Choice.{by-test, by-bool}
 use Rattle.chain.proofs.Laws.{end-on}
 
 -- ---- the step, case by case
@@ -35,13 +35,27 @@ module _ (s : List ℕ) (at : ℕ) where
     sot-rest z = rw (eq-eqb _ _ ten, eq-eqb _ _ z)
 
     module _ (some : psot s at ≡ 0 → ⊥) where
-      pub sot-past : length s < at + psot s at → sotStepAt s at ≡ Refused (refusal 9 at)
+      psot-past : length s < at + psot s at → sotStepAt s at ≡ Refused (refusal 9 at)
       unfolding sotStepAt
-      sot-past h = rw (eq-eqb _ _ ten, ne-eqb _ _ some, lt-leb _ _ h)
+      psot-past h = rw (eq-eqb _ _ ten, ne-eqb _ _ some, lt-leb _ _ h)
 
       pub sot-part : at + psot s at ≤ length s → sotStepAt s at ≡ Part (entryOf s at (psot s at))
       unfolding sotStepAt
       sot-part h = rw (eq-eqb _ _ ten, ne-eqb _ _ some, le-leb _ _ h)
+
+    -- the same two by the record, whatever Psot is
+    module _ (here : at ≤ length s) where
+      pub sot-past : length s < at + partAt s at .length → sotStepAt s at ≡ Refused (refusal 9 at)
+      sot-past h =
+          by-bool (eqb (psot s at) 0)
+          (λ z. let k = rw z at h in absurd (omega arith))
+          (λ n. psot-past (eqb-false _ _ n) (rw n at h))
+
+      pub sot-found : at + partAt s at .length ≤ length s → sotStepAt s at ≡ Part (partAt s at)
+      sot-found h =
+          by-bool (eqb (psot s at) 0)
+          (λ z. rw z (sot-rest (eqb-true _ _ z)))
+          (λ n. rw n (sot-part (eqb-false _ _ n) (rw n at h)))
 
   pub step-outside : length s ≤ at → scanStepAt s at ≡ Ended
   unfolding scanStepAt
@@ -104,11 +118,14 @@ step-told s at =
 pub part-stands : (s : List ℕ) (at : ℕ) (e : TilePartEntry) → scanStepAt s at ≡ Part e → Stands s at e
 part-stands s at e found = rw found at (step-told s at)
 
+pub part-offset : (s : List ℕ) (at : ℕ) (e : TilePartEntry) → scanStepAt s at ≡ Part e → e .offset ≡ at
+part-offset s at e found = ap (λ (x : TilePartEntry). x .offset) (part-stands s at e found .entry)
+
 -- a tile-part is passed to where it ends
 pub part-on : (s : List ℕ) (at : ℕ) (e : TilePartEntry) → scanStepAt s at ≡ Part e → moveAt s at ≡ on (at + e .length)
 unfolding moveAt moveOf
 part-on s at e found =
-    ap moveOf found ∙ ap (λ (o : ℕ). on (o + e .length)) (ap (λ (x : TilePartEntry). x .offset) (part-stands s at e found .entry))
+    ap moveOf found ∙ ap (λ (o : ℕ). on (o + e .length)) (part-offset s at e found)
 
 -- the other way round, where the scan moves on a tile-part stands and ends there
 pub record Passed (s : List ℕ) (at next : ℕ) : Type 0 where
@@ -169,7 +186,39 @@ entries-part s at e found =
     let same : entryOf s at (at + e .length - at) ≡ e = ap (entryOf s at) (omega arith) ∙ sym (part-stands s at e found .entry) in
     ap (λ (c : Chain ScanEnd). map (visited s) (c .visits)) (scan-part s at e found) ∙ ap (λ (x : TilePartEntry). x ∷ rest) same
 
+-- ---- its next record, which the bytes there say
+
+pub record Next (s : List ℕ) (at : ℕ) : Type 0 where
+  pub room : at + 12 ≤ lib.ListN.length s
+  pub entries : entriesFrom s at ≡ partAt s at ∷ entriesFrom s (at + partAt s at .length)
+  pub some : 0 < partAt s at .length
+  pub inside : at + partAt s at .length ≤ lib.ListN.length s
+
+pub stands-part : (s : List ℕ) (at : ℕ) (e : TilePartEntry) → Stands s at e → e ≡ partAt s at
+stands-part s at e t =
+    let P : ℕ → Type 0 = λ (n : ℕ). e ≡ entryOf s at n in
+    by-test P (eqb (psot s at) 0)
+    (λ z. t .entry ∙ ap (entryOf s at) (⊎-elim (λ l. absurd (omega (arith, eqb-true (psot s at) 0 z))) (λ l. omega arith) (t .long)))
+    (λ n. t .entry ∙ ap (entryOf s at) (⊎-elim (λ l. sym l) (λ l. absurd (eqb-false (psot s at) 0 n (l .0))) (t .long)))
+
+next : (s : List ℕ) (at : ℕ) (found : ScanStep) → scanStepAt s at ≡ found → 0 < length (entriesFrom s at) → Next s at
+next s at (Part e) found h =
+    let t = part-stands s at e found in
+    let same : e ≡ partAt s at = stands-part s at e t in
+    let k = rw same at t in
+    record { room = t .room; entries = rw same at (entries-part s at e found); some = k .some; inside = k .inside }
+next s at Ended found h = absurd (omega (arith, ap length (entries-ended s at found)))
+next s at (Refused r) found h = absurd (omega (arith, ap length (entries-refused s at r found)))
+
+-- where records are left, one stands there
+pub entries-next : (s : List ℕ) (at : ℕ) → 0 < length (entriesFrom s at) → Next s at
+entries-next s at h = next s at (scanStepAt s at) refl h
+
 -- records, field by field
+pub same-entry : {i j at n m : ℕ} → i ≡ j → n ≡ m
+    → _≡_ {A = TilePartEntry} (record { «tile_index» = i; offset = at; length = n }) (record { «tile_index» = j; offset = at; length = m })
+same-entry e f = cc
+
 pub same-part : {i j at n m : ℕ} → i ≡ j → n ≡ m
     → _≡_ {A = ScanStep} (Part (record { «tile_index» = i; offset = at; length = n })) (Part (record { «tile_index» = j; offset = at; length = m }))
-same-part e f = cc
+same-part e f = ap Part (same-entry e f)

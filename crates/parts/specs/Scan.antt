@@ -27,6 +27,10 @@ entryOf s at n = record { «tile_index» = isot s at; offset = at; length = n }
 unfoldable pub eocAt : List ℕ → ℕ → Bool
 eocAt s at = leb (at + 2) (length s) && eqb (be 2 s at) EOC
 
+-- the record that an SOT gives: Psot 0 is to the codestream's end, otherwise Psot bytes
+abbrev pub partAt : List ℕ → ℕ → TilePartEntry
+partAt s at = entryOf s at (cond (eqb (psot s at) 0) (length s - at) (psot s at))
+
 -- at an SOT: 8; Psot 0, to the codestream's end; 9; otherwise Psot bytes, 1 to 11 too
 unfoldable pub sotStepAt : List ℕ → ℕ → ScanStep
 sotStepAt s at =

@@ -4,7 +4,7 @@ ghost use Prim.Native.Nat.{_+_, _*_, _/_, _≤_};
 ghost use lib.ListN.{length};
 ghost use Rattle.numbers.specs.Bytes.{put};
 ghost use Rattle.types.specs.Row.{rowsOf};
-ghost use Rattle.parts.specs.Scan.{eocAt, sotStepAt, scanStepAt, scanFrom, judged, entriesFrom, scanned, scannedTable};
+ghost use Rattle.parts.specs.Scan.{eocAt, partAt, sotStepAt, scanStepAt, scanFrom, judged, entriesFrom, scanned, scannedTable};
 use types::ROW;
 use types::Refusal;
 use types::TilePartEntry;
@@ -32,7 +32,30 @@ fn at_eoc(codestream: &[u8], at: usize) -> bool
     2 <= codestream.len() - at && numbers::read_u16(codestream, at) == EOC
 }
 
-// The fields after the marker: Lsot at 2, Isot at 4, Psot at 6.
+// The record of the tile-part whose SOT stands there: Isot at 4, Psot at 6. Psot 0 is to the codestream's end.
+pub fn part_at(codestream: &[u8], at: usize) -> TilePartEntry
+    requires { ⌜ at + 12 ≤ length (now codestream) ⌝ }
+    ensures { λ r. ⌜ r ≡ partAt (now (codestream .entry)) at ⌝ }
+{
+    let tile_index = numbers::read_u16(codestream, at + 4);
+    let psot = numbers::read_u32(codestream, at + 6) as u64;
+    let offset = at as u64;
+    if psot == 0 {
+        let rest = codestream.len() - at;
+        return TilePartEntry {
+            tile_index,
+            offset,
+            length: rest as u64,
+        };
+    }
+    TilePartEntry {
+        tile_index,
+        offset,
+        length: psot,
+    }
+}
+
+// Lsot stands at 2.
 fn sot_step(codestream: &[u8], at: usize) -> ScanStep
     requires { ⌜ at + 12 ≤ length (now codestream) ⌝ }
     ensures { λ r. ⌜ r ≡ sotStepAt (now (codestream .entry)) at ⌝ }
@@ -41,28 +64,15 @@ fn sot_step(codestream: &[u8], at: usize) -> ScanStep
     if numbers::read_u16(codestream, at + 2) != 10 {
         return ScanStep::Refused(Refusal { number: 8, place });
     }
-    let tile_index = numbers::read_u16(codestream, at + 4);
-    let psot = numbers::read_u32(codestream, at + 6) as usize;
+    let entry = part_at(codestream, at);
     let rest = codestream.len() - at;
-    if psot == 0 {
-        return ScanStep::Part(TilePartEntry {
-            tile_index,
-            offset: place,
-            length: rest as u64,
-        });
-    }
-    if rest < psot {
+    if (rest as u64) < entry.length {
         return ScanStep::Refused(Refusal { number: 9, place });
     }
-    ScanStep::Part(TilePartEntry {
-        tile_index,
-        offset: place,
-        length: psot as u64,
-    })
+    ScanStep::Part(entry)
 }
 
 pub fn scan_step(codestream: &[u8], at: usize) -> ScanStep
-    requires { ⌜ at ≤ length (now codestream) ⌝ }
     ensures { λ r. ⌜ r ≡ scanStepAt (now (codestream .entry)) at ⌝ }
 {
     if codestream.len() <= at {
@@ -85,7 +95,6 @@ pub fn scan_step(codestream: &[u8], at: usize) -> ScanStep
 
 // Counts the records, and writes none.
 fn judge(codestream: &[u8], start: usize) -> Scanned
-    requires { ⌜ start ≤ length (now codestream) ⌝ }
     ensures { λ r. ⌜ r ≡ judged (scanFrom (now (codestream .entry)) start) ⌝ }
 {
     let mut at = start;
@@ -95,7 +104,7 @@ fn judge(codestream: &[u8], start: usize) -> Scanned
         match step {
             ScanStep::Part(entry) => {
                 count += 1;
-                at += entry.length as usize;
+                at = types::end_of(entry) as usize;
             }
             ScanStep::Ended => return Scanned::Table(count),
             ScanStep::Refused(refusal) => return Scanned::Refused(refusal),
@@ -103,44 +112,50 @@ fn judge(codestream: &[u8], start: usize) -> Scanned
     }
 }
 
-// Writes the records, one row after the other.
-fn fill(codestream: &[u8], start: usize, table: &mut [u8])
-    requires { ⌜ start ≤ length (now codestream) ⌝ }
-    requires { ⌜ 18 * length (entriesFrom (now codestream) start) ≤ length (now table) ⌝ }
-    ensures { λ _. ⌜ now (table .exit) ≡ put (now (table .entry)) 0 (rowsOf (entriesFrom (now (codestream .entry)) start)) ⌝ }
+// What a scan into a table of so many rows answers; a start at or past the end gives no record.
+pub fn decide(codestream: &[u8], first_sot_offset: u64, rows: u64) -> Scanned
+    ensures { λ r. ⌜ r ≡ scanned (now (codestream .entry)) «first_sot_offset» rows ⌝ }
 {
-    let mut at = start;
-    let mut row: usize = 0;
-    loop {
-        let step = scan_step(codestream, at);
-        let ScanStep::Part(entry) = step else {
-            return;
-        };
-        types::write_row(table, row, entry);
-        row += ROW;
-        at += entry.length as usize;
-    }
-}
-
-// The table has as many rows as it has room for; a start at or past the end gives no record.
-pub fn scan_sot_markers(codestream: &[u8], first_sot_offset: u64, table: &mut [u8]) -> Scanned
-    ensures { λ r. ⌜ r ≡ scanned (now (codestream .entry)) «first_sot_offset» (length (now (table .entry)) / 18) ⌝ }
-    ensures { λ _. ⌜ now (table .exit) ≡ scannedTable (now (codestream .entry)) «first_sot_offset» (now (table .entry)) ⌝ }
-{
-    if codestream.len() as u64 <= first_sot_offset {
-        return Scanned::Table(0);
-    }
-    let start = first_sot_offset as usize;
-    let judgement = judge(codestream, start);
+    let judgement = judge(codestream, first_sot_offset as usize);
     let Scanned::Table(count) = judgement else {
         return judgement;
     };
-    if ((table.len() / ROW) as u64) < count {
+    if rows < count {
         return Scanned::Refused(Refusal {
             number: 18,
             place: count,
         });
     }
-    fill(codestream, start, table);
-    Scanned::Table(count)
+    judgement
+}
+
+// Writes the records, one row after the other.
+fn fill(codestream: &[u8], start: usize, count: usize, table: &mut [u8])
+    requires { ⌜ count ≡ length (entriesFrom (now codestream) start) ⌝ }
+    requires { ⌜ 18 * count ≤ length (now table) ⌝ }
+    ensures { λ _. ⌜ now (table .exit) ≡ put (now (table .entry)) 0 (rowsOf (entriesFrom (now (codestream .entry)) start)) ⌝ }
+{
+    let mut at = start;
+    let mut row: usize = 0;
+    let mut i: usize = 0;
+    while i < count {
+        let entry = part_at(codestream, at);
+        types::write_row(table, row, entry);
+        row += ROW;
+        at = types::end_of(entry) as usize;
+        i += 1;
+    }
+}
+
+// The table has as many rows as it has room for.
+pub fn scan_sot_markers(codestream: &[u8], first_sot_offset: u64, table: &mut [u8]) -> Scanned
+    ensures { λ r. ⌜ r ≡ scanned (now (codestream .entry)) «first_sot_offset» (length (now (table .entry)) / 18) ⌝ }
+    ensures { λ _. ⌜ now (table .exit) ≡ scannedTable (now (codestream .entry)) «first_sot_offset» (now (table .entry)) ⌝ }
+{
+    let answer = decide(codestream, first_sot_offset, (table.len() / ROW) as u64);
+    let Scanned::Table(count) = answer else {
+        return answer;
+    };
+    fill(codestream, first_sot_offset as usize, count as usize, table);
+    answer
 }

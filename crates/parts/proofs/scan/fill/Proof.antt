@@ -1,114 +1,115 @@
--- The rows that are left, put where the next row goes, make the table that all rows make of the one lent; a turn puts one.
+-- The rows that are left, put where the next row goes, make the table that all rows make of the one lent; a turn puts one, and where
+-- records are left one stands at the position.
 use Prim.Native.Nat.{ℕ, _+_, _*_, _-_, _≤_}
 use native.Mathlib.Omega.{arith}
 use native.Mathlib.Nat.{add-zero}
 use mathlib.Core.List.{List, [], _∷_}
 use mathlib.Core.Path.{_≡_, refl, sym, ap, _∙_}
-use mathlib.Core.Logic.{⊎-elim}
 use lib.ListN.{length, take-append-drop}
-use borrow.Author.Needs.{needs}
-use denote.Enum.Declared.{tagOf}
-use Rattle.parts.proofs.Scans.{part-stands, entries-part, entries-ended, entries-refused}
-use Rattle.parts.proofs.scan.ScanStep.{the-type}
-use Rattle.parts.specs.declared.scan.ScanStep.the-variants.{Part, Ended, Refused}
-use Rattle.parts.specs.declared.scan.ScanStep.{ScanStep}
-use Rattle.parts.specs.Scan.{scanStepAt, entriesFrom}
+use Rattle.parts.proofs.Scans.{Next, entries-next}
+use Rattle.parts.specs.Scan.{partAt, entriesFrom}
 use Rattle.types.specs.declared.TilePartEntry.{TilePartEntry}
 use Rattle.types.proofs.Laws.{length-row, length-rows}
 use Rattle.types.specs.Row.{rowOf, rowsOf}
 use Rattle.numbers.proofs.Laws.{put-put, length-put}
 use Rattle.numbers.specs.Bytes.{put}
-use types.Run.{OneOf}
 use Rattle.parts.proofs.scan.fill.Statement.{statement}
 use Rattle.parts.proofs.scan.fill.Tie as tie
 
--- so many bytes of rows were written up to here
-record Filled (s : List ℕ) (start : ℕ) (lent table : List ℕ) (at row : ℕ) : Type 0 where
-  inside : at ≤ length s
+-- so many records were written up to here
+record Filled (s : List ℕ) (start count : ℕ) (lent table : List ℕ) (at row i : ℕ) : Type 0 where
+  left : i + length (entriesFrom s at) ≡ count
   same : length table ≡ length lent
   room : row + 18 * length (entriesFrom s at) ≤ length table
   whole : put table row (rowsOf (entriesFrom s at)) ≡ put lent 0 (rowsOf (entriesFrom s start))
 
-module _ {s : List ℕ} {start : ℕ} {lent table : List ℕ} {at row : ℕ} where
-  -- a tile-part has room for its row
-  row-room : {e : TilePartEntry} → scanStepAt s at ≡ Part e → Filled s start lent table at row → row + 18 ≤ length table
-  row-room {e} found i = omega (arith, ap length (entries-part s at e found), i .room)
+module _ {s : List ℕ} {start count : ℕ} {lent table : List ℕ} {at row i : ℕ} where
+  -- a record that is left has room for its row
+  row-room : Next s at → Filled s start count lent table at row i → row + 18 ≤ length table
+  row-room n f = omega (arith, ap length (n .entries), f .room)
 
-  turn : {e : TilePartEntry} {next : List ℕ} → scanStepAt s at ≡ Part e → next ≡ put table row (rowOf e) → Filled s start lent table at row
-      → Filled s start lent next (at + e .length) (row + 18)
+  turn : {e : TilePartEntry} {next : List ℕ} {to : ℕ} → Next s at → e ≡ partAt s at → next ≡ put table row (rowOf e) → to ≡ e .offset + e .length
+      → Filled s start count lent table at row i → Filled s start count lent next to (row + 18) (i + 1)
   unfolding rowsOf
-  turn {e} {next} found stored i =
-      let rest : List TilePartEntry = entriesFrom s (at + e .length) in
-      let more = ap lib.ListN.length (entries-part s at e found) in
-      let row-fits = row-room found i in
-      let kept : lib.ListN.length next ≡ lib.ListN.length table = ap lib.ListN.length stored ∙ length-put table row (rowOf e) (omega (arith, length-row e)) in
-      let whole : put next (row + 18) (rowsOf rest) ≡ put table row (rowsOf (e ∷ rest)) =
-      ap (λ (t : List ℕ). put t (row + 18) (rowsOf rest)) stored
-      ∙ put-put table row (rowOf e) (rowsOf rest) 18 (length-row e) (omega (arith, length-rows rest, i .room)) in
-      record {
-        inside = part-stands s at e found .inside;
-        same = kept ∙ i .same;
-        room = omega (arith, i .room);
-        whole = whole ∙ ap (λ (es : List TilePartEntry). put table row (rowsOf es)) (sym (entries-part s at e found)) ∙ i .whole;
-      }
+  turn {e} {next} {to} n here stored there f =
+      let p : TilePartEntry = partAt s at in
+      let rest : List TilePartEntry = entriesFrom s (at + p .length) in
+      let end : to ≡ at + p .length = there ∙ ap (λ (x : TilePartEntry). x .offset + x .length) here in
+      let row-fits = row-room n f in
+      let more = ap lib.ListN.length (n .entries) in
+      let new : next ≡ put table row (rowOf p) = stored ∙ ap (λ (x : TilePartEntry). put table row (rowOf x)) here in
+      let kept : lib.ListN.length next ≡ lib.ListN.length table = ap lib.ListN.length new ∙ length-put table row (rowOf p) (omega (arith, length-row p)) in
+      let whole : put next (row + 18) (rowsOf rest) ≡ put table row (rowsOf (p ∷ rest)) =
+      ap (λ (t : List ℕ). put t (row + 18) (rowsOf rest)) new
+      ∙ put-put table row (rowOf p) (rowsOf rest) 18 (length-row p) (omega (arith, length-rows rest, f .room)) in
+      rw end
+      (record {
+        left = omega (arith, f .left);
+        same = kept ∙ f .same;
+        room = omega (arith, f .room);
+        whole = whole ∙ ap (λ (es : List TilePartEntry). put table row (rowsOf es)) (sym (n .entries)) ∙ f .whole;
+      })
 
--- no tile-part, no record
-none : (s : List ℕ) (at : ℕ) (step : ScanStep) → scanStepAt s at ≡ step → OneOf (1 ∷ 2 ∷ []) (tagOf the-type step) → entriesFrom s at ≡ []
-none s at (Part e) found k = absurd (⊎-elim (λ z. omega arith) (λ z. omega arith) k)
-none s at Ended found k = entries-ended s at found
-none s at (Refused r) found k = entries-refused s at r found
+no-entries : (es : List TilePartEntry) → length es ≡ 0 → es ≡ []
+no-entries [] h = refl
+no-entries (e ∷ es) h = absurd (omega arith)
 
 put-none : (s : List ℕ) (at : ℕ) → put s at (rowsOf []) ≡ s
 unfolding put rowsOf
 put-none s at = rw add-zero (take-append-drop at s)
 
 abbrev Inv-loop : tie.InvT-loop
-Inv-loop codestream start table₀ at₀ row₀ table at row = Filled codestream start table₀ table at row
+Inv-loop codestream start count table₀ at₀ row₀ i₀ table at row i = Filled codestream start count table₀ table at row i
 
 abbrev μ-loop : tie.MeasureT-loop
-μ-loop codestream start table₀ at₀ row₀ table at row = length codestream - at
+μ-loop codestream start count table₀ at₀ row₀ i₀ table at row i = count - i
 
--- the step's answer taken apart: the tile-part that stands here
-found : (c : tie.After-step Inv-loop μ-loop)
-    → scanStepAt (c .before .before .before .before .before .before .args .codestream .now) (c .before .before .before .loop .at) ≡ Part (c .step .given .0 .0)
-found c = sym (c .before .before .scan-step .ensures) ∙ c .step .given .1
+-- while records are left, one stands here
+stands : (c : tie.In-loop Inv-loop μ-loop) → Next (c .before .before .before .before .args .codestream .now) (c .before .loop .at)
+stands c = entries-next _ _ (omega arith)
 
 loop-holds : tie.Need-loop-holds Inv-loop μ-loop
-loop-holds c = record { inside = search needs; same = refl; room = search needs; whole = refl }
+loop-holds c =
+    let counted = c .before .before .pre .0 in
+    record { left = omega arith; same = refl; room = omega arith; whole = refl }
 
-scan-step-requires : tie.Need-scan-step-requires Inv-loop μ-loop
-scan-step-requires c κs = c .loop .inv .inside
-
-enum-known-step : tie.Need-enum-known-step Inv-loop μ-loop
-enum-known-step c = search needs
-
-same-length : tie.Need-same-length Inv-loop μ-loop
-same-length c = c .before .before .loop .inv .same
-
-returns : tie.Need-returns Inv-loop μ-loop
-returns c =
-    let l = c .before .before .loop in
-    sym (put-none _ _)
-    ∙ ap (λ (es : List TilePartEntry). put (l .table) (l .row) (rowsOf es)) (sym (none _ _ _ (sym (c .before .scan-step .ensures)) (c .match .keys2)))
-    ∙ l .inv .whole
+part-at-requires : tie.Need-part-at-requires Inv-loop μ-loop
+part-at-requires c κs = stands c .room
 
 write-row-requires : tie.Need-write-row-requires Inv-loop μ-loop
-write-row-requires c κs = row-room (found (c .before .before)) (c .before .before .before .before .before .loop .inv)
+write-row-requires c κs = row-room (stands (c .before .before)) (c .before .before .before .loop .inv)
 
 add-row : tie.Need-add-row Inv-loop μ-loop
 add-row c =
-    let l = c .before .before .before .before .before .before .before .before .loop in
-    let h = row-room (found (c .before .before .before .before .before)) (l .inv) in
+    let l = c .before .before .before .before .before .before .loop in
+    let h = row-room (stands (c .before .before .before .before .before)) (l .inv) in
     omega (arith, l .inv .same)
 
-add-at : tie.Need-add-at Inv-loop μ-loop
-add-at c = let h = part-stands _ _ _ (found (c .before .before .before .before .before)) in omega arith
+end-of-requires : tie.Need-end-of-requires Inv-loop μ-loop
+end-of-requires c κs =
+    let p = c .before .before .before .before in
+    let h = stands (p .before) in
+    omega (arith, ap (λ (e : TilePartEntry). e .offset + e .length) (p .part-at .ensures))
+
+add-i : tie.Need-add-i Inv-loop μ-loop
+add-i c = omega arith
 
 loop-less : tie.Need-loop-less Inv-loop μ-loop
-loop-less c = let h = part-stands _ _ _ (found (c .before .before .before .before .before)) in omega arith
+loop-less c = omega arith
 
 loop-again : tie.Need-loop-again Inv-loop μ-loop
-loop-again c = turn (found (c .before .before .before .before .before)) (c .before .before .write-row .ensures) (c .before .before .before .before .before .before .before .before .loop .inv)
+loop-again c =
+    let p = c .before .before .before .before .before in
+    turn (stands (p .before)) (p .part-at .ensures) (c .before .before .before .write-row .ensures) (c .end-of .ensures) (p .before .before .loop .inv)
+
+same-length : tie.Need-same-length Inv-loop μ-loop
+same-length c = c .before .loop .inv .same
+
+returns : tie.Need-returns Inv-loop μ-loop
+returns c =
+    let l = c .before .loop in
+    let none : entriesFrom (c .before .before .before .before .args .codestream .now) (l .at) ≡ [] = no-entries _ (omega arith) in
+    sym (put-none _ _) ∙ ap (λ (es : List TilePartEntry). put (l .table) (l .row) (rowsOf es)) (sym none) ∙ l .inv .whole
 
 pub fill-spec : {M : Type 1} → statement M
 fill-spec =
@@ -117,12 +118,12 @@ fill-spec =
     Inv-loop
     μ-loop
     loop-holds
-    scan-step-requires
-    enum-known-step
-    same-length
-    returns
+    part-at-requires
     write-row-requires
     add-row
-    add-at
+    end-of-requires
+    add-i
     loop-less
-    loop-again)
+    loop-again
+    same-length
+    returns)

@@ -5,7 +5,7 @@ use mathlib.Core.List.{List}
 use mathlib.Core.Path.{_≡_, refl, sym, ap, ap₂, _∙_}
 use lib.ListN.{length}
 use borrow.Author.Needs.{needs}
-use Rattle.parts.proofs.Scans.{part-stands, stop, scan-part, scan-ended, scan-refused}
+use Rattle.parts.proofs.Scans.{part-stands, part-offset, stop, scan-part, scan-ended, scan-refused}
 use Rattle.parts.specs.declared.scan.ScanStep.the-variants.{Part}
 use Rattle.parts.specs.Scan.{ScanEnd, scanStepAt, scanFrom, judged, endedAs}
 use Rattle.chain.specs.Chain.{Chain, also}
@@ -15,19 +15,20 @@ use Rattle.parts.proofs.scan.judge.Tie as tie
 
 -- so many records were counted up to here
 record Counted (s : List ℕ) (start at count : ℕ) : Type 0 where
-  inside : at ≤ length s
   few : count ≤ at
   total : count + length (scanFrom s at .visits) ≡ length (scanFrom s start .visits)
   ends : scanFrom s at .ended ≡ scanFrom s start .ended
 
 module _ {s : List ℕ} {start at count : ℕ} where
-  turn : {e : TilePartEntry} → scanStepAt s at ≡ Part e → Counted s start at count → Counted s start (at + e .length) (count + 1)
+  turn : {e : TilePartEntry} {to : ℕ} → scanStepAt s at ≡ Part e → to ≡ e .offset + e .length → Counted s start at count
+      → Counted s start to (count + 1)
   unfolding also
-  turn {e} found i =
+  turn {e} {to} found there i =
       let p = part-stands s at e found in
+      let end : to ≡ at + e .length = there ∙ ap (λ (o : ℕ). o + e .length) (part-offset s at e found) in
       let visits = ap (λ (c : Chain ScanEnd). lib.ListN.length (c .visits)) (scan-part s at e found) in
       let ends = ap (λ (c : Chain ScanEnd). c .ended) (scan-part s at e found) in
-      record { inside = p .inside; few = omega arith; total = omega arith; ends = sym ends ∙ i .ends }
+      rw end (record { few = omega arith; total = omega arith; ends = sym ends ∙ i .ends })
 
   last : {a : ScanEnd} → scanFrom s at ≡ stop at a → Counted s start at count → endedAs a count ≡ judged (scanFrom s start)
   unfolding judged
@@ -47,10 +48,10 @@ found : (c : tie.After-step Inv-loop μ-loop)
 found c = sym (c .before .before .scan-step .ensures) ∙ c .step .given .1
 
 loop-holds : tie.Need-loop-holds Inv-loop μ-loop
-loop-holds c = record { inside = search needs; few = omega arith; total = omega arith; ends = refl }
+loop-holds c = record { few = omega arith; total = omega arith; ends = refl }
 
 scan-step-requires : tie.Need-scan-step-requires Inv-loop μ-loop
-scan-step-requires c κs = c .loop .inv .inside
+scan-step-requires c κs = search needs
 
 enum-known-step : tie.Need-enum-known-step Inv-loop μ-loop
 enum-known-step c = search needs
@@ -58,14 +59,18 @@ enum-known-step c = search needs
 add-count : tie.Need-add-count Inv-loop μ-loop
 add-count c = let h = part-stands _ _ _ (found (c .before)) in let i = c .before .before .before .before .loop .inv in omega arith
 
-add-at : tie.Need-add-at Inv-loop μ-loop
-add-at c = let h = part-stands _ _ _ (found (c .before)) in omega arith
+end-of-requires : tie.Need-end-of-requires Inv-loop μ-loop
+end-of-requires c κs =
+    let h = part-stands _ _ _ (found (c .before)) in
+    omega (arith, part-offset _ _ _ (found (c .before)))
 
 loop-less : tie.Need-loop-less Inv-loop μ-loop
-loop-less c = let h = part-stands _ _ _ (found (c .before)) in omega arith
+loop-less c =
+    let h = part-stands _ _ _ (found (c .before .before)) in
+    omega (arith, part-offset _ _ _ (found (c .before .before)))
 
 loop-again : tie.Need-loop-again Inv-loop μ-loop
-loop-again c = turn (found (c .before)) (c .before .before .before .before .loop .inv)
+loop-again c = turn (found (c .before .before)) (c .end-of .ensures) (c .before .before .before .before .before .loop .inv)
 
 enum-told : tie.Need-enum-told Inv-loop μ-loop
 enum-told c = search needs
@@ -91,7 +96,7 @@ judge-spec =
     scan-step-requires
     enum-known-step
     add-count
-    add-at
+    end-of-requires
     loop-less
     loop-again
     enum-told
