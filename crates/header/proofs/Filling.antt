@@ -11,13 +11,13 @@ use Rattle.chain.specs.Chain.{Visit}
 use Rattle.types.specs.declared.TilePartEntry.{TilePartEntry}
 use Rattle.types.specs.Row.{rowOf, rowsOf}
 use Rattle.types.proofs.Laws.{length-rows}
-use Rattle.header.specs.Tlm.{stlm, entryPlace, indexSize, Entry, entryIn, entriesIn, placed, total}
+use Rattle.header.specs.Tlm.{Entry, entriesIn, placed, total}
 use Rattle.header.specs.Walk.{walkStepAt, walkFrom}
 use Rattle.header.specs.Strip.{tlmEntries}
 use Rattle.header.specs.declared.walk.Passed.{Passed as Passing}
 use Rattle.header.specs.declared.walk.WalkStep.the-variants.{Passed}
 use Rattle.header.proofs.Tlms.{length-entries, length-placed, placed-append}
-use Rattle.header.proofs.Fills.{length-bound}
+use Rattle.header.proofs.Fills.{entry-bound}
 use Rattle.header.proofs.Walks.{passed-is}
 use Rattle.header.proofs.Visited.{entriesFrom, entries-plain, entries-tlm}
 
@@ -28,11 +28,11 @@ rows-append (e ∷ xs) ys = rw (rows-append xs ys) (sym (append-assoc (rowOf e) 
 
 -- an entry's length has at most 4 bytes
 total-bound : (s : List ℕ) → ((i : ℕ) → getD s i 0 < 256) → (at i n : ℕ) → total (entriesIn s at i n) ≤ n * 2 ^ 32
-unfolding total entriesIn entryIn
+unfolding total entriesIn
 total-bound s bytes at i zero = omega arith
 total-bound s bytes at i (suc n) =
     let rest = total-bound s bytes at (i + 1) n in
-    omega (arith, length-bound s at bytes (stlm s at) (entryPlace s at i + indexSize (stlm s at)))
+    omega (arith, entry-bound s at bytes i)
 
 pub record Filling (s lent : List ℕ) (first : ℕ) (table : List ℕ) (row offset at : ℕ) : Type 0 where
   pub inside : at ≤ length s

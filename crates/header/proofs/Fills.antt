@@ -1,6 +1,6 @@
 -- The rows of a TLM segment's entries, written one after the other: where an entry stands, what bounds it, what holds on the way, and one turn.
 use Prim.Native.Nat.{ℕ, zero, suc, _+_, _-_, _*_, _/_, _%_, _^_, _≤_, _<_}
-use native.Mathlib.Nat.{add-zero, add-assoc, suc-mul, add-mul, one-mul, sub-zero, mod-lt, mul-le-mul-right, div-mul-le-self, div-le-self, pow-le-pow-right}
+use native.Mathlib.Nat.{add-zero, add-assoc, suc-mul, sub-zero, mod-lt, mul-le-mul-right, div-mul-le-self, div-le-self, pow-le-pow-right}
 use native.Mathlib.Omega.{arith}
 use mathlib.Core.Path.{_≡_, refl, sym, ap, _∙_}
 use mathlib.Core.Logic.{_⊎_, inl, inr}
@@ -14,7 +14,7 @@ use Rattle.types.specs.declared.TilePartEntry.{TilePartEntry}
 use Rattle.types.specs.Row.{rowOf, rowsOf}
 use Rattle.types.proofs.Laws.{length-row, length-rows}
 use Rattle.header.specs.Step.{segmentEnd}
-use Rattle.header.specs.Tlm.{ltlm, stlm, indexSize, lengthSize, entrySize, entryCount, Accepted, Entry, entryPlace, entryIn, entriesIn, placed, total}
+use Rattle.header.specs.Tlm.{ltlm, stlm, indexSize, lengthSize, entrySize, entryCount, Accepted, Entry, entryPlace, entryIn, entriesIn, recordOf, placed, total}
 use Rattle.header.proofs.Tlms.{length-entries, length-placed}
 
 two-or-four : (bit : ℕ) → bit < 2 → (2 + bit * 2 ≡ 2) ⊎ (2 + bit * 2 ≡ 4)
@@ -48,30 +48,33 @@ module _ (s : List ℕ) (at : ℕ) where
         let power : 256 ^ lengthSize stlm ≤ 256 ^ 4 = pow-le-pow-right (lit< tt) small in
         omega (arith, be-bound (lengthSize stlm) s place bytes)
 
+    pub entry-bound : (i : ℕ) → entryIn s at i .bytes < 2 ^ 32
+    unfolding entryIn
+    entry-bound i = length-bound (stlm s at) (entryPlace s at i + indexSize (stlm s at))
+
   -- the first of the entries that are left
   pub entries-next : (i count : ℕ) → i < count → entriesIn s at i (count - i) ≡ entryIn s at i ∷ entriesIn s at (i + 1) (count - (i + 1))
   unfolding entriesIn
   entries-next i count h =
       let more : count - i ≡ suc (count - (i + 1)) = omega arith in rw more
 
-  -- what is read at an entry's place is the entry
-  pub entry-read : (i : ℕ) {place narrow wide index bytes : ℕ} → place ≡ entryPlace s at i → narrow ≡ indexSize (stlm s at) → wide ≡ lengthSize (stlm s at)
-      → index ≡ cond (eqb narrow 0) i (be narrow s place) → bytes ≡ be wide s (place + narrow)
-      → entryIn s at i ≡ record { index = index; bytes = bytes }
+  -- what is read at an entry's place is its record
+  pub entry-read : (i offset : ℕ) {narrow wide index bytes : ℕ} → narrow ≡ indexSize (stlm s at) → wide ≡ lengthSize (stlm s at)
+      → index ≡ cond (eqb narrow 0) i (be narrow s (at + 6 + i * (narrow + wide))) → bytes ≡ be wide s (at + 6 + i * (narrow + wide) + narrow)
+      → record { «tile_index» = index; offset = offset; length = bytes } ≡ recordOf offset (entryIn s at i)
   unfolding entryIn
-  entry-read i {place} {narrow} {wide} {index} {bytes} here n w x b =
-      let x' : index ≡ entryIn s at i .index = x ∙ rw (n, here) in
-      let b' : bytes ≡ entryIn s at i .bytes = b ∙ rw (n, w, here) in
-      λ j. record { index = sym x' j; bytes = sym b' j }
+  entry-read i offset {narrow} {wide} {index} {bytes} n w x b =
+      let x' : index ≡ entryIn s at i .index = x ∙ rw (n, w) in
+      let b' : bytes ≡ entryIn s at i .bytes = b ∙ rw (n, w) in
+      λ j. record { «tile_index» = x' j; offset = offset; length = b' j }
 
 put-none : (s : List ℕ) (at : ℕ) → put s at (rowsOf []) ≡ s
 unfolding put rowsOf
 put-none s at = rw add-zero (take-append-drop at s)
 
 -- the rows of the entries before the i-th are written: those of the entries that are left make the table that all make of the one lent
-pub record Filled (s : List ℕ) (at count from : ℕ) (lent : List ℕ) (row : ℕ) (table : List ℕ) (place offset to i : ℕ) : Type 0 where
+pub record Filled (s : List ℕ) (at count from : ℕ) (lent : List ℕ) (row : ℕ) (table : List ℕ) (offset to i : ℕ) : Type 0 where
   pub inside : i ≤ count
-  pub here : place ≡ entryPlace s at i
   pub below : to ≡ row + 18 * i
   pub same : length table ≡ length lent
   pub small : offset + (count - i) * 2 ^ 32 < 2 ^ 64
@@ -80,13 +83,12 @@ pub record Filled (s : List ℕ) (at count from : ℕ) (lent : List ℕ) (row : 
 
 module _ {s : List ℕ} {at count from : ℕ} {lent : List ℕ} {row : ℕ} where
   -- none is written
-  pub none-filled : from + count * 2 ^ 32 < 2 ^ 64 → Filled s at count from lent row lent (at + 6) from row 0
-  none-filled h =
-      record { inside = omega arith; here = omega arith; below = omega arith; same = refl; small = omega arith; sum = rw sub-zero; whole = rw sub-zero }
+  pub none-filled : from + count * 2 ^ 32 < 2 ^ 64 → Filled s at count from lent row lent from row 0
+  none-filled h = record { inside = omega arith; below = omega arith; same = refl; small = omega arith; sum = rw sub-zero; whole = rw sub-zero }
 
-  module _ {table : List ℕ} {place offset to i : ℕ} where
+  module _ {table : List ℕ} {offset to i : ℕ} where
     -- none is left
-    pub all-filled : count ≤ i → Filled s at count from lent row table place offset to i
+    pub all-filled : count ≤ i → Filled s at count from lent row table offset to i
         → (offset ≡ from + total (entriesIn s at 0 count)) × (table ≡ put lent row (rowsOf (placed from (entriesIn s at 0 count))))
     unfolding entriesIn placed total
     all-filled h f =
@@ -97,32 +99,32 @@ module _ {s : List ℕ} {at count from : ℕ} {lent : List ℕ} {row : ℕ} wher
         )
 
     -- one more row
-    pub turn : {index bytes : ℕ} {next : List ℕ} → i < count → row + 18 * count ≤ length lent → bytes < 2 ^ 32
-        → entryIn s at i ≡ record { index = index; bytes = bytes }
-        → next ≡ put table to (rowOf (record { «tile_index» = index; offset = offset; length = bytes }))
-        → Filled s at count from lent row table place offset to i
-        → Filled s at count from lent row next (place + entrySize (stlm s at)) (offset + bytes) (to + 18) (i + 1)
+    pub turn : {e : TilePartEntry} {next : List ℕ} → i < count → row + 18 * count ≤ length lent → ((k : ℕ) → getD s k 0 < 256)
+        → e ≡ recordOf offset (entryIn s at i) → next ≡ put table to (rowOf e)
+        → Filled s at count from lent row table offset to i
+        → Filled s at count from lent row next (e .offset + e .length) (to + 18) (i + 1)
     unfolding rowsOf placed total
-    turn {index} {bytes} {next} h room few found stored f =
-        let size : ℕ = entrySize (stlm s at) in
-        let e : TilePartEntry = record { «tile_index» = index; offset = offset; length = bytes } in
+    turn {e} {next} h room few found stored f =
+        let x : Entry = entryIn s at i in
+        let after : ℕ = offset + x .bytes in
+        let ends : e .offset + e .length ≡ after = ap (λ (r : TilePartEntry). r .offset + r .length) found in
         let rest : List Entry = entriesIn s at (i + 1) (count - (i + 1)) in
-        let left : entriesIn s at i (count - i) ≡ record { index = index; bytes = bytes } ∷ rest =
-        entries-next s at i count h ∙ ap (λ (x : Entry). x ∷ rest) found in
-        let rows : List TilePartEntry = placed (offset + bytes) rest in
+        let left : entriesIn s at i (count - i) ≡ x ∷ rest = entries-next s at i count h in
+        let rows : List TilePartEntry = placed after rest in
         let many : lib.ListN.length (rowsOf rows) ≡ 18 * (count - (i + 1)) =
-        length-rows rows ∙ ap (λ (n : ℕ). 18 * n) (length-placed (offset + bytes) rest ∙ length-entries s at (i + 1) (count - (i + 1))) in
+        length-rows rows ∙ ap (λ (n : ℕ). 18 * n) (length-placed after rest ∙ length-entries s at (i + 1) (count - (i + 1))) in
         let kept : lib.ListN.length next ≡ lib.ListN.length table =
         ap lib.ListN.length stored ∙ length-put table to (rowOf e) (omega (arith, length-row e)) in
-        let joined : put next (to + 18) (rowsOf rows) ≡ put table to (rowsOf (e ∷ rows)) =
+        let joined : put next (to + 18) (rowsOf rows) ≡ put table to (rowsOf (recordOf offset x ∷ rows)) =
         ap (λ (t : List ℕ). put t (to + 18) (rowsOf rows)) stored
-        ∙ put-put table to (rowOf e) (rowsOf rows) 18 (length-row e) (omega arith) in
-        record {
+        ∙ put-put table to (rowOf e) (rowsOf rows) 18 (length-row e) (omega arith)
+        ∙ ap (λ (r : TilePartEntry). put table to (rowsOf (r ∷ rows))) found in
+        rw ends
+        (record {
           inside = omega arith;
-          here = omega (arith, add-mul i 1 size, one-mul size);
           below = omega arith;
           same = kept ∙ f .same;
-          small = omega arith;
-          sum = add-assoc offset bytes (total rest) ∙ ap (λ (es : List Entry). offset + total es) (sym left) ∙ f .sum;
+          small = omega (arith, entry-bound s at few i);
+          sum = add-assoc offset (x .bytes) (total rest) ∙ ap (λ (es : List Entry). offset + total es) (sym left) ∙ f .sum;
           whole = joined ∙ ap (λ (es : List Entry). put table to (rowsOf (placed offset es))) (sym left) ∙ f .whole;
-        }
+        })

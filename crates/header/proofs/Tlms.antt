@@ -6,7 +6,7 @@ use mathlib.Core.List.{List, [], _∷_, _++_}
 use lib.ListN.{length}
 use borrow.Author.Tests.{eq-eqb, ne-eqb, le-leb, lt-leb}
 use Rattle.types.specs.declared.TilePartEntry.{TilePartEntry}
-use Rattle.header.specs.Tlm.{ltlm, stlm, indexSize, entryCount, refusal, tlmAt, Entry, entriesIn, placed, total}
+use Rattle.header.specs.Tlm.{ltlm, stlm, indexSize, entryCount, refusal, tlmAt, Entry, entriesIn, recordOf, placed, total}
 use Rattle.header.specs.declared.tlm.Tlm.the-variants.{Entries, Refused}
 
 module _ (s : List ℕ) (at : ℕ) where
@@ -41,5 +41,5 @@ pub placed-append : (from : ℕ) (xs ys : List Entry) → placed from (xs ++ ys)
 unfolding placed total
 placed-append from [] ys = ap (λ (n : ℕ). placed n ys) (sym (add-zero from))
 placed-append from (e ∷ xs) ys =
-    ap (λ (r : List TilePartEntry). record { «tile_index» = e .index; offset = from; length = e .bytes } ∷ r)
+    ap (λ (r : List TilePartEntry). recordOf from e ∷ r)
     (placed-append (from + e .bytes) xs ys ∙ rw (add-assoc from (e .bytes) (total xs)))

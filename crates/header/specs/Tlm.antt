@@ -76,10 +76,14 @@ unfolding entryIn
 entriesIn s at i zero = []
 entriesIn s at i (suc n) = entryIn s at i ∷ entriesIn s at (i + 1) n
 
+-- an entry's record, whose tile-part starts at a place
+abbrev pub recordOf : ℕ → Entry → TilePartEntry
+recordOf from e = record { «tile_index» = e .index; offset = from; length = e .bytes }
+
 -- entries as records: the first starts at a place, each next where the one before ends
 unfoldable pub placed : ℕ → List Entry → List TilePartEntry
 placed from [] = []
-placed from (e ∷ rest) = record { «tile_index» = e .index; offset = from; length = e .bytes } ∷ placed (from + e .bytes) rest
+placed from (e ∷ rest) = recordOf from e ∷ placed (from + e .bytes) rest
 
 -- how many bytes the entries' tile-parts have together
 unfoldable pub total : List Entry → ℕ

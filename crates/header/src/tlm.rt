@@ -8,7 +8,8 @@ ghost use lib.ListN.{length};
 ghost use lib.Dec.{eqb};
 ghost use Rattle.numbers.specs.Bytes.{be, put};
 ghost use Rattle.types.specs.Row.{rowsOf};
-ghost use Rattle.header.specs.Tlm.{indexSize, lengthSize, Within, tlmAt, Accepted, entryCount, entriesIn, placed, total};
+ghost use Rattle.header.specs.Tlm.{indexSize, lengthSize, Within, tlmAt, Accepted, entryCount};
+ghost use Rattle.header.specs.Tlm.{recordOf, entryIn, entriesIn, placed, total};
 use types::ROW;
 use types::Refusal;
 use types::TilePartEntry;
@@ -76,6 +77,25 @@ fn entry_length(codestream: &[u8], place: usize, size: usize) -> u64
     }
 }
 
+// The record of a segment's i-th entry, whose tile-part starts at `offset`.
+pub fn tlm_entry(codestream: &[u8], at: usize, i: usize, offset: u64) -> TilePartEntry
+    requires { ⌜ Accepted (now codestream) at ⌝ }
+    requires { ⌜ i < entryCount (now codestream) at ⌝ }
+    ensures { λ r. ⌜ r ≡ recordOf offset (entryIn (now (codestream .entry)) at i) ⌝ }
+{
+    let stlm = codestream[at + 5];
+    let index_bytes = index_size(stlm);
+    let length_bytes = length_size(stlm);
+    let place = at + 6 + i * (index_bytes + length_bytes);
+    let tile_index = entry_index(codestream, place, index_bytes, i as u16);
+    let length = entry_length(codestream, place + index_bytes, length_bytes);
+    TilePartEntry {
+        tile_index,
+        offset,
+        length,
+    }
+}
+
 // Writes the rows of a segment's entries from `row` on, the first of which starts at `from`, and gives where the last
 // one ends.
 pub fn fill_segment(
@@ -93,24 +113,13 @@ pub fn fill_segment(
     ensures { λ r. ⌜ r ≡ from + total (entriesIn (now (codestream .entry)) at 0 count) ⌝ }
     ensures { λ _. ⌜ now (table .exit) ≡ put (now (table .entry)) row (rowsOf (placed from (entriesIn (now (codestream .entry)) at 0 count))) ⌝ }
 {
-    let stlm = codestream[at + 5];
-    let index_bytes = index_size(stlm);
-    let length_bytes = length_size(stlm);
-    let mut place = at + 6;
     let mut offset = from;
     let mut to = row;
     let mut i: usize = 0;
     while i < count {
-        let tile_index = entry_index(codestream, place, index_bytes, i as u16);
-        let length = entry_length(codestream, place + index_bytes, length_bytes);
-        let entry = TilePartEntry {
-            tile_index,
-            offset,
-            length,
-        };
+        let entry = tlm_entry(codestream, at, i, offset);
         types::write_row(table, to, entry);
-        offset += length;
-        place += index_bytes + length_bytes;
+        offset = types::end_of(entry);
         to += ROW;
         i += 1;
     }
