@@ -1,5 +1,5 @@
 -- The answer of the whole reading, opened once: a law for each case.
-use Prim.Native.Nat.{ℕ, _+_, _*_, _/_, _≤_, _<_}
+use Prim.Native.Nat.{ℕ, _+_, _*_, _^_, _≤_, _<_}
 use native.Mathlib.Omega.{arith}
 use mathlib.Core.Path.{_≡_, refl, sym, ap, _∙_}
 use mathlib.Core.Bool.{true, false, _&&_}
@@ -22,6 +22,7 @@ use Rattle.header.specs.declared.parse.MainHeader.{MainHeader}
 use Rattle.header.specs.declared.parse.MainHeader.the-variants.{Header, Refused}
 use Rattle.numbers.proofs.Choice.{by-test}
 use Rattle.header.proofs.Tlms.{length-placed}
+use Rattle.header.proofs.Lengths.{entries-bound, stopped-inside}
 
 module _ (s : List ℕ) where
   pub judged-long : 0xffff_ffff < length s → judged s ≡ Refused (refusal 19 0)
@@ -84,24 +85,55 @@ judged-read s h e = rw e at (says s)
 
 -- ---- the answer, by the room
 
-module _ (s : List ℕ) (table out : ℕ) where
-  pub parsed-refused : (r : Refusal) → judged s ≡ Refused r → parsed s table out ≡ Refused r
+module _ (s : List ℕ) (rows room : ℕ) where
+  pub parsed-refused : (r : Refusal) → judged s ≡ Refused r → parsed s rows room ≡ Refused r
   unfolding parsed withRoom
-  parsed-refused r e = ap (withRoom (table / 18) out) e
+  parsed-refused r e = ap (withRoom rows room) e
 
   module _ (h : MainHeaderInfo) (e : judged s ≡ Header h) where
-    pub parsed-18 : table / 18 < h .«tlm_entries» → parsed s table out ≡ Refused (refusal 18 (h .«tlm_entries»))
+    pub parsed-18 : rows < h .«tlm_entries» → parsed s rows room ≡ Refused (refusal 18 (h .«tlm_entries»))
     unfolding parsed withRoom
-    parsed-18 few = ap (withRoom (table / 18) out) e ∙ rw (lt-leb _ _ few)
+    parsed-18 few = ap (withRoom rows room) e ∙ rw (lt-leb _ _ few)
 
-    module _ (rows : h .«tlm_entries» ≤ table / 18) where
-      pub parsed-17 : out < h .«decode_header_length» → parsed s table out ≡ Refused (refusal 17 (h .«decode_header_length»))
+    module _ (many : h .«tlm_entries» ≤ rows) where
+      pub parsed-17 : room < h .«decode_header_length» → parsed s rows room ≡ Refused (refusal 17 (h .«decode_header_length»))
       unfolding parsed withRoom
-      parsed-17 few = ap (withRoom (table / 18) out) e ∙ rw (le-leb _ _ rows, lt-leb _ _ few)
+      parsed-17 few = ap (withRoom rows room) e ∙ rw (le-leb _ _ many, lt-leb _ _ few)
 
-      pub parsed-header : h .«decode_header_length» ≤ out → parsed s table out ≡ Header h
+      pub parsed-header : h .«decode_header_length» ≤ room → parsed s rows room ≡ Header h
       unfolding parsed withRoom
-      parsed-header room = ap (withRoom (table / 18) out) e ∙ rw (le-leb _ _ rows, le-leb _ _ room)
+      parsed-header fits = ap (withRoom rows room) e ∙ rw (le-leb _ _ many, le-leb _ _ fits)
+
+-- ---- what an accepted answer says: the header, that there is room for what is then written, and that the records' offsets fit in 64 bits
+
+pub record Decided (s : List ℕ) (rows room : ℕ) (h : MainHeaderInfo) : Type 0 where
+  pub read : Read s h
+  pub many : length (tlmEntries s (walkFrom s 2 .visits)) ≤ rows
+  pub fits : length (decodeHeader s (walkFrom s 2 .visits)) ≤ room
+  pub bound : h .«first_sot_offset» .0 + length (tlmEntries s (walkFrom s 2 .visits)) * 2 ^ 32 < 2 ^ 64
+
+abbrev Decides : List ℕ → ℕ → ℕ → MainHeader → Type 0
+Decides s rows room (Header h) = Decided s rows room h
+Decides s rows room (Refused r) = Unit {0}
+
+decides : (s : List ℕ) (rows room : ℕ) (answer : MainHeader) → Says s answer → Decides s rows room (withRoom rows room answer)
+unfolding withRoom
+decides s rows room (Header h) r =
+    by-test (Decides s rows room) (leb (h .«tlm_entries») rows)
+    (λ many. by-test (Decides s rows room) (leb (h .«decode_header_length») room)
+    (λ fits. record {
+      read = r;
+      many = omega (arith, r .entries, leb-true (h .«tlm_entries») rows many);
+      fits = omega (arith, r .header, leb-true (h .«decode_header_length») room fits);
+      bound = omega (arith, r .first, r .short, entries-bound s (r .two), stopped-inside s (r .two));
+    })
+    (λ _. tt))
+    (λ _. tt)
+decides s rows room (Refused r) said = tt
+
+pub parsed-decided : (s : List ℕ) (rows room : ℕ) (h : MainHeaderInfo) → parsed s rows room ≡ Header h → Decided s rows room h
+unfolding parsed
+parsed-decided s rows room h e = rw e at (decides s rows room (judged s) (says s))
 
 -- what is written is one replacement from the start
 module _ (s : List ℕ) (h : MainHeaderInfo) (r : Read s h) where

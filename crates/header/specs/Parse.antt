@@ -1,5 +1,5 @@
 -- The whole reading of the main header: its answer, and what it leaves in the lent table and output (document 01, refusals 1 to 6 and 17 to 19).
-use Prim.Native.Nat.{ℕ, _+_, _*_, _/_}
+use Prim.Native.Nat.{ℕ, _+_, _*_}
 use mathlib.Core.Bool.{Bool, cond, _&&_}
 use mathlib.Core.List.{List, _++_}
 use lib.ListN.{length, drop}
@@ -46,9 +46,9 @@ withRoom rows room (Header h) =
     (Refused (refusal 18 (h .«tlm_entries»)))
 withRoom rows room (Refused r) = Refused r
 
--- the answer, for a table of so many bytes and an output of so many
+-- the answer, for a table of so many rows and an output of so many bytes
 unfoldable pub parsed : List ℕ → ℕ → ℕ → MainHeader
-parsed s table out = withRoom (table / 18) out (judged s)
+parsed s rows room = withRoom rows room (judged s)
 
 -- the records of the TLM segments: the first offset is the first SOT
 unfoldable pub tlmTable : List ℕ → List TilePartEntry

@@ -1,7 +1,7 @@
 // The reading of a main header: it decides everything first, then writes the decode header and the TLM records into lent
 // memory. A refusal leaves both as they were.
 ghost use mathlib.Core.Path.{_≡_};
-ghost use Prim.Native.Nat.{_+_, _*_, _≤_, _<_, _^_};
+ghost use Prim.Native.Nat.{_+_, _*_, _/_, _≤_, _<_, _^_};
 ghost use lib.ListN.{length};
 ghost use Rattle.numbers.specs.Bytes.{put};
 ghost use Rattle.types.specs.Row.{rowsOf};
@@ -87,6 +87,29 @@ fn judge(codestream: &[u8]) -> MainHeader
     walk(codestream)
 }
 
+// What the reading into a table of so many rows and an output of so many bytes answers.
+pub fn decide(codestream: &[u8], rows: u64, room: u64) -> MainHeader
+    ensures { λ r. ⌜ r ≡ parsed (now (codestream .entry)) rows room ⌝ }
+{
+    let judgement = judge(codestream);
+    let MainHeader::Header(info) = judgement else {
+        return judgement;
+    };
+    if rows < info.tlm_entries {
+        return MainHeader::Refused(Refusal {
+            number: 18,
+            place: info.tlm_entries,
+        });
+    }
+    if room < info.decode_header_length {
+        return MainHeader::Refused(Refusal {
+            number: 17,
+            place: info.decode_header_length,
+        });
+    }
+    judgement
+}
+
 // Writes the rows of all TLM entries, the first of which starts at `first_sot`.
 fn fill_table(codestream: &[u8], first_sot: u64, table: &mut [u8])
     requires { ⌜ 2 ≤ length (now codestream) ⌝ }
@@ -112,28 +135,16 @@ fn fill_table(codestream: &[u8], first_sot: u64, table: &mut [u8])
 }
 
 pub fn parse_main_header(codestream: &[u8], table: &mut [u8], out: &mut [u8]) -> MainHeader
-    ensures { λ r. ⌜ r ≡ parsed (now (codestream .entry)) (length (now (table .entry))) (length (now (out .entry))) ⌝ }
+    ensures { λ r. ⌜ r ≡ parsed (now (codestream .entry)) (length (now (table .entry)) / 18) (length (now (out .entry))) ⌝ }
     ensures { λ r. ⌜ now (table .exit) ≡ tableAfter r (now (codestream .entry)) (now (table .entry)) ⌝ }
     ensures { λ r. ⌜ now (out .exit) ≡ outAfter r (now (codestream .entry)) (now (out .entry)) ⌝ }
 {
-    let judgement = judge(codestream);
-    let MainHeader::Header(info) = judgement else {
-        return judgement;
+    let answer = decide(codestream, (table.len() / ROW) as u64, out.len() as u64);
+    let MainHeader::Header(info) = answer else {
+        return answer;
     };
-    if ((table.len() / ROW) as u64) < info.tlm_entries {
-        return MainHeader::Refused(Refusal {
-            number: 18,
-            place: info.tlm_entries,
-        });
-    }
-    if (out.len() as u64) < info.decode_header_length {
-        return MainHeader::Refused(Refusal {
-            number: 17,
-            place: info.decode_header_length,
-        });
-    }
     let first_sot = info.first_sot_offset;
     fill_table(codestream, first_sot.0, table);
     crate::strip::strip(codestream, out);
-    judgement
+    answer
 }

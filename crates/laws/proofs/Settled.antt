@@ -70,7 +70,7 @@ pub record Parsed : Type 0 where
 
 pub parse-main-header : (codestream table out : List ℕ)
     → Settles (λ (o : Parsed).
-    (o .answer ≡ parsed codestream (length table) (length out))
+    (o .answer ≡ parsed codestream (length table / 18) (length out))
     × (o .table ≡ tableAfter (o .answer) codestream table)
     × (o .out ≡ outAfter (o .answer) codestream out))
 parse-main-header codestream table out x y p q =

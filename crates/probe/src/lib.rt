@@ -3,6 +3,7 @@
 ghost use mathlib.Core.Path.{_≡_};
 ghost use mathlib.Core.Bool.{cond, not};
 ghost use mathlib.Core.List.{[]};
+ghost use Prim.Native.Nat.{_/_};
 ghost use lib.ListN.{length, getD};
 ghost use lib.Dec.{eqb};
 ghost use Rattle.header.specs.Parse.{parsed, tableAfter, outAfter};
@@ -53,12 +54,12 @@ pub extern "C" fn winterhasp_parse_main_header(
     decode_length: &mut u64,
     entries: &mut u64,
 ) -> u32
-    ensures { λ r. ⌜ r ≡ headerNumber (parsed (now (codestream .entry)) (length (now (table .entry))) (length (now (out .entry)))) ⌝ }
-    ensures { λ _. ⌜ now («first_sot» .exit) ≡ headerFirst (parsed (now (codestream .entry)) (length (now (table .entry))) (length (now (out .entry)))) ⌝ }
-    ensures { λ _. ⌜ now («decode_length» .exit) ≡ headerLength (parsed (now (codestream .entry)) (length (now (table .entry))) (length (now (out .entry)))) (now («decode_length» .entry)) ⌝ }
-    ensures { λ _. ⌜ now (entries .exit) ≡ headerEntries (parsed (now (codestream .entry)) (length (now (table .entry))) (length (now (out .entry)))) (now (entries .entry)) ⌝ }
-    ensures { λ _. ⌜ now (table .exit) ≡ tableAfter (parsed (now (codestream .entry)) (length (now (table .entry))) (length (now (out .entry)))) (now (codestream .entry)) (now (table .entry)) ⌝ }
-    ensures { λ _. ⌜ now (out .exit) ≡ outAfter (parsed (now (codestream .entry)) (length (now (table .entry))) (length (now (out .entry)))) (now (codestream .entry)) (now (out .entry)) ⌝ }
+    ensures { λ r. ⌜ r ≡ headerNumber (parsed (now (codestream .entry)) (length (now (table .entry)) / 18) (length (now (out .entry)))) ⌝ }
+    ensures { λ _. ⌜ now («first_sot» .exit) ≡ headerFirst (parsed (now (codestream .entry)) (length (now (table .entry)) / 18) (length (now (out .entry)))) ⌝ }
+    ensures { λ _. ⌜ now («decode_length» .exit) ≡ headerLength (parsed (now (codestream .entry)) (length (now (table .entry)) / 18) (length (now (out .entry)))) (now («decode_length» .entry)) ⌝ }
+    ensures { λ _. ⌜ now (entries .exit) ≡ headerEntries (parsed (now (codestream .entry)) (length (now (table .entry)) / 18) (length (now (out .entry)))) (now (entries .entry)) ⌝ }
+    ensures { λ _. ⌜ now (table .exit) ≡ tableAfter (parsed (now (codestream .entry)) (length (now (table .entry)) / 18) (length (now (out .entry)))) (now (codestream .entry)) (now (table .entry)) ⌝ }
+    ensures { λ _. ⌜ now (out .exit) ≡ outAfter (parsed (now (codestream .entry)) (length (now (table .entry)) / 18) (length (now (out .entry)))) (now (codestream .entry)) (now (out .entry)) ⌝ }
 {
     let answer = header::parse::parse_main_header(codestream, table, out);
     tell_header(answer, first_sot, decode_length, entries)
