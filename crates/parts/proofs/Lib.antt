@@ -1,4 +1,5 @@
 pub mod Scans
+pub mod Fills
 pub mod Answers
 pub mod Splits
 pub mod Adjoin
