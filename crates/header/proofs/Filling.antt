@@ -1,16 +1,16 @@
 -- The walk that writes the TLM records: what was written and the records that lie ahead make up the whole table.
 use Prim.Native.Nat.{ℕ, zero, suc, _+_, _*_, _^_, _≤_, _<_}
+use native.Mathlib.Nat.{mul-add}
 use native.Mathlib.Omega.{arith}
 use mathlib.Core.Path.{_≡_, refl, sym, ap, _∙_}
 use mathlib.Core.Bool.{true, false}
-use mathlib.Core.List.{List, [], _∷_, _++_, append-assoc}
+use mathlib.Core.List.{List, []}
 use lib.ListN.{length, getD, length-append}
 use Rattle.numbers.specs.Bytes.{put}
-use Rattle.numbers.proofs.Laws.{put-put, put-none, length-put}
+use Rattle.numbers.proofs.Laws.{put-put, length-put}
 use Rattle.chain.specs.Chain.{Visit}
 use Rattle.types.specs.declared.TilePartEntry.{TilePartEntry}
-use Rattle.types.specs.Row.{rowOf, rowsOf}
-use Rattle.types.proofs.Laws.{length-rows}
+use Rattle.types.proofs.Standing.{Layout, length-all, all-append, put-last}
 use Rattle.header.specs.Tlm.{Entry, entriesIn, placed, total}
 use Rattle.header.specs.Walk.{walkStepAt, walkFrom}
 use Rattle.header.specs.Strip.{tlmEntries}
@@ -21,11 +21,6 @@ use Rattle.header.proofs.Fills.{entry-bound}
 use Rattle.header.proofs.Walks.{passed-is}
 use Rattle.header.proofs.Visited.{entriesFrom, entries-plain, entries-tlm}
 
-rows-append : (xs ys : List TilePartEntry) → rowsOf (xs ++ ys) ≡ rowsOf xs ++ rowsOf ys
-unfolding rowsOf
-rows-append [] ys = refl
-rows-append (e ∷ xs) ys = rw (rows-append xs ys) (sym (append-assoc (rowOf e) (rowsOf xs) (rowsOf ys)))
-
 -- an entry's length has at most 4 bytes
 total-bound : (s : List ℕ) → ((i : ℕ) → getD s i 0 < 256) → (at i n : ℕ) → total (entriesIn s at i n) ≤ n * 2 ^ 32
 unfolding total entriesIn
@@ -34,69 +29,73 @@ total-bound s bytes at i (suc n) =
     let rest = total-bound s bytes at (i + 1) n in
     omega (arith, entry-bound s at bytes i)
 
-pub record Filling (s lent : List ℕ) (first : ℕ) (table : List ℕ) (row offset at : ℕ) : Type 0 where
-  pub inside : at ≤ length s
-  pub same : length table ≡ length lent
-  pub room : row + 18 * length (entriesFrom s at) ≤ length table
-  pub bound : offset + length (entriesFrom s at) * 2 ^ 32 < 2 ^ 64
-  pub whole : put table row (rowsOf (placed offset (entriesFrom s at))) ≡ put lent 0 (rowsOf (placed first (entriesFrom s 2)))
+module _ {B : Type 0} (L : Layout B) where
+  pub record Filling (s : List ℕ) (lent : List B) (first : ℕ) (table : List B) (row offset at : ℕ) : Type 0 where
+    pub inside : at ≤ length s
+    pub same : length table ≡ length lent
+    pub room : row + L .width * length (entriesFrom s at) ≤ length table
+    pub bound : offset + length (entriesFrom s at) * 2 ^ 32 < 2 ^ 64
+    pub whole : put table row (L .all (placed offset (entriesFrom s at))) ≡ put lent 0 (L .all (placed first (entriesFrom s 2)))
 
-pub filling-start : (s table : List ℕ) (first : ℕ) → 2 ≤ length s → 18 * length (entriesFrom s 2) ≤ length table
-    → first + length (entriesFrom s 2) * 2 ^ 32 < 2 ^ 64 → Filling s table first table 0 first 2
-filling-start s table first h room bound = record { inside = h; same = refl; room = omega arith; bound = bound; whole = refl }
+  pub filling-start : (s : List ℕ) (table : List B) (first : ℕ) → 2 ≤ length s → L .width * length (entriesFrom s 2) ≤ length table
+      → first + length (entriesFrom s 2) * 2 ^ 32 < 2 ^ 64 → Filling s table first table 0 first 2
+  filling-start s table first h room bound = record { inside = h; same = refl; room = omega arith; bound = bound; whole = refl }
 
-module _ (s lent : List ℕ) (first : ℕ) (table : List ℕ) (row offset at : ℕ) (c : Filling s lent first table row offset at) (p : Passing)
-    (found : walkStepAt s at ≡ Passed p) where
-  pub filling-plain : p .«is_tlm» ≡ false → Filling s lent first table row offset (p .next)
-  filling-plain plain =
-      let ahead = entries-plain s at p found plain in
-      record {
-        inside = passed-is s at p found .inside;
-        same = c .same;
-        room = rw ahead at (c .room);
-        bound = rw ahead at (c .bound);
-        whole = rw ahead at (c .whole);
-      }
+  module _ (s : List ℕ) (lent : List B) (first : ℕ) (table : List B) (row offset at : ℕ) (c : Filling s lent first table row offset at) (p : Passing)
+      (found : walkStepAt s at ≡ Passed p) where
+    pub filling-plain : p .«is_tlm» ≡ false → Filling s lent first table row offset (p .next)
+    filling-plain plain =
+        let ahead = entries-plain s at p found plain in
+        record {
+          inside = passed-is s at p found .inside;
+          same = c .same;
+          room = rw ahead at (c .room);
+          bound = rw ahead at (c .bound);
+          whole = rw ahead at (c .whole);
+        }
 
-  -- a segment's entries, with those that lie ahead
-  pub count-ahead : p .«is_tlm» ≡ true → length (entriesFrom s at) ≡ p .entries + length (entriesFrom s (p .next))
-  count-ahead is =
-      ap length (entries-tlm s at p found is)
-      ∙ length-append (entriesIn s at 0 (p .entries)) (entriesFrom s (p .next))
-      ∙ ap (λ (n : ℕ). n + length (entriesFrom s (p .next))) (length-entries s at 0 (p .entries))
+    -- a segment's entries, with those that lie ahead
+    pub count-ahead : p .«is_tlm» ≡ true → length (entriesFrom s at) ≡ p .entries + length (entriesFrom s (p .next))
+    count-ahead is =
+        ap length (entries-tlm s at p found is)
+        ∙ length-append (entriesIn s at 0 (p .entries)) (entriesFrom s (p .next))
+        ∙ ap (λ (n : ℕ). n + length (entriesFrom s (p .next))) (length-entries s at 0 (p .entries))
 
-  pub filling-tlm : ((i : ℕ) → getD s i 0 < 256) → p .«is_tlm» ≡ true → (written : List ℕ)
-      → written ≡ put table row (rowsOf (placed offset (entriesIn s at 0 (p .entries))))
-      → Filling s lent first written (row + p .entries * 18) (offset + total (entriesIn s at 0 (p .entries))) (p .next)
-  filling-tlm bytes is written e =
-      let here : List Entry = entriesIn s at 0 (p .entries) in
-      let after : ℕ = offset + total here in
-      let rows : List ℕ = rowsOf (placed offset here) in
-      let more = count-ahead is in
-      let long : length rows ≡ p .entries * 18 =
-      omega (arith, length-rows (placed offset here), length-placed offset here, length-entries s at 0 (p .entries)) in
-      let rest : List ℕ = rowsOf (placed after (entriesFrom s (p .next))) in
-      let rest-long : length rest ≡ 18 * length (entriesFrom s (p .next)) =
-      omega (arith, length-rows (placed after (entriesFrom s (p .next))), length-placed after (entriesFrom s (p .next))) in
-      let kept-length : length written ≡ length table = ap length e ∙ length-put table row rows (omega (arith, c .room)) in
-      record {
-        inside = passed-is s at p found .inside;
-        same = kept-length ∙ c .same;
-        room = omega (arith, c .room);
-        bound = omega (arith, c .bound, total-bound s bytes at 0 (p .entries));
-        whole =
-            rw e
-            (put-put table row rows rest (p .entries * 18) long (omega (arith, c .room))
-            ∙ ap (put table row)
-            (sym (ap (λ (es : List Entry). rowsOf (placed offset es)) (entries-tlm s at p found is)
-            ∙ ap rowsOf (placed-append offset here (entriesFrom s (p .next)))
-            ∙ rows-append (placed offset here) (placed after (entriesFrom s (p .next)))))
-            ∙ c .whole);
-      }
+    pub filling-tlm : {row′ : ℕ} → ((i : ℕ) → getD s i 0 < 256) → p .«is_tlm» ≡ true → (written : List B)
+        → written ≡ put table row (L .all (placed offset (entriesIn s at 0 (p .entries)))) → row′ ≡ row + L .width * p .entries
+        → Filling s lent first written row′ (offset + total (entriesIn s at 0 (p .entries))) (p .next)
+    filling-tlm {row′} bytes is written e place =
+        let here : List Entry = entriesIn s at 0 (p .entries) in
+        let after : ℕ = offset + total here in
+        let now : List TilePartEntry = placed offset here in
+        let later : List TilePartEntry = placed after (entriesFrom s (p .next)) in
+        let more = count-ahead is in
+        let wide : L .width * length (entriesFrom s at) ≡ L .width * p .entries + L .width * length (entriesFrom s (p .next)) =
+        ap (λ (n : ℕ). L .width * n) more ∙ mul-add (L .width) (p .entries) (length (entriesFrom s (p .next))) in
+        let long : length (L .all now) ≡ L .width * p .entries =
+        length-all L now ∙ ap (λ (n : ℕ). L .width * n) (length-placed offset here ∙ length-entries s at 0 (p .entries)) in
+        let rest-long : length (L .all later) ≡ L .width * length (entriesFrom s (p .next)) =
+        length-all L later ∙ ap (λ (n : ℕ). L .width * n) (length-placed after (entriesFrom s (p .next))) in
+        let kept-length : length written ≡ length table = ap length e ∙ length-put table row (L .all now) (omega (arith, c .room)) in
+        rw place
+        (record {
+          inside = passed-is s at p found .inside;
+          same = kept-length ∙ c .same;
+          room = omega (arith, c .room);
+          bound = omega (arith, c .bound, total-bound s bytes at 0 (p .entries));
+          whole =
+              rw e
+              (put-put table row (L .all now) (L .all later) (L .width * p .entries) long (omega (arith, c .room))
+              ∙ ap (put table row)
+              (sym (ap (λ (es : List Entry). L .all (placed offset es)) (entries-tlm s at p found is)
+              ∙ ap (L .all) (placed-append offset here (entriesFrom s (p .next)))
+              ∙ all-append L now later))
+              ∙ c .whole);
+        })
 
--- nothing lies ahead
-pub filling-done : (s lent : List ℕ) (first : ℕ) (table : List ℕ) (row offset at : ℕ) → Filling s lent first table row offset at → walkFrom s at .visits ≡ []
-    → table ≡ put lent 0 (rowsOf (placed first (entriesFrom s 2)))
-unfolding tlmEntries placed rowsOf
-filling-done s lent first table row offset at c none =
-    sym (put-none table row) ∙ ap (λ (vs : List Visit). put table row (rowsOf (placed offset (tlmEntries s vs)))) (sym none) ∙ c .whole
+  -- nothing lies ahead
+  pub filling-done : (s : List ℕ) (lent : List B) (first : ℕ) (table : List B) (row offset at : ℕ) → Filling s lent first table row offset at
+      → walkFrom s at .visits ≡ [] → table ≡ put lent 0 (L .all (placed first (entriesFrom s 2)))
+  unfolding tlmEntries placed
+  filling-done s lent first table row offset at c none =
+      sym (put-last L table row) ∙ ap (λ (vs : List Visit). put table row (L .all (placed offset (tlmEntries s vs)))) (sym none) ∙ c .whole

@@ -1,4 +1,5 @@
--- The rows of a TLM segment's entries, written one after the other: where an entry stands, what bounds it, what holds on the way, and one turn.
+-- The records of a TLM segment's entries, written one after the other in either layout: where an entry stands, what bounds it, what holds on the way,
+-- and one turn.
 use Prim.Native.Nat.{ℕ, zero, suc, _+_, _-_, _*_, _/_, _%_, _^_, _≤_, _<_}
 use native.Mathlib.Nat.{add-zero, add-assoc, suc-mul, sub-zero, mod-lt, mul-le-mul-right, div-mul-le-self, div-le-self, pow-le-pow-right}
 use native.Mathlib.Omega.{arith}
@@ -6,13 +7,12 @@ use mathlib.Core.Path.{_≡_, refl, sym, ap, _∙_}
 use mathlib.Core.Logic.{_⊎_, inl, inr}
 use mathlib.Core.Bool.{cond}
 use mathlib.Core.List.{List, [], _∷_}
-use lib.ListN.{length, getD, take-append-drop}
+use lib.ListN.{length, getD}
 use lib.Dec.{eqb, lit<}
 use Rattle.numbers.specs.Bytes.{be, put}
-use Rattle.numbers.proofs.Laws.{be-bound, put-put, length-put}
+use Rattle.numbers.proofs.Laws.{be-bound}
 use Rattle.types.specs.declared.TilePartEntry.{TilePartEntry}
-use Rattle.types.specs.Row.{rowOf, rowsOf}
-use Rattle.types.proofs.Laws.{length-row, length-rows}
+use Rattle.types.proofs.Standing.{Layout, length-more, length-all, put-last, stored}
 use Rattle.header.specs.Step.{segmentEnd}
 use Rattle.header.specs.Tlm.{ltlm, stlm, indexSize, lengthSize, entrySize, entryCount, Accepted, Entry, entryPlace, entryIn, entriesIn, recordOf, placed, total}
 use Rattle.header.proofs.Tlms.{length-entries, length-placed}
@@ -68,63 +68,76 @@ module _ (s : List ℕ) (at : ℕ) where
       let b' : bytes ≡ entryIn s at i .bytes = b ∙ rw (n, w) in
       λ j. record { «tile_index» = x' j; offset = offset; length = b' j }
 
-put-none : (s : List ℕ) (at : ℕ) → put s at (rowsOf []) ≡ s
-unfolding put rowsOf
-put-none s at = rw add-zero (take-append-drop at s)
+module _ {B : Type 0} (L : Layout B) where
+  -- the entries before the i-th are written: those that are left make the table that all make of the one lent
+  pub record Filled (s : List ℕ) (at count from : ℕ) (lent : List B) (row : ℕ) (table : List B) (offset to i : ℕ) : Type 0 where
+    pub inside : i ≤ count
+    pub same : length table ≡ length lent
+    pub room : to + length (L .all (placed offset (entriesIn s at i (count - i)))) ≤ length table
+    pub small : offset + (count - i) * 2 ^ 32 < 2 ^ 64
+    pub sum : offset + total (entriesIn s at i (count - i)) ≡ from + total (entriesIn s at 0 count)
+    pub whole : put table to (L .all (placed offset (entriesIn s at i (count - i)))) ≡ put lent row (L .all (placed from (entriesIn s at 0 count)))
 
--- the rows of the entries before the i-th are written: those of the entries that are left make the table that all make of the one lent
-pub record Filled (s : List ℕ) (at count from : ℕ) (lent : List ℕ) (row : ℕ) (table : List ℕ) (offset to i : ℕ) : Type 0 where
-  pub inside : i ≤ count
-  pub below : to ≡ row + 18 * i
-  pub same : length table ≡ length lent
-  pub small : offset + (count - i) * 2 ^ 32 < 2 ^ 64
-  pub sum : offset + total (entriesIn s at i (count - i)) ≡ from + total (entriesIn s at 0 count)
-  pub whole : put table to (rowsOf (placed offset (entriesIn s at i (count - i)))) ≡ put lent row (rowsOf (placed from (entriesIn s at 0 count)))
+  module _ {s : List ℕ} {at count from : ℕ} {lent : List B} {row : ℕ} where
+    -- none is written
+    pub none-filled : row + L .width * count ≤ length lent → from + count * 2 ^ 32 < 2 ^ 64 → Filled s at count from lent row lent from row 0
+    none-filled fits h =
+        let es : List TilePartEntry = placed from (entriesIn s at 0 count) in
+        let many : length es ≡ count = length-placed from (entriesIn s at 0 count) ∙ length-entries s at 0 count in
+        let long : length (L .all es) ≡ L .width * count = length-all L es ∙ ap (λ (n : ℕ). L .width * n) many in
+        record { inside = omega arith; same = refl; room = rw sub-zero (omega arith); small = omega arith; sum = rw sub-zero; whole = rw sub-zero }
 
-module _ {s : List ℕ} {at count from : ℕ} {lent : List ℕ} {row : ℕ} where
-  -- none is written
-  pub none-filled : from + count * 2 ^ 32 < 2 ^ 64 → Filled s at count from lent row lent from row 0
-  none-filled h = record { inside = omega arith; below = omega arith; same = refl; small = omega arith; sum = rw sub-zero; whole = rw sub-zero }
+    module _ {table : List B} {offset to i : ℕ} where
+      -- none is left
+      pub all-filled : count ≤ i → Filled s at count from lent row table offset to i
+          → (offset ≡ from + total (entriesIn s at 0 count)) × (table ≡ put lent row (L .all (placed from (entriesIn s at 0 count))))
+      unfolding entriesIn placed total
+      all-filled h f =
+          let none : count - i ≡ 0 = omega arith in
+          let last : entriesIn s at i (count - i) ≡ [] = rw none in (
+            sym (add-zero offset) ∙ ap (λ (es : List Entry). offset + total es) (sym last) ∙ f .sum,
+            sym (put-last L table to) ∙ ap (λ (es : List Entry). put table to (L .all (placed offset es))) (sym last) ∙ f .whole,
+          )
 
-  module _ {table : List ℕ} {offset to i : ℕ} where
-    -- none is left
-    pub all-filled : count ≤ i → Filled s at count from lent row table offset to i
-        → (offset ≡ from + total (entriesIn s at 0 count)) × (table ≡ put lent row (rowsOf (placed from (entriesIn s at 0 count))))
-    unfolding entriesIn placed total
-    all-filled h f =
-        let none : count - i ≡ 0 = omega arith in
-        let last : entriesIn s at i (count - i) ≡ [] = rw none in (
-          sym (add-zero offset) ∙ ap (λ (es : List Entry). offset + total es) (sym last) ∙ f .sum,
-          sym (put-none table to) ∙ ap (λ (es : List Entry). put table to (rowsOf (placed offset es))) (sym last) ∙ f .whole,
-        )
+      module _ (h : i < count) (f : Filled s at count from lent row table offset to i) where
+        x : Entry
+        x = entryIn s at i
 
-    -- one more row
-    pub turn : {e : TilePartEntry} {next : List ℕ} → i < count → row + 18 * count ≤ length lent → ((k : ℕ) → getD s k 0 < 256)
-        → e ≡ recordOf offset (entryIn s at i) → next ≡ put table to (rowOf e)
-        → Filled s at count from lent row table offset to i
-        → Filled s at count from lent row next (e .offset + e .length) (to + 18) (i + 1)
-    unfolding rowsOf placed total
-    turn {e} {next} h room few found stored f =
-        let x : Entry = entryIn s at i in
-        let after : ℕ = offset + x .bytes in
-        let ends : e .offset + e .length ≡ after = ap (λ (r : TilePartEntry). r .offset + r .length) found in
-        let rest : List Entry = entriesIn s at (i + 1) (count - (i + 1)) in
-        let left : entriesIn s at i (count - i) ≡ x ∷ rest = entries-next s at i count h in
-        let rows : List TilePartEntry = placed after rest in
-        let many : lib.ListN.length (rowsOf rows) ≡ 18 * (count - (i + 1)) =
-        length-rows rows ∙ ap (λ (n : ℕ). 18 * n) (length-placed after rest ∙ length-entries s at (i + 1) (count - (i + 1))) in
-        let kept : lib.ListN.length next ≡ lib.ListN.length table =
-        ap lib.ListN.length stored ∙ length-put table to (rowOf e) (omega (arith, length-row e)) in
-        let joined : put next (to + 18) (rowsOf rows) ≡ put table to (rowsOf (recordOf offset x ∷ rows)) =
-        ap (λ (t : List ℕ). put t (to + 18) (rowsOf rows)) stored
-        ∙ put-put table to (rowOf e) (rowsOf rows) 18 (length-row e) (omega arith)
-        ∙ ap (λ (r : TilePartEntry). put table to (rowsOf (r ∷ rows))) found in
-        rw ends
-        (record {
-          inside = omega arith;
-          below = omega arith;
-          same = kept ∙ f .same;
-          small = omega (arith, entry-bound s at few i);
-          sum = add-assoc offset (x .bytes) (total rest) ∙ ap (λ (es : List Entry). offset + total es) (sym left) ∙ f .sum;
-          whole = joined ∙ ap (λ (es : List Entry). put table to (rowsOf (placed offset es))) (sym left) ∙ f .whole;
-        })
+        rest : List Entry
+        rest = entriesIn s at (i + 1) (count - (i + 1))
+
+        left : placed offset (entriesIn s at i (count - i)) ≡ recordOf offset x ∷ placed (offset + x .bytes) rest
+        unfolding placed x rest
+        left = ap (placed offset) (entries-next s at i count h)
+
+        fits : to + (L .width + length (L .all (placed (offset + x .bytes) rest))) ≤ length table
+        fits =
+            omega (
+              arith,
+              ap (λ (es : List TilePartEntry). length (L .all es)) left,
+              length-more L (recordOf offset x) (placed (offset + x .bytes) rest),
+              f .room,
+            )
+
+        -- there is room for one more
+        pub one-room : to + L .width ≤ length table
+        one-room = omega (arith, fits)
+
+        -- one more
+        pub turn : {e : TilePartEntry} {next : List B} {to′ : ℕ} → ((k : ℕ) → getD s k 0 < 256) → e ≡ recordOf offset (entryIn s at i)
+            → next ≡ put table to (L .one e) → to′ ≡ to + L .width → Filled s at count from lent row next (e .offset + e .length) to′ (i + 1)
+        unfolding total x rest
+        turn {e} {next} {to′} bytes found new place =
+            let ends : e .offset + e .length ≡ offset + x .bytes = ap (λ (r : TilePartEntry). r .offset + r .length) found in
+            let later : List TilePartEntry = placed (offset + x .bytes) rest in
+            let kept =
+            stored L later (new ∙ ap (λ (r : TilePartEntry). put table to (L .one r)) found) (omega (arith, fits, length-more L (recordOf offset x) later)) in
+            rw (ends, place)
+            (record {
+              inside = omega arith;
+              same = kept .same ∙ f .same;
+              room = omega (arith, fits, kept .same);
+              small = omega (arith, f .small, entry-bound s at bytes i);
+              sum = add-assoc offset (x .bytes) (total rest) ∙ ap (λ (es : List Entry). offset + total es) (sym (entries-next s at i count h)) ∙ f .sum;
+              whole = kept .whole ∙ ap (λ (es : List TilePartEntry). put table to (L .all es)) (sym left) ∙ f .whole;
+            })

@@ -1,9 +1,10 @@
 -- How records stand in a table: as rows of bytes, or as themselves. A loop that fills a table, one record a turn, is argued once for both: what is left,
 -- put where the next record goes, makes the same table before a turn and after it.
-use Prim.Native.Nat.{ℕ, _+_, _≤_}
+use Prim.Native.Nat.{ℕ, _+_, _*_, _≤_}
+use native.Mathlib.Nat.{mul-zero, mul-suc}
 use native.Mathlib.Omega.{arith}
 use mathlib.Core.Path.{_≡_, refl, sym, ap, _∙_}
-use mathlib.Core.List.{List, [], _∷_, _++_}
+use mathlib.Core.List.{List, [], _∷_, _++_, append-assoc}
 use lib.ListN.{length, length-append}
 use Rattle.numbers.specs.Bytes.{put}
 use Rattle.numbers.proofs.Laws.{put-put, put-none, length-put}
@@ -36,6 +37,14 @@ records = record { one = λ e. e ∷ []; all = λ es. es; width = 1; none = refl
 module _ {B : Type 0} (L : Layout B) where
   pub length-more : (e : TilePartEntry) (es : List TilePartEntry) → length (L .all (e ∷ es)) ≡ L .width + length (L .all es)
   length-more e es = rw (L .more, length-append, L .wide)
+
+  pub length-all : (es : List TilePartEntry) → length (L .all es) ≡ L .width * length es
+  length-all [] = rw (L .none) (sym (mul-zero (L .width)))
+  length-all (e ∷ es) = length-more e es ∙ rw (length-all es, mul-suc (L .width) (length es)) (omega arith)
+
+  pub all-append : (xs ys : List TilePartEntry) → L .all (xs ++ ys) ≡ L .all xs ++ L .all ys
+  all-append [] ys = rw (L .none)
+  all-append (e ∷ xs) ys = rw (L .more, L .more, all-append xs ys) (sym (append-assoc (L .one e) (L .all xs) (L .all ys)))
 
   -- nothing is left
   pub put-last : (t : List B) (at : ℕ) → put t at (L .all []) ≡ t

@@ -4,6 +4,7 @@ use native.Mathlib.Omega.{arith}
 use mathlib.Core.Path.{_≡_, sym, _∙_}
 use lib.ListN.{length}
 use borrow.Author.Needs.{needs}
+use Rattle.types.proofs.Standing.{rows}
 use Rattle.header.proofs.Filling.{Filling, count-ahead, filling-start, filling-plain, filling-tlm, filling-done}
 use Rattle.header.proofs.Visited.{entriesFrom}
 use Rattle.header.proofs.Walks.{passed-is, walk-none}
@@ -13,7 +14,7 @@ use Rattle.header.proofs.parse.fill_table.Statement.{statement}
 use Rattle.header.proofs.parse.fill_table.Tie as tie
 
 abbrev Inv-loop : tie.InvT-loop
-Inv-loop codestream first-sot table₀ at₀ row₀ offset₀ table at row offset = Filling codestream table₀ first-sot table row offset at
+Inv-loop codestream first-sot table₀ at₀ row₀ offset₀ table at row offset = Filling rows codestream table₀ first-sot table row offset at
 
 abbrev μ-loop : tie.MeasureT-loop
 μ-loop codestream first-sot table₀ at₀ row₀ offset₀ table at row offset = length codestream - at
@@ -29,12 +30,12 @@ ahead : (c : tie.Then1 Inv-loop μ-loop) → length (entriesFrom (c .before .bef
     + length (entriesFrom (c .before .before .before .before .before .before .before .before .args .codestream .now) (c .before .before .step .given .0 .0 .next))
 ahead c =
     let l = c .before .before .before .before .before .loop in
-    count-ahead _ _ _ _ (l .row) (l .offset) (l .at) (l .inv) _ (found (c .before)) (c .if1 .taken)
+    count-ahead rows _ _ _ _ (l .row) (l .offset) (l .at) (l .inv) _ (found (c .before)) (c .if1 .taken)
 
 loop-holds : tie.Need-loop-holds Inv-loop μ-loop
 loop-holds c =
     let p = c .before .before .pre in
-    filling-start _ _ _ (p .0) (p .1 .0) (p .1 .1)
+    filling-start rows _ _ _ (p .0) (p .1 .0) (p .1 .1)
 
 walk-step-requires : tie.Need-walk-step-requires Inv-loop μ-loop
 walk-step-requires c κs = c .loop .inv .inside
@@ -49,7 +50,7 @@ returns : tie.Need-returns Inv-loop μ-loop
 returns c =
     let l = c .before .before .loop in
     let none = walk-none _ _ (rw (c .before .walk-step .ensures) at (c .match .keys2)) in
-    filling-done _ _ _ _ (l .row) (l .offset) (l .at) (l .inv) none
+    filling-done rows _ _ _ _ (l .row) (l .offset) (l .at) (l .inv) none
 
 fill-segment-requires : tie.Need-fill-segment-requires Inv-loop μ-loop
 fill-segment-requires c κs =
@@ -78,7 +79,7 @@ loop-again c =
     let c₁ = c .before .before .before .before in
     let l = c₁ .before .before .before .before .before in
     let e = c .before .before .fill-segment .ensures in
-    rw (e .0) (filling-tlm _ _ _ _ (l .loop .row) (l .loop .offset) (l .loop .at) (l .loop .inv) _ (found (c₁ .before)) (λ i. omega (arith, l .before .before .shared-slice-known .given i)) (c₁ .if1 .taken) _ (e .1))
+    rw (e .0) (filling-tlm rows _ _ _ _ (l .loop .row) (l .loop .offset) (l .loop .at) (l .loop .inv) _ (found (c₁ .before)) (λ i. omega (arith, l .before .before .shared-slice-known .given i)) (c₁ .if1 .taken) _ (e .1) (omega arith))
 
 loop-less-2 : tie.Need-loop-less-2 Inv-loop μ-loop
 loop-less-2 c =
@@ -88,7 +89,7 @@ loop-less-2 c =
 loop-again-2 : tie.Need-loop-again-2 Inv-loop μ-loop
 loop-again-2 c =
     let l = c .before .before .before .before .before .loop in
-    filling-plain _ _ _ _ (l .row) (l .offset) (l .at) (l .inv) _ (found (c .before)) (c .if1 .left)
+    filling-plain rows _ _ _ _ (l .row) (l .offset) (l .at) (l .inv) _ (found (c .before)) (c .if1 .left)
 
 pub fill-table-spec : {M : Type 1} → statement M
 fill-table-spec =

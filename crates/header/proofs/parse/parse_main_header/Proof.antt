@@ -41,7 +41,7 @@ returns c = (c .before .before .decide .ensures, rw (c .enum-told .given .1) (re
 fill-table-requires : tie.Need-fill-table-requires
 fill-table-requires c κs =
     let d = decided (c .before .before .before) in
-    (d .read .two, (omega (arith, d .many), d .bound))
+    (d .read .two, (omega (arith, d .many), omega (arith, d .bound)))
 
 strip-requires : tie.Need-strip-requires
 strip-requires c κs =

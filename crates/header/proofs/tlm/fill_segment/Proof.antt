@@ -1,13 +1,15 @@
 -- The rows of the entries that are left, put where the next row goes, make the table that all rows make of the one lent; a turn puts one.
 use Prim.Native.Nat.{ℕ, _+_, _-_, _^_, _<_}
 use native.Mathlib.Omega.{arith}
+use mathlib.Core.Path.{refl}
 use lib.ListN.{getD}
-use Rattle.header.proofs.Fills.{Filled, none-filled, all-filled, turn, entry-bound}
+use Rattle.types.proofs.Standing.{rows}
+use Rattle.header.proofs.Fills.{Filled, none-filled, all-filled, one-room, turn, entry-bound}
 use Rattle.header.proofs.tlm.fill_segment.Statement.{statement}
 use Rattle.header.proofs.tlm.fill_segment.Tie as tie
 
 abbrev Inv-loop : tie.InvT-loop
-Inv-loop codestream at count from table₀ row offset₀ to₀ i₀ table offset to i = Filled codestream at count from table₀ row table offset to i
+Inv-loop codestream at count from table₀ row offset₀ to₀ i₀ table offset to i = Filled rows codestream at count from table₀ row table offset to i
 
 abbrev μ-loop : tie.MeasureT-loop
 μ-loop codestream at count from table₀ row offset₀ to₀ i₀ table offset to i = count - i
@@ -24,19 +26,21 @@ ends c =
     rw (c .tlm-entry .ensures) (omega (arith, entry-bound (a .codestream .now) (a .at) (bytes (c .before)) (l .loop .i)))
 
 loop-holds : tie.Need-loop-holds Inv-loop μ-loop
-loop-holds c = none-filled (c .before .before .pre .1 .1 .1)
+loop-holds c = let p = c .before .before .pre in none-filled rows (p .1 .1 .0) (p .1 .1 .1)
 
 tlm-entry-requires : tie.Need-tlm-entry-requires Inv-loop μ-loop
 tlm-entry-requires c κs = (c .before .before .before .before .pre .0, omega arith)
 
 write-row-requires : tie.Need-write-row-requires Inv-loop μ-loop
-write-row-requires c κs = omega arith
+write-row-requires c κs = one-room rows (c .before .before .loop-test .taken) (c .before .before .before .loop .inv)
 
 end-of-requires : tie.Need-end-of-requires Inv-loop μ-loop
 end-of-requires c κs = omega (arith, ends (c .before .before .before .before))
 
 add-to : tie.Need-add-to Inv-loop μ-loop
-add-to c = omega arith
+add-to c =
+    let l = c .before .before .before .before .before .before in
+    omega (arith, one-room rows (l .loop-test .taken) (l .before .loop .inv), l .before .loop .inv .same)
 
 add-i : tie.Need-add-i Inv-loop μ-loop
 add-i c = omega arith
@@ -49,13 +53,13 @@ loop-again c =
     let t = c .before .before .before .before .before in
     let l = t .before .before in
     rw (c .end-of .ensures)
-    (turn (t .before .loop-test .taken) (l .before .before .before .pre .1 .1 .0) (bytes (t .before)) (t .tlm-entry .ensures) (c .before .before .before .write-row .ensures) (l .loop .inv))
+    (turn rows (t .before .loop-test .taken) (l .loop .inv) (bytes (t .before)) (t .tlm-entry .ensures) (c .before .before .before .write-row .ensures) refl)
 
 same-length : tie.Need-same-length Inv-loop μ-loop
 same-length c = c .before .loop .inv .same
 
 returns : tie.Need-returns Inv-loop μ-loop
-returns c = all-filled (c .loop-test .left) (c .before .loop .inv)
+returns c = all-filled rows (c .loop-test .left) (c .before .loop .inv)
 
 pub fill-segment-spec : {M : Type 1} → statement M
 fill-segment-spec =
