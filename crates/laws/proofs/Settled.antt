@@ -15,7 +15,7 @@ use Rattle.header.specs.Parse.{parsed, tableAfter, outAfter}
 use Rattle.header.specs.declared.extent.MainHeaderExtent.{MainHeaderExtent}
 use Rattle.header.specs.declared.parse.MainHeader.{MainHeader}
 use Rattle.parts.specs.Scan.{scanned, scannedTable}
-use Rattle.parts.specs.Split.{partsOf}
+use Rattle.parts.specs.Split.{partsOf, standing}
 use Rattle.parts.specs.declared.scan.Scanned.{Scanned}
 use Rattle.tile.specs.Rewrite.{rewriteAnswer, rewriteOut}
 use Rattle.tile.specs.Assembly.{assemblyAnswer, assemblyOut}
@@ -90,6 +90,9 @@ split-count tile = answer-only
 
 pub split-part : (tile : List ℕ) (k : ℕ) → Settles (λ (r : List ℕ). r ≡ getD (partsOf tile) k [])
 split-part tile k = answer-only
+
+pub split-at : (tile : List ℕ) (at : ℕ) → Settles (λ (r : List ℕ). r ≡ standing tile at)
+split-at tile at = answer-only
 
 -- ---- tile
 

@@ -2,7 +2,8 @@
 -- no part is empty.
 use Prim.Native.Nat.{ℕ, zero, suc, _+_, _-_, _≤_, _<_}
 use native.Mathlib.Omega.{arith}
-use mathlib.Core.Path.{_≡_, ap}
+use mathlib.Core.Path.{_≡_, refl, sym, ap, ap₂, _∙_}
+use mathlib.Core.Bool.{cond}
 use mathlib.Core.List.{List, [], _∷_, map}
 use lib.ListN.{length, getD, take, drop, length-take, length-drop}
 use lib.Dec.{leb, eqb}
@@ -12,7 +13,7 @@ use Rattle.types.specs.Markers.{SOT}
 use Rattle.chain.specs.Chain.{on, Visit, Chain, Rises, also, Run, stay, step}
 use Rattle.chain.proofs.Laws.{chain-end, chain-on, chain-run}
 use Rattle.parts.specs.Sot.{psot}
-use Rattle.parts.specs.Split.{partEnd, splitStepAt, SplitEnd, ended, moveOf, moveAt, splitFrom, visited, partsFrom, partsOf}
+use Rattle.parts.specs.Split.{partEnd, splitStepAt, SplitEnd, ended, moveOf, moveAt, splitFrom, visited, partsFrom, partsOf, found, standing}
 use Rattle.parts.specs.declared.split.SplitStep.{SplitStep}
 use Rattle.parts.specs.declared.split.SplitStep.the-variants.{Part, Ended}
 use Rattle.numbers.proofs.Choice.{by-test}
@@ -94,6 +95,31 @@ pub parts-on : (s : List ℕ) (at next : ℕ) → splitStepAt s at ≡ Part next
 unfolding partsFrom splitFrom moveAt moveOf also
 parts-on s at next e =
     ap (λ (c : Chain SplitEnd). map (visited s) (c .visits)) (chain-on ended (moveAt s) (length s) (rises s) at next (ap moveOf e))
+
+-- ---- the part at a position
+
+module _ (s : List ℕ) (at : ℕ) where
+  pub standing-none : splitStepAt s at ≡ Ended → standing s at ≡ []
+  unfolding standing found
+  standing-none e = ap (found s at) e
+
+  pub standing-part : (next : ℕ) → splitStepAt s at ≡ Part next → standing s at ≡ take (next - at) (drop at s)
+  unfolding standing found
+  standing-part next e = ap (found s at) e
+
+  going-on : (step : SplitStep) → splitStepAt s at ≡ step
+      → partsFrom s at ≡ cond (eqb (length (standing s at)) 0) [] (standing s at ∷ partsFrom s (at + length (standing s at)))
+  going-on (Part next) e =
+      let h = part-inside s at next e in
+      let here = standing-part next e in
+      let long : length (standing s at) ≡ next - at = ap length here ∙ simp (length-take, length-drop) (omega arith) in
+      let there : at + length (standing s at) ≡ next = omega arith in
+      rw (ne-eqb (length (standing s at)) 0 (λ z. omega arith)) (parts-on s at next e ∙ sym (ap₂ (λ (p : List ℕ) (n : ℕ). p ∷ partsFrom s n) here there))
+  going-on Ended e = rw (eq-eqb (length (standing s at)) 0 (ap length (standing-none e))) (parts-ended s at e)
+
+  -- going on from each part's end gives all parts
+  pub parts-standing : partsFrom s at ≡ cond (eqb (length (standing s at)) 0) [] (standing s at ∷ partsFrom s (at + length (standing s at)))
+  parts-standing = going-on (splitStepAt s at) refl
 
 -- ---- no real part is empty
 

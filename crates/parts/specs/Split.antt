@@ -1,7 +1,7 @@
 -- One tile's buffer taken apart (document 01, "Split"): the chain of its steps, and the parts.
 use Prim.Native.Nat.{ℕ, _+_, _-_}
 use mathlib.Core.Bool.{cond}
-use mathlib.Core.List.{List, map}
+use mathlib.Core.List.{List, [], map}
 use lib.ListN.{length, take, drop}
 use lib.Dec.{leb, eqb}
 use Rattle.numbers.specs.Bytes.{be}
@@ -44,3 +44,12 @@ partsFrom s at = map (visited s) (splitFrom s at .visits)
 unfoldable pub partsOf : List ℕ → List (List ℕ)
 unfolding partsFrom
 partsOf s = partsFrom s 0
+
+-- the bytes of the part that a step at a position finds; none where it ends
+unfoldable pub found : List ℕ → ℕ → SplitStep → List ℕ
+found s at (Part next) = take (next - at) (drop at s)
+found s at Ended = []
+
+unfoldable pub standing : List ℕ → ℕ → List ℕ
+unfolding found
+standing s at = found s at (splitStepAt s at)

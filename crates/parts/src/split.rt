@@ -3,7 +3,7 @@ ghost use mathlib.Core.Path.{_≡_};
 ghost use Prim.Native.Nat.{_≤_};
 ghost use mathlib.Core.List.{[]};
 ghost use lib.ListN.{length, getD};
-ghost use Rattle.parts.specs.Split.{splitStepAt, partsOf};
+ghost use Rattle.parts.specs.Split.{splitStepAt, partsOf, standing};
 use types::markers::SOT;
 
 pub enum SplitStep {
@@ -65,4 +65,18 @@ pub fn split_part(tile: &[u8], k: usize) -> &[u8]
         skip -= 1;
         at = end;
     }
+}
+
+// The part that stands at a position, of the caller's own bytes; where none stands the empty part. The next stands where it ends.
+pub fn split_at(tile: &[u8], at: usize) -> &[u8]
+    ensures { λ r. ⌜ now r ≡ standing (now (tile .entry)) at ⌝ }
+{
+    if tile.len() < at {
+        return &tile[..0];
+    }
+    let step = split_step(tile, at);
+    let SplitStep::Part(end) = step else {
+        return &tile[..0];
+    };
+    &tile[at..end]
 }

@@ -7,7 +7,7 @@ ghost use Prim.Native.Nat.{_/_};
 ghost use lib.ListN.{length, getD};
 ghost use lib.Dec.{eqb};
 ghost use Rattle.header.specs.Parse.{parsed, tableAfter, outAfter};
-ghost use Rattle.parts.specs.Split.{partsOf};
+ghost use Rattle.parts.specs.Split.{partsOf, standing};
 ghost use Rattle.reader.specs.Search.{foundIn};
 ghost use Rattle.reader.specs.Siz.{sizRead, sampleType, sampleNumber};
 ghost use Rattle.reader.specs.Growth.{nextRegion, grown};
@@ -72,7 +72,20 @@ pub extern "C" fn winterhasp_split_count(tile: &[u8]) -> u64
     parts::split::split_count(tile) as u64
 }
 
-// `value`: the part's length, 0 past the last, or the size needed.
+// `value`: the part's length, 0 where there is none, or the size needed.
+fn tell_part(part: &[u8], out: &mut [u8], value: &mut u64) -> u32
+    ensures { λ r. ⌜ r ≡ partNumber (now (part .entry)) (length (now (out .entry))) ⌝ }
+    ensures { λ _. ⌜ now (value .exit) ≡ length (now (part .entry)) ⌝ }
+    ensures { λ _. ⌜ now (out .exit) ≡ partOut (now (part .entry)) (now (out .entry)) ⌝ }
+{
+    *value = part.len() as u64;
+    if out.len() < part.len() {
+        return 17;
+    }
+    numbers::copy_at(part, out, 0);
+    0
+}
+
 #[no_mangle]
 pub extern "C" fn winterhasp_split_part(tile: &[u8], k: u64, out: &mut [u8], value: &mut u64) -> u32
     ensures { λ r. ⌜ r ≡ partNumber (getD (partsOf (now (tile .entry))) k []) (length (now (out .entry))) ⌝ }
@@ -80,12 +93,17 @@ pub extern "C" fn winterhasp_split_part(tile: &[u8], k: u64, out: &mut [u8], val
     ensures { λ _. ⌜ now (out .exit) ≡ partOut (getD (partsOf (now (tile .entry))) k []) (now (out .entry)) ⌝ }
 {
     let part = parts::split::split_part(tile, k as usize);
-    *value = part.len() as u64;
-    if out.len() < part.len() {
-        return 17;
-    }
-    numbers::copy_at(part, out, 0);
-    0
+    tell_part(part, out, value)
+}
+
+#[no_mangle]
+pub extern "C" fn winterhasp_split_at(tile: &[u8], at: u64, out: &mut [u8], value: &mut u64) -> u32
+    ensures { λ r. ⌜ r ≡ partNumber (standing (now (tile .entry)) at) (length (now (out .entry))) ⌝ }
+    ensures { λ _. ⌜ now (value .exit) ≡ length (standing (now (tile .entry)) at) ⌝ }
+    ensures { λ _. ⌜ now (out .exit) ≡ partOut (standing (now (tile .entry)) at) (now (out .entry)) ⌝ }
+{
+    let part = parts::split::split_at(tile, at as usize);
+    tell_part(part, out, value)
 }
 
 fn tell_found(answer: Found, start: &mut u64, length: &mut u64) -> u32

@@ -1,6 +1,4 @@
--- The part is the definition's; the test of the room is the definition's test.
-use mathlib.Core.Path.{refl}
-use borrow.Author.Tests.{lt-leb, le-leb}
+-- What the callees say of part, answer and lent memory is what is promised.
 use borrow.Author.Needs.{needs}
 use Rattle.probe.proofs.winterhasp_split_part.Statement.{statement}
 use Rattle.probe.proofs.winterhasp_split_part.Tie as tie
@@ -8,20 +6,15 @@ use Rattle.probe.proofs.winterhasp_split_part.Tie as tie
 split-part-requires : tie.Need-split-part-requires
 split-part-requires c κs = search needs
 
-returns : tie.Need-returns
-returns c = rw (← c .before .split-part .ensures, lt-leb _ _ (c .if1 .taken)) (refl, (refl, refl))
-
-copy-at-requires : tie.Need-copy-at-requires
-copy-at-requires c κs = search needs
+tell-part-requires : tie.Need-tell-part-requires
+tell-part-requires c κs = search needs
 
 same-length : tie.Need-same-length
 same-length c = search needs
 
-returns-2 : tie.Need-returns-2
-returns-2 c =
-    let part = c .before .before .before .before .before .split-part .ensures in
-    rw (← part, le-leb _ _ (c .before .before .before .before .if1 .left)) (refl, (refl, c .before .before .copy-at .ensures .1))
+returns : tie.Need-returns
+returns c = (cc, (cc, cc))
 
 pub winterhasp-split-part-spec : {M : Type 1} → statement M
 winterhasp-split-part-spec =
-    tie.close (tie.spec split-part-requires returns copy-at-requires same-length returns-2)
+    tie.close (tie.spec split-part-requires tell-part-requires same-length returns)
