@@ -1,2 +1,3 @@
 pub mod Laws
 pub mod Standing
+pub mod lent

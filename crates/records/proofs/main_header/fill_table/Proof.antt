@@ -1,0 +1,107 @@
+-- What was written and the records that lie ahead make up the table at every turn.
+mod Lts
+mod Tie
+use Prim.Native.Nat.{_+_, _-_}
+use native.Mathlib.Omega.{arith}
+use mathlib.Core.Path.{_≡_, sym, _∙_}
+use lib.ListN.{length}
+use borrow.Author.Needs.{needs}
+use Rattle.types.proofs.Standing.{records}
+use Rattle.header.proofs.Filling.{Filling, count-ahead, filling-start, filling-plain, filling-tlm, filling-done}
+use Rattle.header.proofs.Visited.{entriesFrom}
+use Rattle.header.proofs.Walks.{passed-is, walk-none}
+use Rattle.header.specs.declared.walk.WalkStep.the-variants.{Passed}
+use Rattle.header.specs.Walk.{walkStepAt}
+use Rattle.records.proofs.main_header.fill_table.Statement.{statement}
+use Rattle.records.proofs.main_header.fill_table.Proof.Tie as tie
+
+abbrev Inv-loop : tie.InvT-loop
+Inv-loop codestream first-sot table₀ at₀ row₀ offset₀ table at row offset = Filling records codestream table₀ first-sot table row offset at
+
+abbrev μ-loop : tie.MeasureT-loop
+μ-loop codestream first-sot table₀ at₀ row₀ offset₀ table at row offset = length codestream - at
+
+-- what the step found, where it passed something
+found : (c : tie.After-known-told Inv-loop μ-loop)
+    → walkStepAt (c .before .before .before .before .before .before .args .codestream .now) (c .before .before .before .before .loop .at) ≡ Passed (c .before .step .given .0 .0)
+found c = sym (c .before .before .before .walk-step .ensures) ∙ c .before .step .given .1
+
+-- a segment's entries are among those that lie ahead
+ahead : (c : tie.Then1 Inv-loop μ-loop) → length (entriesFrom (c .before .before .before .before .before .before .before .args .codestream .now) (c .before .before .before .before .before .loop .at))
+    ≡ c .before .before .step .given .0 .0 .entries
+    + length (entriesFrom (c .before .before .before .before .before .before .before .args .codestream .now) (c .before .before .step .given .0 .0 .next))
+ahead c =
+    let l = c .before .before .before .before .before .loop in
+    count-ahead records _ _ _ _ (l .row) (l .offset) (l .at) (l .inv) _ (found (c .before)) (c .if1 .taken)
+
+loop-holds : tie.Need-loop-holds Inv-loop μ-loop
+loop-holds c =
+    let p = c .before .pre in
+    filling-start records _ _ _ (p .0) (omega (arith, p .1 .0)) (p .1 .1)
+
+walk-step-requires : tie.Need-walk-step-requires Inv-loop μ-loop
+walk-step-requires c κs = c .loop .inv .inside
+
+enum-known-step : tie.Need-enum-known-step Inv-loop μ-loop
+enum-known-step c = search needs
+
+same-length : tie.Need-same-length Inv-loop μ-loop
+same-length c = c .before .before .loop .inv .same
+
+returns : tie.Need-returns Inv-loop μ-loop
+returns c =
+    let l = c .before .before .loop in
+    let none = walk-none _ _ (rw (c .before .walk-step .ensures) at (c .match .keys2)) in
+    filling-done records _ _ _ _ (l .row) (l .offset) (l .at) (l .inv) none
+
+fill-segment-requires : tie.Need-fill-segment-requires Inv-loop μ-loop
+fill-segment-requires c κs =
+    let c₁ = c .before in
+    let i = c₁ .before .before .before .before .before .loop .inv in
+    let told = passed-is _ _ _ (found (c₁ .before)) .tlm (c₁ .if1 .taken) in
+    (told .accepted, (told .count, (omega (arith, i .room, ahead c₁), omega (arith, i .bound, ahead c₁))))
+
+add-row : tie.Need-add-row Inv-loop μ-loop
+add-row c =
+    let c₁ = c .before .before .before in
+    omega (arith, c₁ .before .before .before .before .before .loop .inv .room, c₁ .before .before .before .before .before .loop .inv .same, ahead c₁)
+
+loop-less : tie.Need-loop-less Inv-loop μ-loop
+loop-less c =
+    let told = passed-is _ _ _ (found (c .before .before .before .before)) in
+    omega (arith, told .past, told .inside)
+
+loop-again : tie.Need-loop-again Inv-loop μ-loop
+loop-again c =
+    let c₁ = c .before .before .before in
+    let l = c₁ .before .before .before .before .before in
+    let e = c .before .fill-segment .ensures in
+    rw (e .0) (filling-tlm records _ _ _ _ (l .loop .row) (l .loop .offset) (l .loop .at) (l .loop .inv) _ (found (c₁ .before)) (λ i. omega (arith, l .before .shared-slice-known .given i)) (c₁ .if1 .taken) _ (e .1) (omega arith))
+
+loop-less-2 : tie.Need-loop-less-2 Inv-loop μ-loop
+loop-less-2 c =
+    let told = passed-is _ _ _ (found (c .before)) in
+    omega (arith, told .past, told .inside)
+
+loop-again-2 : tie.Need-loop-again-2 Inv-loop μ-loop
+loop-again-2 c =
+    let l = c .before .before .before .before .before .loop in
+    filling-plain records _ _ _ _ (l .row) (l .offset) (l .at) (l .inv) _ (found (c .before)) (c .if1 .left)
+
+pub fill-table-spec : {M : Type 1} → statement M
+fill-table-spec =
+    tie.close
+    (tie.spec
+    Inv-loop
+    μ-loop
+    loop-holds
+    walk-step-requires
+    enum-known-step
+    same-length
+    returns
+    fill-segment-requires
+    add-row
+    loop-less
+    loop-again
+    loop-less-2
+    loop-again-2)

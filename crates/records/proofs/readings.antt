@@ -1,0 +1,2 @@
+pub mod main_header
+pub mod scan

@@ -1,0 +1,3 @@
+pub mod fill_segment
+pub mod fill_table
+pub mod parse_main_header

@@ -1,0 +1,2 @@
+pub mod fill
+pub mod scan_sot_markers

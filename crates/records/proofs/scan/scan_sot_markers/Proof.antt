@@ -1,0 +1,56 @@
+-- The answer stands before a record is written: a refusal leaves the table, and a table's count is that of the records, which fit.
+mod Lts
+mod Tie
+use native.Mathlib.Omega.{arith}
+use mathlib.Core.Path.{_≡_, sym, _∙_}
+use lib.ListN.{length}
+use borrow.Author.Needs.{needs}
+use Rattle.parts.specs.declared.scan.Scanned.the-variants.{Table}
+use Rattle.parts.specs.Scan.{scanned}
+use Rattle.parts.proofs.Answers.{answer-counts}
+use Rattle.records.proofs.Answers.{table-kept, table-filled}
+use Rattle.records.proofs.scan.scan_sot_markers.Statement.{statement}
+use Rattle.records.proofs.scan.scan_sot_markers.Proof.Tie as tie
+
+-- past the answer, a table of so many records
+answered : (c : tie.After-answer)
+    → scanned (c .before .before .before .before .args .codestream .now) (c .before .before .before .before .args .first-sot-offset) (length (c .before .before .before .before .args .table .now))
+    ≡ Table (c .answer .given .0 .0)
+answered c = sym (c .before .before .decide .ensures) ∙ c .answer .given .1
+
+decide-requires : tie.Need-decide-requires
+decide-requires c κs = search needs
+
+enum-known-answer : tie.Need-enum-known-answer
+enum-known-answer c = search needs
+
+enum-told : tie.Need-enum-told
+enum-told c = search needs
+
+returns : tie.Need-returns
+returns c =
+    let a = c .before .before .decide .ensures in
+    (a, sym (table-kept _ _ _ _ (sym a ∙ c .enum-told .given .1)))
+
+fill-requires : tie.Need-fill-requires
+fill-requires c κs = let n = answer-counts _ _ _ _ (answered (c .before .before)) in (n .0, n .1)
+
+same-length : tie.Need-same-length
+same-length c = search needs
+
+returns-2 : tie.Need-returns-2
+returns-2 c =
+    let a = answered (c .before .before .before .before) in
+    (sym a, c .before .fill .ensures ∙ sym (table-filled _ _ _ _ a))
+
+pub scan-sot-markers-spec : {M : Type 1} → statement M
+scan-sot-markers-spec =
+    tie.close
+    (tie.spec
+    decide-requires
+    enum-known-answer
+    enum-told
+    returns
+    fill-requires
+    same-length
+    returns-2)
