@@ -2,8 +2,6 @@
 use Prim.Native.Nat.{ℕ}
 use Rattle.header.specs.declared.extent.MainHeaderExtent.{MainHeaderExtent}
 use Rattle.header.specs.declared.extent.MainHeaderExtent.the-variants.{Complete, Truncated}
-use Rattle.parts.specs.declared.scan.Scanned.{Scanned}
-use Rattle.parts.specs.declared.scan.Scanned.the-variants as scanned
 use Rattle.tile.specs.declared.rewrite.Written.{Written}
 use Rattle.tile.specs.declared.rewrite.Written.the-variants as written
 
@@ -14,15 +12,6 @@ extentNumber Truncated = 0
 abbrev pub extentValue : MainHeaderExtent → ℕ → ℕ
 extentValue (Complete o) held = o .0
 extentValue Truncated held = held
-
--- the scan: entries, or the refusal's place
-abbrev pub scanNumber : Scanned → ℕ
-scanNumber (scanned.Table n) = 0
-scanNumber (scanned.Refused r) = r .number
-
-abbrev pub scanValue : Scanned → ℕ
-scanValue (scanned.Table n) = n
-scanValue (scanned.Refused r) = r .place
 
 -- rewrite and assembly: bytes written, or the refusal's place
 abbrev pub writtenNumber : Written → ℕ

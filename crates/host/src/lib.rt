@@ -4,14 +4,12 @@ ghost use mathlib.Core.Path.{_≡_};
 ghost use Prim.Native.Nat.{_/_};
 ghost use lib.ListN.{length};
 ghost use Rattle.header.specs.Extent.{extentOf};
-ghost use Rattle.parts.specs.Scan.{scanned, scannedTable};
+ghost use Rattle.parts.specs.Scan.{scanned, scanNumber, scanValue, scannedTable};
 ghost use Rattle.tile.specs.Rewrite.{rewriteAnswer, rewriteOut};
 ghost use Rattle.tile.specs.Assembly.{assemblyAnswer, assemblyOut};
-ghost use Rattle.host.specs.Answers.{extentNumber, extentValue, scanNumber, scanValue, writtenNumber, writtenValue};
+ghost use Rattle.host.specs.Answers.{extentNumber, extentValue, writtenNumber, writtenValue};
 use header::extent::MainHeaderExtent;
-use parts::scan::Scanned;
 use tile::rewrite::Written;
-use types::Refusal;
 
 #[no_mangle]
 pub extern "C" fn winterhasp_main_header_extent(prefix: &[u8], value: &mut u64) -> u32
@@ -24,27 +22,6 @@ pub extern "C" fn winterhasp_main_header_extent(prefix: &[u8], value: &mut u64) 
             1
         }
         MainHeaderExtent::Truncated => 0,
-    }
-}
-
-fn tell_refused(refusal: Refusal, value: &mut u64) -> u32
-    ensures { λ r. ⌜ r ≡ refusal .number ⌝ }
-    ensures { λ _. ⌜ now (value .exit) ≡ refusal .place ⌝ }
-{
-    *value = refusal.place;
-    refusal.number
-}
-
-fn tell_scanned(answer: Scanned, value: &mut u64) -> u32
-    ensures { λ r. ⌜ r ≡ scanNumber answer ⌝ }
-    ensures { λ _. ⌜ now (value .exit) ≡ scanValue answer ⌝ }
-{
-    match answer {
-        Scanned::Table(entries) => {
-            *value = entries;
-            0
-        }
-        Scanned::Refused(refusal) => tell_refused(refusal, value),
     }
 }
 
@@ -61,7 +38,7 @@ pub extern "C" fn winterhasp_scan_sot_markers(
     ensures { λ _. ⌜ now (table .exit) ≡ scannedTable (now (codestream .entry)) «first_sot_offset» (now (table .entry)) ⌝ }
 {
     let answer = parts::scan::scan_sot_markers(codestream, first_sot_offset, table);
-    tell_scanned(answer, value)
+    parts::scan::tell(answer, value)
 }
 
 fn tell_written(answer: Written, value: &mut u64) -> u32
@@ -73,7 +50,10 @@ fn tell_written(answer: Written, value: &mut u64) -> u32
             *value = written;
             0
         }
-        Written::Refused(refusal) => tell_refused(refusal, value),
+        Written::Refused(refusal) => {
+            *value = refusal.place;
+            refusal.number
+        }
     }
 }
 

@@ -92,6 +92,15 @@ withRoom rows (answer.Refused r) = answer.Refused r
 unfoldable pub scanned : List ℕ → ℕ → ℕ → Scanned
 scanned s start rows = withRoom rows (judged (scanFrom s start))
 
+-- document 01's number of an answer, 0 where it accepts, and its value: the entries, or the refusal's place
+abbrev pub scanNumber : Scanned → ℕ
+scanNumber (answer.Table n) = 0
+scanNumber (answer.Refused r) = r .number
+
+abbrev pub scanValue : Scanned → ℕ
+scanValue (answer.Table n) = n
+scanValue (answer.Refused r) = r .place
+
 -- the table after an answer: the records' rows and the rest as it was, or all as it was
 unfoldable pub written : Scanned → List TilePartEntry → List ℕ → List ℕ
 written (answer.Table n) entries table = rowsOf entries ++ drop (18 * n) table

@@ -4,7 +4,7 @@ ghost use Prim.Native.Nat.{_+_, _*_, _/_, _≤_};
 ghost use lib.ListN.{length};
 ghost use Rattle.numbers.specs.Bytes.{put};
 ghost use Rattle.types.specs.Row.{rowsOf};
-ghost use Rattle.parts.specs.Scan.{eocAt, partAt, sotStepAt, scanStepAt, scanFrom, judged, entriesFrom, scanned, scannedTable};
+ghost use Rattle.parts.specs.Scan.{eocAt, partAt, sotStepAt, scanStepAt, scanFrom, judged, entriesFrom, scanned, scanNumber, scanValue, scannedTable};
 use types::ROW;
 use types::Refusal;
 use types::TilePartEntry;
@@ -127,6 +127,23 @@ pub fn decide(codestream: &[u8], first_sot_offset: u64, rows: u64) -> Scanned
         });
     }
     judgement
+}
+
+// An answer for C: its number, and in `value` the entries or the refusal's place.
+pub fn tell(answer: Scanned, value: &mut u64) -> u32
+    ensures { λ r. ⌜ r ≡ scanNumber answer ⌝ }
+    ensures { λ _. ⌜ now (value .exit) ≡ scanValue answer ⌝ }
+{
+    match answer {
+        Scanned::Table(entries) => {
+            *value = entries;
+            0
+        }
+        Scanned::Refused(refusal) => {
+            *value = refusal.place;
+            refusal.number
+        }
+    }
 }
 
 // Writes the records, one row after the other.

@@ -7,7 +7,10 @@ ghost use Prim.Native.Nat.{_/_};
 ghost use lib.ListN.{length, getD};
 ghost use lib.Dec.{eqb};
 ghost use Rattle.header.specs.Parse.{parsed, tableAfter, outAfter};
+ghost use Rattle.parts.specs.Scan.{scanned, scanNumber, scanValue};
 ghost use Rattle.parts.specs.Split.{partsOf, standing};
+ghost use Rattle.records.specs.MainHeader.{recordsAfter};
+ghost use Rattle.records.specs.Scan.{scannedRecords};
 ghost use Rattle.reader.specs.Search.{foundIn};
 ghost use Rattle.reader.specs.Siz.{sizRead, sampleType, sampleNumber};
 ghost use Rattle.reader.specs.Growth.{nextRegion, grown};
@@ -18,6 +21,7 @@ use header::parse::MainHeader;
 use reader::search::Found;
 use reader::siz::SampleType;
 use reader::siz::SizRead;
+use types::TilePartEntry;
 
 fn tell_header(
     answer: MainHeader,
@@ -63,6 +67,43 @@ pub extern "C" fn winterhasp_parse_main_header(
 {
     let answer = header::parse::parse_main_header(codestream, table, out);
     tell_header(answer, first_sot, decode_length, entries)
+}
+
+// The same with a table of records.
+#[no_mangle]
+pub extern "C" fn winterhasp_header_records(
+    codestream: &[u8],
+    table: &mut [TilePartEntry],
+    out: &mut [u8],
+    first_sot: &mut u64,
+    decode_length: &mut u64,
+    entries: &mut u64,
+) -> u32
+    ensures { λ r. ⌜ r ≡ headerNumber (parsed (now (codestream .entry)) (length (now (table .entry))) (length (now (out .entry)))) ⌝ }
+    ensures { λ _. ⌜ now («first_sot» .exit) ≡ headerFirst (parsed (now (codestream .entry)) (length (now (table .entry))) (length (now (out .entry)))) ⌝ }
+    ensures { λ _. ⌜ now («decode_length» .exit) ≡ headerLength (parsed (now (codestream .entry)) (length (now (table .entry))) (length (now (out .entry)))) (now («decode_length» .entry)) ⌝ }
+    ensures { λ _. ⌜ now (entries .exit) ≡ headerEntries (parsed (now (codestream .entry)) (length (now (table .entry))) (length (now (out .entry)))) (now (entries .entry)) ⌝ }
+    ensures { λ _. ⌜ now (table .exit) ≡ recordsAfter (parsed (now (codestream .entry)) (length (now (table .entry))) (length (now (out .entry)))) (now (codestream .entry)) (now (table .entry)) ⌝ }
+    ensures { λ _. ⌜ now (out .exit) ≡ outAfter (parsed (now (codestream .entry)) (length (now (table .entry))) (length (now (out .entry)))) (now (codestream .entry)) (now (out .entry)) ⌝ }
+{
+    let answer = records::main_header::parse_main_header(codestream, table, out);
+    tell_header(answer, first_sot, decode_length, entries)
+}
+
+// The scan into a table of records. `value`: entries.
+#[no_mangle]
+pub extern "C" fn winterhasp_scan_records(
+    codestream: &[u8],
+    first_sot_offset: u64,
+    table: &mut [TilePartEntry],
+    value: &mut u64,
+) -> u32
+    ensures { λ r. ⌜ r ≡ scanNumber (scanned (now (codestream .entry)) «first_sot_offset» (length (now (table .entry)))) ⌝ }
+    ensures { λ _. ⌜ now (value .exit) ≡ scanValue (scanned (now (codestream .entry)) «first_sot_offset» (length (now (table .entry)))) ⌝ }
+    ensures { λ _. ⌜ now (table .exit) ≡ scannedRecords (now (codestream .entry)) «first_sot_offset» (now (table .entry)) ⌝ }
+{
+    let answer = records::scan::scan_sot_markers(codestream, first_sot_offset, table);
+    parts::scan::tell(answer, value)
 }
 
 #[no_mangle]

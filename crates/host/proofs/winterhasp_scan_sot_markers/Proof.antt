@@ -6,8 +6,8 @@ use Rattle.host.proofs.winterhasp_scan_sot_markers.Tie as tie
 scan-sot-markers-requires : tie.Need-scan-sot-markers-requires
 scan-sot-markers-requires c κs = search needs
 
-tell-scanned-requires : tie.Need-tell-scanned-requires
-tell-scanned-requires c κs = search needs
+tell-requires : tie.Need-tell-requires
+tell-requires c κs = search needs
 
 same-length : tie.Need-same-length
 same-length c = search needs
@@ -17,4 +17,4 @@ returns c = (cc, (cc, cc))
 
 pub winterhasp-scan-sot-markers-spec : {M : Type 1} → statement M
 winterhasp-scan-sot-markers-spec =
-    tie.close (tie.spec scan-sot-markers-requires tell-scanned-requires same-length returns)
+    tie.close (tie.spec scan-sot-markers-requires tell-requires same-length returns)

@@ -1,0 +1,2 @@
+pub mod winterhasp_header_records
+pub mod winterhasp_scan_records

@@ -1,0 +1,26 @@
+-- What the callees say of answer and lent memory is what is promised.
+mod Lts
+mod Tie
+use borrow.Author.Needs.{needs}
+use Rattle.probe.proofs.winterhasp_header_records.Statement.{statement}
+use Rattle.probe.proofs.winterhasp_header_records.Proof.Tie as tie
+
+parse-main-header-requires : tie.Need-parse-main-header-requires
+parse-main-header-requires c κs = search needs
+
+tell-header-requires : tie.Need-tell-header-requires
+tell-header-requires c κs = search needs
+
+same-length : tie.Need-same-length
+same-length c = search needs
+
+same-length-2 : tie.Need-same-length-2
+same-length-2 c = search needs
+
+returns : tie.Need-returns
+returns c = (cc, (cc, (cc, (cc, (cc, cc)))))
+
+pub winterhasp-header-records-spec : {M : Type 1} → statement M
+winterhasp-header-records-spec =
+    tie.close
+    (tie.spec parse-main-header-requires tell-header-requires same-length same-length-2 returns)

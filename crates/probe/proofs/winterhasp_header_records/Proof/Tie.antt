@@ -1,0 +1,98 @@
+-- `Tie` of `probe::winterhasp_header_records`, written by tools/twin.py from twins/probe.twin: change that, and not this.
+use Rattle.probe.proofs.tell_header.Met
+use Rattle.probe.proofs.tell_header.Reads
+use Rattle.probe.proofs.tell_header.Symbol
+use Rattle.probe.proofs.winterhasp_header_records.Code
+use Rattle.probe.proofs.winterhasp_header_records.Key
+use Rattle.probe.proofs.readings.winterhasp_header_records.Kinds
+use Rattle.probe.proofs.winterhasp_header_records.Proof.Lts
+use Rattle.probe.proofs.readings.winterhasp_header_records.Reads as Reads'
+use Rattle.probe.proofs.winterhasp_header_records.Statement
+use Rattle.records.proofs.main_header.parse_main_header.Met as Met'
+use Rattle.records.proofs.readings.main_header.parse_main_header.Reads as Reads''
+use Rattle.records.proofs.main_header.parse_main_header.Symbol as Symbol'
+use borrow.Fn.Run
+use borrow.Fn.Written
+use contract.Running
+
+abbrev pub Start : Type 0
+Start = Lts.Start (Reads''.Asked, Reads''.Learnt, Reads.Asked, Reads.Learnt) Reads'.Pre Reads'.Post
+
+abbrev pub After-shared-slice-known : Type 0
+After-shared-slice-known = Lts.After-shared-slice-known (Reads''.Asked, Reads''.Learnt, Reads.Asked, Reads.Learnt) Reads'.Pre Reads'.Post
+
+abbrev pub After-slice-known : Type 0
+After-slice-known = Lts.After-slice-known (Reads''.Asked, Reads''.Learnt, Reads.Asked, Reads.Learnt) Reads'.Pre Reads'.Post
+
+abbrev pub After-parse-main-header-arg : Type 0
+After-parse-main-header-arg = Lts.After-parse-main-header-arg (Reads''.Asked, Reads''.Learnt, Reads.Asked, Reads.Learnt) Reads'.Pre Reads'.Post
+
+abbrev pub After-parse-main-header-arg2 : Type 0
+After-parse-main-header-arg2 = Lts.After-parse-main-header-arg2 (Reads''.Asked, Reads''.Learnt, Reads.Asked, Reads.Learnt) Reads'.Pre Reads'.Post
+
+abbrev pub After-parse-main-header : Type 0
+After-parse-main-header = Lts.After-parse-main-header (Reads''.Asked, Reads''.Learnt, Reads.Asked, Reads.Learnt) Reads'.Pre Reads'.Post
+
+abbrev pub After-table : Type 0
+After-table = Lts.After-table (Reads''.Asked, Reads''.Learnt, Reads.Asked, Reads.Learnt) Reads'.Pre Reads'.Post
+
+abbrev pub After-out : Type 0
+After-out = Lts.After-out (Reads''.Asked, Reads''.Learnt, Reads.Asked, Reads.Learnt) Reads'.Pre Reads'.Post
+
+abbrev pub After-slice-known2 : Type 0
+After-slice-known2 = Lts.After-slice-known2 (Reads''.Asked, Reads''.Learnt, Reads.Asked, Reads.Learnt) Reads'.Pre Reads'.Post
+
+abbrev pub After-tell-header-arg : Type 0
+After-tell-header-arg = Lts.After-tell-header-arg (Reads''.Asked, Reads''.Learnt, Reads.Asked, Reads.Learnt) Reads'.Pre Reads'.Post
+
+abbrev pub After-tell-header-arg2 : Type 0
+After-tell-header-arg2 = Lts.After-tell-header-arg2 (Reads''.Asked, Reads''.Learnt, Reads.Asked, Reads.Learnt) Reads'.Pre Reads'.Post
+
+abbrev pub After-tell-header-arg3 : Type 0
+After-tell-header-arg3 = Lts.After-tell-header-arg3 (Reads''.Asked, Reads''.Learnt, Reads.Asked, Reads.Learnt) Reads'.Pre Reads'.Post
+
+abbrev pub After-tell-header : Type 0
+After-tell-header = Lts.After-tell-header (Reads''.Asked, Reads''.Learnt, Reads.Asked, Reads.Learnt) Reads'.Pre Reads'.Post
+
+abbrev pub Need-parse-main-header-requires : Type 0
+Need-parse-main-header-requires = Lts.Need-parse-main-header-requires (Reads''.Asked, Reads''.Learnt, Reads.Asked, Reads.Learnt) Reads'.Pre Reads'.Post
+
+abbrev pub Need-tell-header-requires : Type 0
+Need-tell-header-requires = Lts.Need-tell-header-requires (Reads''.Asked, Reads''.Learnt, Reads.Asked, Reads.Learnt) Reads'.Pre Reads'.Post
+
+abbrev pub Need-same-length : Type 0
+Need-same-length = Lts.Need-same-length (Reads''.Asked, Reads''.Learnt, Reads.Asked, Reads.Learnt) Reads'.Pre Reads'.Post
+
+abbrev pub Need-same-length-2 : Type 0
+Need-same-length-2 = Lts.Need-same-length-2 (Reads''.Asked, Reads''.Learnt, Reads.Asked, Reads.Learnt) Reads'.Pre Reads'.Post
+
+abbrev pub Need-returns : Type 0
+Need-returns = Lts.Need-returns (Reads''.Asked, Reads''.Learnt, Reads.Asked, Reads.Learnt) Reads'.Pre Reads'.Post
+
+module _ {M : Type 1} where
+  pub spec : (answer : Need-parse-main-header-requires) → (answer : Need-tell-header-requires) → (answer : Need-same-length) → (answer : Need-same-length-2) → (answer :
+      Need-returns) → Lts.Closed (Reads''.Asked, Reads''.Learnt, Reads.Asked, Reads.Learnt) Reads'.Pre Reads'.Post M
+  spec = λ answer answer' answer'' answer'3 answer'4. Lts.spec (Reads''.Asked, Reads''.Learnt, Reads.Asked, Reads.Learnt) Reads'.Pre Reads'.Post answer answer' answer'' answer'3
+      answer'4
+
+  pub close : Lts.Closed (Reads''.Asked, Reads''.Learnt, Reads.Asked, Reads.Learnt) Reads'.Pre Reads'.Post M → Statement.statement M
+  unfolding Code.routine Running.tablesOf
+  close = λ closed 𝓤 H 𝓜 𝓖 𝓡. Written.close 6 Kinds.ps Kinds.r Reads'.Ghost Reads'.requires Reads'.ensures Reads'.pre-read Reads'.Pinned Reads'.Owned Reads'.post-read record {
+    M =
+        M;
+    𝓤 = 𝓤;
+    H = H;
+    𝓜 = 𝓜;
+    𝓖 = 𝓖;
+    𝓡 = 𝓡;
+  } Code.env Key.name Code.function (Code.unfolded 𝓤 H 𝓜 𝓡) (λ κs a g. tt) (λ κs. Reads'.owns κs record {
+    M = M;
+    𝓤 = 𝓤;
+    H = H;
+    𝓜 = 𝓜;
+    𝓖 =
+        𝓖;
+    𝓡 = 𝓡;
+  }) (Reads'.passes record { M = M; 𝓤 = 𝓤; H = H; 𝓜 = 𝓜; 𝓖 = 𝓖; 𝓡 = 𝓡 }) λ g. closed 𝓤 H (𝓖 .A) (Running.givenOf 𝓤 H 𝓜 𝓖) (Run.Over 𝓤 H 𝓜 𝓖 𝓡 Code.env) (Reads''.known
+      record { M = M; 𝓤 = 𝓤; H = H; 𝓜 = 𝓜; 𝓖 = 𝓖; 𝓡 = 𝓡 } Code.env Symbol'.name Symbol'.routine Code.calls-records·main-header·parse-main-header (Met'.met 𝓤 H 𝓜 𝓖 𝓡)) (Reads.known
+      record { M = M; 𝓤 = 𝓤; H = H; 𝓜 = 𝓜; 𝓖 = 𝓖; 𝓡 = 𝓡 } Code.env Symbol.name Symbol.routine Code.calls-probe·tell-header (Met.met 𝓤 H 𝓜 𝓖 𝓡))

@@ -1,0 +1,22 @@
+-- What the callees say of answer and lent memory is what is promised.
+mod Lts
+mod Tie
+use borrow.Author.Needs.{needs}
+use Rattle.probe.proofs.winterhasp_scan_records.Statement.{statement}
+use Rattle.probe.proofs.winterhasp_scan_records.Proof.Tie as tie
+
+scan-sot-markers-requires : tie.Need-scan-sot-markers-requires
+scan-sot-markers-requires c κs = search needs
+
+tell-requires : tie.Need-tell-requires
+tell-requires c κs = search needs
+
+same-length : tie.Need-same-length
+same-length c = search needs
+
+returns : tie.Need-returns
+returns c = (cc, (cc, cc))
+
+pub winterhasp-scan-records-spec : {M : Type 1} → statement M
+winterhasp-scan-records-spec =
+    tie.close (tie.spec scan-sot-markers-requires tell-requires same-length returns)
