@@ -7,7 +7,6 @@ use libc::STDIN_FILENO;
 use libc::STDOUT_FILENO;
 use parts::scan::Scanned;
 use reader::search::Found;
-use types::ROW;
 use types::Refusal;
 use types::TilePartEntry;
 
@@ -41,16 +40,18 @@ fn list(file: &[u8]) {
 
 // Offsets from here on are the codestream's.
 fn list_header(codestream: &[u8]) {
-    let mut table = new_table();
     let mut out = io::large_buffer();
-    match header::parse::parse_main_header(codestream, &mut table, &mut out) {
+    let read = records::tables::header_table(codestream, &mut out);
+    let answer = read.answer;
+    let table = read.table;
+    match answer {
         MainHeader::Header(info) => {
             let first_sot = info.first_sot_offset;
             text(b"header");
             number(first_sot.0);
             number(info.decode_header_length);
             text(b"\n");
-            rows(b"tlm", &table, info.tlm_entries);
+            rows(b"tlm", table, info.tlm_entries);
             list_parts(codestream, first_sot.0);
         }
         MainHeader::Refused(refusal) => refuse(refusal),
@@ -58,21 +59,23 @@ fn list_header(codestream: &[u8]) {
 }
 
 fn list_parts(codestream: &[u8], first_sot: u64) {
-    let mut table = new_table();
-    match parts::scan::scan_sot_markers(codestream, first_sot, &mut table) {
+    let scan = records::tables::scan_table(codestream, first_sot);
+    let answer = scan.answer;
+    let table = scan.table;
+    match answer {
         Scanned::Table(count) => {
-            rows(b"part", &table, count);
+            rows(b"part", table, count);
             text(b"end\n");
         }
         Scanned::Refused(refusal) => refuse(refusal),
     }
 }
 
-// The first rows of a table, which has as many, a line for each.
-fn rows(word: &[u8], table: &[u8], count: u64) {
-    let end = numbers::minimum(count, (table.len() / ROW) as u64) as usize;
+// The first records of a table, which has as many, a line for each.
+fn rows(word: &[u8], table: [TilePartEntry; 2048], count: u64) {
+    let end = numbers::minimum(count, 2048) as usize;
     for i in 0..end {
-        row(word, types::read_row(table, i * ROW));
+        row(word, table[i]);
     }
 }
 
@@ -106,11 +109,4 @@ fn new_input() -> [u8; 65537]
     ensures { λ r. ⌜ 65537 ≡ length r ⌝ }
 {
     [0; 65537]
-}
-
-// 2,048 rows.
-fn new_table() -> [u8; 36864]
-    ensures { λ r. ⌜ 36864 ≡ length r ⌝ }
-{
-    [0; 36864]
 }

@@ -1,12 +1,11 @@
--- The turns stay inside what is shown, which the table has rows for; the measure is what is left.
-use Prim.Native.Nat.{_≤_, _-_, _/_}
-use lib.ListN.{length}
+-- The turns stay inside what is shown, which the table has records for; the measure is what is left.
+use Prim.Native.Nat.{_≤_, _-_}
 use borrow.Author.Needs.{needs}
 use Rattle.tileparts.proofs.rows.Statement.{statement}
 use Rattle.tileparts.proofs.rows.Tie as tie
 
 abbrev Inv-loop : tie.InvT-loop
-Inv-loop word table count end i₀ i = (end ≤ length table / 18) × (i ≤ end)
+Inv-loop word table count end i₀ i = (end ≤ 2048) × (i ≤ end)
 
 abbrev μ-loop : tie.MeasureT-loop
 μ-loop word table count end i₀ i = end - i
@@ -17,11 +16,11 @@ minimum-requires c κs = search needs
 loop-holds : tie.Need-loop-holds Inv-loop μ-loop
 loop-holds c = search needs
 
-mul-read-row : tie.Need-mul-read-row Inv-loop μ-loop
-mul-read-row c = search needs
+mul-row : tie.Need-mul-row Inv-loop μ-loop
+mul-row c = search needs
 
-read-row-requires : tie.Need-read-row-requires Inv-loop μ-loop
-read-row-requires c κs = search needs
+array-copy-out-row : tie.Need-array-copy-out-row Inv-loop μ-loop
+array-copy-out-row c = search needs
 
 row-requires : tie.Need-row-requires Inv-loop μ-loop
 row-requires c κs = search needs
@@ -46,8 +45,8 @@ rows-spec =
     μ-loop
     minimum-requires
     loop-holds
-    mul-read-row
-    read-row-requires
+    mul-row
+    array-copy-out-row
     row-requires
     add-i
     loop-less

@@ -31,6 +31,10 @@ const KINDS: &[Kind] = &[
     beside::siz::KIND,
     #[cfg(all(present, feature = "reader"))]
     beside::growth::KIND,
+    #[cfg(all(present, feature = "header"))]
+    beside::header::RECORDS,
+    #[cfg(all(present, feature = "parts"))]
+    beside::scan::RECORDS,
 ];
 
 const CASES: &str = "crates/replay/data/cases";

@@ -1,4 +1,4 @@
-//! The replay list's cases of kind 2; the payload is the codestream.
+//! The replay list's cases of kinds 2 and 10; the payload is the codestream.
 
 use super::original;
 use crate::cases::{listed, Kind};
@@ -13,6 +13,13 @@ pub const KIND: Kind = Kind {
     minimum: 300,
     payloads,
     answer,
+};
+
+/// The same through a table of records.
+pub const RECORDS: Kind = Kind {
+    number: 10,
+    name: "header records",
+    ..KIND
 };
 
 fn answer(codestream: &[u8]) -> Option<String> {

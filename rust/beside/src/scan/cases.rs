@@ -1,4 +1,5 @@
-//! The replay list's cases of kind 3; the payload is the start in 8 bytes, and the codestream.
+//! The replay list's cases of kinds 3 and 11; the payload is the start in 8 bytes, and the
+//! codestream.
 
 use super::original;
 use crate::cases::{listed, Kind};
@@ -18,6 +19,13 @@ pub const KIND: Kind = Kind {
         inputs(random).into_iter().map(framed).collect()
     },
     answer,
+};
+
+/// The same through a table of records.
+pub const RECORDS: Kind = Kind {
+    number: 11,
+    name: "scan records",
+    ..KIND
 };
 
 fn answer(payload: &[u8]) -> Option<String> {

@@ -8,7 +8,7 @@ use original::markers;
 
 use crate::model::Entry;
 
-pub use cases::KIND;
+pub use cases::{KIND, RECORDS};
 pub use compare::COMPARISON;
 pub use rows::BENCHMARK;
 

@@ -3,8 +3,8 @@ use Prim.Native.Nat.{_≤_, _-_}
 use native.Mathlib.Omega.{arith}
 use lib.ListN.{length}
 use borrow.Author.Needs.{needs}
-use Rattle.replay.proofs.hex.Statement.{statement}
-use Rattle.replay.proofs.hex.Tie as tie
+use Rattle.replay.proofs.print.hex.Statement.{statement}
+use Rattle.replay.proofs.print.hex.Tie as tie
 
 abbrev Inv-loop : tie.InvT-loop
 Inv-loop bytes count end i₀ i = (end ≤ length bytes) × (i ≤ end)

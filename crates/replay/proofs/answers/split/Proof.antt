@@ -1,8 +1,8 @@
 -- The measure is the number of parts that are left.
 use Prim.Native.Nat.{_≤_, _-_}
 use borrow.Author.Needs.{needs}
-use Rattle.replay.proofs.answer_split.Statement.{statement}
-use Rattle.replay.proofs.answer_split.Tie as tie
+use Rattle.replay.proofs.answers.split.Statement.{statement}
+use Rattle.replay.proofs.answers.split.Tie as tie
 
 abbrev Inv-loop : tie.InvT-loop
 Inv-loop tile count k₀ k = k ≤ count
@@ -43,8 +43,8 @@ loop-again c = search needs
 returns : tie.Need-returns Inv-loop μ-loop
 returns c = search needs
 
-pub answer-split-spec : {M : Type 1} → statement M
-answer-split-spec =
+pub split-spec : {M : Type 1} → statement M
+split-spec =
     tie.close
     (tie.spec
     Inv-loop

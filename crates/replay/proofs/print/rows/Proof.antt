@@ -2,8 +2,8 @@
 use Prim.Native.Nat.{_≤_, _-_, _/_}
 use lib.ListN.{length}
 use borrow.Author.Needs.{needs}
-use Rattle.replay.proofs.rows.Statement.{statement}
-use Rattle.replay.proofs.rows.Tie as tie
+use Rattle.replay.proofs.print.rows.Statement.{statement}
+use Rattle.replay.proofs.print.rows.Tie as tie
 
 abbrev Inv-loop : tie.InvT-loop
 Inv-loop table count end i₀ i = (end ≤ length table / 18) × (i ≤ end)
@@ -23,17 +23,8 @@ mul-read-row c = search needs
 read-row-requires : tie.Need-read-row-requires Inv-loop μ-loop
 read-row-requires c κs = search needs
 
-cast-number : tie.Need-cast-number Inv-loop μ-loop
-cast-number c = search needs
-
-number-requires : tie.Need-number-requires Inv-loop μ-loop
-number-requires c κs = search needs
-
-number-requires-2 : tie.Need-number-requires-2 Inv-loop μ-loop
-number-requires-2 c κs = search needs
-
-number-requires-3 : tie.Need-number-requires-3 Inv-loop μ-loop
-number-requires-3 c κs = search needs
+record-requires : tie.Need-record-requires Inv-loop μ-loop
+record-requires c κs = search needs
 
 add-i : tie.Need-add-i Inv-loop μ-loop
 add-i c = search needs
@@ -57,10 +48,7 @@ rows-spec =
     loop-holds
     mul-read-row
     read-row-requires
-    cast-number
-    number-requires
-    number-requires-2
-    number-requires-3
+    record-requires
     add-i
     loop-less
     loop-again

@@ -1,0 +1,163 @@
+// The answers, one function for each kind of case.
+ghost use mathlib.Core.Path.{_≡_};
+ghost use lib.ListN.{length};
+use crate::print;
+use header::extent::MainHeaderExtent;
+use reader::search::Found;
+use reader::siz::SampleType;
+use reader::siz::SizRead;
+use types::ROW;
+
+// The payload is the prefix.
+pub fn extent(prefix: &[u8]) {
+    match header::extent::main_header_extent(prefix) {
+        MainHeaderExtent::Complete(first_sot) => {
+            print::text(b"extent complete");
+            print::number(first_sot.0);
+        }
+        MainHeaderExtent::Truncated => print::text(b"extent truncated"),
+    }
+}
+
+// The payload is the codestream.
+pub fn header(codestream: &[u8]) {
+    let mut table = new_table();
+    let mut out = io::large_buffer();
+    let answer = header::parse::parse_main_header(codestream, &mut table, &mut out);
+    let entries = print::header(answer, &out);
+    print::rows(&table, entries);
+}
+
+// The same with a table of records.
+pub fn header_records(codestream: &[u8]) {
+    let mut out = io::large_buffer();
+    let read = records::tables::header_table(codestream, &mut out);
+    let answer = read.answer;
+    let table = read.table;
+    let entries = print::header(answer, &out);
+    print::records(table, entries);
+}
+
+// The payload is the start, 8 bytes, and the codestream.
+pub fn scan(payload: &[u8]) {
+    if payload.len() < 8 {
+        return print::text(b"unknown kind");
+    }
+    let start = numbers::read_u64(payload, 0);
+    let mut table = new_table();
+    let answer = parts::scan::scan_sot_markers(&payload[8..], start, &mut table);
+    let entries = print::scan(answer);
+    print::rows(&table, entries);
+}
+
+// The same with a table of records.
+pub fn scan_records(payload: &[u8]) {
+    if payload.len() < 8 {
+        return print::text(b"unknown kind");
+    }
+    let start = numbers::read_u64(payload, 0);
+    let scan = records::tables::scan_table(&payload[8..], start);
+    let answer = scan.answer;
+    let table = scan.table;
+    let entries = print::scan(answer);
+    print::records(table, entries);
+}
+
+// The payload is the tile's buffer.
+pub fn split(tile: &[u8]) {
+    let count = parts::split::split_count(tile);
+    print::text(b"split");
+    print::number(count as u64);
+    for k in 0..count {
+        print::number(parts::split::split_part(tile, k).len() as u64);
+    }
+}
+
+// The payload is the index, 2 bytes, and the header.
+pub fn rewrite(payload: &[u8]) {
+    if payload.len() < 2 {
+        return print::text(b"unknown kind");
+    }
+    let isot = numbers::read_u16(payload, 0);
+    let mut out = io::large_buffer();
+    let answer = tile::rewrite::rewrite_siz_for_tile(&payload[2..], isot, &mut out);
+    print::text(b"rewrite");
+    print::written(answer, &out);
+}
+
+// The payload is the header's length, 4 bytes, the header, the number of rows, 2 bytes, the rows, and the codestream.
+pub fn assembly(payload: &[u8]) {
+    if payload.len() < 4 {
+        return print::text(b"unknown kind");
+    }
+    let header_end = 4 + numbers::read_u32(payload, 0) as usize;
+    let from = header_end + 2;
+    if payload.len() < from {
+        return print::text(b"unknown kind");
+    }
+    let to = from + numbers::read_u16(payload, header_end) as usize * ROW;
+    if payload.len() < to {
+        return print::text(b"unknown kind");
+    }
+    assemble(&payload[4..header_end], &payload[from..to], &payload[to..]);
+}
+
+fn assemble(header: &[u8], rows: &[u8], codestream: &[u8]) {
+    let mut out = io::large_buffer();
+    let answer = tile::assembly::build_minimal_codestream(header, rows, codestream, &mut out);
+    print::text(b"assembly");
+    print::written(answer, &out);
+}
+
+// The payload is the file.
+pub fn search(file: &[u8]) {
+    print::text(b"search");
+    match reader::search::find_codestream(file) {
+        Found::Codestream(start, size) => {
+            print::number(start.0);
+            print::number(size);
+        }
+        Found::Refused(_) => print::text(b" refused"),
+    }
+}
+
+// The payload is the codestream.
+pub fn siz(codestream: &[u8]) {
+    print::text(b"siz");
+    let SizRead::Siz(info) = reader::siz::parse_siz_marker(codestream) else {
+        return print::text(b" refused");
+    };
+    print::number(info.width as u64);
+    print::number(info.height as u64);
+    print::number(info.num_components as u64);
+    print::number(info.bits_per_component as u64);
+    print::number(if info.is_signed { 1 } else { 0 });
+    let sample = reader::siz::pixel_type_from_siz(info.bits_per_component, info.is_signed);
+    print::number(
+        match sample {
+            SampleType::UInt8 => 0,
+            SampleType::Int8 => 1,
+            SampleType::UInt16 => 2,
+            SampleType::Int16 => 3,
+            SampleType::UInt32 => 4,
+            SampleType::Int32 => 5,
+        },
+    );
+}
+
+// The payload is the region and the codestream's length, 8 bytes each.
+pub fn growth(payload: &[u8]) {
+    if payload.len() != 16 {
+        return print::text(b"unknown kind");
+    }
+    print::text(b"growth");
+    let region = numbers::read_u64(payload, 0);
+    print::number(reader::growth::next_region(region, numbers::read_u64(payload, 8)));
+}
+
+// 2,048 rows.
+fn new_table() -> [u8; 36864]
+    ensures { λ r. ⌜ 36864 ≡ length r ⌝ }
+{
+    [0; 36864]
+}

@@ -1,0 +1,83 @@
+// What is written of an answer.
+use header::parse::MainHeader;
+use libc::STDOUT_FILENO;
+use parts::scan::Scanned;
+use tile::rewrite::Written;
+use types::ROW;
+use types::TilePartEntry;
+
+// The line but for its entries; gives how many follow.
+pub fn header(answer: MainHeader, out: &[u8]) -> u64 {
+    text(b"header");
+    let MainHeader::Header(info) = answer else {
+        text(b" refused");
+        return 0;
+    };
+    let first_sot = info.first_sot_offset;
+    number(first_sot.0);
+    number(info.decode_header_length);
+    hex(out, info.decode_header_length);
+    if info.tlm_entries == 0 {
+        text(b" none");
+    }
+    info.tlm_entries
+}
+
+// The same of a scan.
+pub fn scan(answer: Scanned) -> u64 {
+    text(b"scan");
+    let Scanned::Table(count) = answer else {
+        text(b" refused");
+        return 0;
+    };
+    number(count);
+    count
+}
+
+pub fn written(answer: Written, out: &[u8]) {
+    match answer {
+        Written::Bytes(count) => hex(out, count),
+        Written::Refused(_) => text(b" refused"),
+    }
+}
+
+// The first rows of a table, which has as many.
+pub fn rows(table: &[u8], count: u64) {
+    let end = numbers::minimum(count, (table.len() / ROW) as u64) as usize;
+    for i in 0..end {
+        record(types::read_row(table, i * ROW));
+    }
+}
+
+// The first records of a table, which has as many.
+pub fn records(table: [TilePartEntry; 2048], count: u64) {
+    let end = numbers::minimum(count, 2048) as usize;
+    for i in 0..end {
+        record(table[i]);
+    }
+}
+
+fn record(entry: TilePartEntry) {
+    number(entry.tile_index as u64);
+    number(entry.offset);
+    number(entry.length);
+}
+
+// The first bytes of a buffer, which has as many, after a space.
+pub fn hex(bytes: &[u8], count: u64) {
+    let end = numbers::minimum(count, bytes.len() as u64) as usize;
+    text(b" ");
+    for i in 0..end {
+        io::print_hex(STDOUT_FILENO, bytes[i] as u64, 2);
+    }
+}
+
+// A number, after a space.
+pub fn number(n: u64) {
+    text(b" ");
+    io::print_decimal(STDOUT_FILENO, n);
+}
+
+pub fn text(word: &[u8]) {
+    io::write_all(STDOUT_FILENO, word);
+}
