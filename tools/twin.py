@@ -313,9 +313,10 @@ if own:
     module_lines(f'{out}/lent.antt', own)
 
 lent_fns = lent_of(twin)
+t = f'{here}/target/twin-{crate}'
+shutil.rmtree(t, ignore_errors=True)
 for fn in only or lent_fns:
-    t = f'{here}/target/twin-{crate}-{fn.replace("/", "-")}'
-    shutil.rmtree(t, ignore_errors=True)
+    shutil.rmtree(f'{t}/gen', ignore_errors=True)
     for c, text, f in [(crate, twin, fn)] + [(d, x, None) for d, x in deps.items()]:
         for path, x in stubbed(text, f).items():
             os.makedirs(os.path.dirname(f'{t}/crates/{c}/{path}'), exist_ok=True)
