@@ -5,5 +5,6 @@ pub mod Items
 pub mod Rewalked
 pub mod Rescanned
 pub mod Demand3
+pub mod Rows
 pub mod Settled
 pub mod Premises

@@ -1,11 +1,12 @@
 -- How records stand in a table: as rows of bytes, or as themselves. A loop that fills a table, one record a turn, is argued once for both: what is left,
 -- put where the next record goes, makes the same table before a turn and after it.
-use Prim.Native.Nat.{ℕ, _+_, _*_, _≤_}
+use Prim.Native.Nat.{ℕ, zero, suc, _+_, _*_, _≤_}
 use native.Mathlib.Nat.{mul-zero, mul-suc}
 use native.Mathlib.Omega.{arith}
 use mathlib.Core.Path.{_≡_, refl, sym, ap, _∙_}
 use mathlib.Core.List.{List, [], _∷_, _++_, append-assoc}
-use lib.ListN.{length, length-append}
+use lib.ListN.{length, drop, length-append}
+use lib.Seq.{drop-nil, drop-append-add}
 use Rattle.numbers.specs.Bytes.{put}
 use Rattle.numbers.proofs.Laws.{put-put, put-none, length-put}
 use Rattle.types.specs.declared.TilePartEntry.{TilePartEntry}
@@ -45,6 +46,14 @@ module _ {B : Type 0} (L : Layout B) where
   pub all-append : (xs ys : List TilePartEntry) → L .all (xs ++ ys) ≡ L .all xs ++ L .all ys
   all-append [] ys = rw (L .none)
   all-append (e ∷ xs) ys = rw (L .more, L .more, all-append xs ys) (sym (append-assoc (L .one e) (L .all xs) (L .all ys)))
+
+  -- the records after the first n stand after n widths
+  pub all-drop : (n : ℕ) (es : List TilePartEntry) → drop (L .width * n) (L .all es) ≡ L .all (drop n es)
+  all-drop zero es = ap (λ (k : ℕ). drop k (L .all es)) (mul-zero (L .width))
+  all-drop (suc n) [] = rw (L .none) (drop-nil (L .width * suc n))
+  all-drop (suc n) (e ∷ es) =
+      let past : L .width * suc n ≡ length (L .one e) + L .width * n = mul-suc (L .width) n ∙ omega (arith, L .wide e) in
+      rw (L .more, past) (drop-append-add (L .one e) (L .all es) (L .width * n) ∙ all-drop n es)
 
   -- nothing is left
   pub put-last : (t : List B) (at : ℕ) → put t at (L .all []) ≡ t

@@ -1,0 +1,55 @@
+-- A table of records and the same table as rows of 18 bytes: the functions that write rows and those that write records answer alike, and leave the
+-- same table. The rows are 18 times as many bytes as there are records, and what stands after n rows are the rows of what stands after n records.
+use Prim.Native.Nat.{ℕ, _*_, _/_}
+use native.Mathlib.Omega.{arith}
+use mathlib.Core.Path.{_≡_, refl, sym, ap, _∙_}
+use mathlib.Core.List.{List, _++_}
+use lib.ListN.{length, drop}
+use Rattle.types.specs.Row.{rowsOf}
+use Rattle.types.specs.declared.TilePartEntry.{TilePartEntry}
+use Rattle.types.proofs.Laws.{length-rows}
+use Rattle.types.proofs.Standing.{rows, all-append, all-drop}
+use Rattle.header.specs.Parse.{parsed, tlmTable, tableAfter}
+use Rattle.header.specs.declared.parse.MainHeader.{MainHeader}
+use Rattle.header.specs.declared.parse.MainHeader.the-variants.{Header, Refused}
+use Rattle.parts.specs.Scan.{entriesFrom, scanned, scannedTable}
+use Rattle.parts.specs.declared.scan.Scanned.{Scanned}
+use Rattle.records.specs.MainHeader.{recordsAfter}
+use Rattle.records.specs.Scan.{scannedRecords}
+use Rattle.parts.specs.Scan as parts
+use Rattle.parts.specs.declared.scan.Scanned.the-variants as scans
+use Rattle.records.specs.Scan as records
+
+-- as many rows as records
+pub rows-count : (t : List TilePartEntry) → length (rowsOf t) / 18 ≡ length t
+rows-count t = omega (arith, length-rows t)
+
+-- records, and the rest of a table after n of its own
+pub rows-over : (es : List TilePartEntry) (n : ℕ) (t : List TilePartEntry) → rowsOf es ++ drop (18 * n) (rowsOf t) ≡ rowsOf (es ++ drop n t)
+rows-over es n t = ap (λ (rest : List ℕ). rowsOf es ++ rest) (all-drop rows n t) ∙ sym (all-append rows es (drop n t))
+
+-- ---- the scan
+
+pub scan-agrees : (s : List ℕ) (start : ℕ) (t : List TilePartEntry) → scanned s start (length (rowsOf t) / 18) ≡ scanned s start (length t)
+scan-agrees s start t = ap (scanned s start) (rows-count t)
+
+written-agrees : (a : Scanned) (es t : List TilePartEntry) → parts.written a es (rowsOf t) ≡ rowsOf (records.written a es t)
+unfolding parts.written records.written
+written-agrees (scans.Table n) es t = rows-over es n t
+written-agrees (scans.Refused r) es t = refl
+
+pub scan-table-agrees : (s : List ℕ) (start : ℕ) (t : List TilePartEntry) → scannedTable s start (rowsOf t) ≡ rowsOf (scannedRecords s start t)
+unfolding scannedTable scannedRecords
+scan-table-agrees s start t =
+    ap (λ (a : Scanned). parts.written a (entriesFrom s start) (rowsOf t)) (scan-agrees s start t)
+    ∙ written-agrees (scanned s start (length t)) (entriesFrom s start) t
+
+-- ---- the main header; what is left in the output is given by the answer, alike for both
+
+pub header-agrees : (s : List ℕ) (t : List TilePartEntry) (room : ℕ) → parsed s (length (rowsOf t) / 18) room ≡ parsed s (length t) room
+header-agrees s t room = ap (λ (n : ℕ). parsed s n room) (rows-count t)
+
+pub header-table-agrees : (a : MainHeader) (s : List ℕ) (t : List TilePartEntry) → tableAfter a s (rowsOf t) ≡ rowsOf (recordsAfter a s t)
+unfolding tableAfter recordsAfter
+header-table-agrees (Header h) s t = rows-over (tlmTable s) (h .«tlm_entries») t
+header-table-agrees (Refused r) s t = refl
