@@ -5,6 +5,7 @@
 use beside::model::rows;
 use beside::sample::codestream::{Codestream, Tlm, SOT, TLM};
 use beside::sample::{opened, sample_a};
+use probe::TilePartEntry;
 
 /// Status, numbers, table, output; 20 rows and 200 bytes are lent.
 fn parsed(codestream: &[u8]) -> (u32, [u64; 3], Vec<u8>, Vec<u8>) {
@@ -91,4 +92,21 @@ fn too_little_room() {
             _ => {}
         }
     }
+}
+
+#[test]
+fn sample_a_s_entries_as_records() {
+    let sample = sample_a();
+    let record = TilePartEntry::new;
+    let untouched = record(9, 9, 9);
+    let (mut table, mut out, mut values) = ([untouched; 3], [0xEE; 45], [7; 3]);
+    let status = probe::header_records(&sample, &mut table, &mut out, &mut values);
+    assert_eq!((status, values), (0, [57, 45, 2]));
+    assert_eq!(table, [record(0, 57, 14), record(5, 71, 16), untouched]);
+    assert_eq!(out, sample[..45]);
+
+    let (mut table, mut out, mut values) = ([untouched; 1], [0xEE; 45], [7; 3]);
+    let status = probe::header_records(&sample, &mut table, &mut out, &mut values);
+    assert_eq!((status, values), (18, [2, 7, 7]));
+    assert_eq!((table, out), ([untouched; 1], [0xEE; 45]));
 }

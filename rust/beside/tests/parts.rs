@@ -4,6 +4,7 @@
 
 use beside::sample::parts::{many, sot};
 use beside::sample::{sample_a, SAMPLE_A_FIRST_SOT};
+use probe::TilePartEntry;
 use winterhasp::{scan_into, scan_sot_markers, Refusal, TilePart};
 
 const TWELVE: [u8; 12] = [0; 12];
@@ -68,12 +69,34 @@ fn a_table_one_short_is_left_alone() {
     assert_eq!((table, value), ([0xEE; 35], 2));
 }
 
-/// The part of number `k`; 100 bytes are lent.
-fn split_part(tile: &[u8], k: u64) -> Vec<u8> {
+#[test]
+fn sample_a_s_parts_as_records() {
+    let record = TilePartEntry::new;
+    let untouched = record(9, 9, 9);
+    let (mut table, mut value) = ([untouched; 3], 7);
+    let status = probe::scan_records(&sample_a(), 57, &mut table, &mut value);
+    assert_eq!((status, value), (0, 2));
+    assert_eq!(table, [record(0, 57, 14), record(5, 71, 16), untouched]);
+
+    let (mut table, mut value) = ([untouched; 1], 7);
+    let status = probe::scan_records(&sample_a(), 57, &mut table, &mut value);
+    assert_eq!((status, value, table), (18, 2, [untouched; 1]));
+}
+
+/// What `split` gives for a number or a position; 100 bytes are lent.
+fn lent(split: impl Fn(&mut [u8], &mut u64) -> u32) -> Vec<u8> {
     let (mut out, mut length) = (vec![0; 100], 7);
-    assert_eq!(probe::split_part(tile, k, &mut out, &mut length), 0);
+    assert_eq!(split(&mut out, &mut length), 0);
     out.truncate(length as usize);
     out
+}
+
+fn split_part(tile: &[u8], k: u64) -> Vec<u8> {
+    lent(|out, length| probe::split_part(tile, k, out, length))
+}
+
+fn split_at(tile: &[u8], at: u64) -> Vec<u8> {
+    lent(|out, length| probe::split_at(tile, at, out, length))
 }
 
 #[test]
@@ -94,5 +117,19 @@ fn sample_a_splits_in_two() {
     assert_eq!(split_part(tiles, 2), []);
     let (mut out, mut size) = ([0xEE; 15], 7);
     assert_eq!(probe::split_part(tiles, 1, &mut out, &mut size), 17);
+    assert_eq!((out, size), ([0xEE; 15], 16));
+}
+
+#[test]
+fn parts_by_position() {
+    let sample = sample_a();
+    let tiles = &sample[SAMPLE_A_FIRST_SOT..];
+    assert_eq!(split_at(tiles, 0), tiles[..14]);
+    assert_eq!(split_at(tiles, 14), tiles[14..30]);
+    for at in [1, 13, 15, 30, 31, 32, 33, 1 << 32, u64::MAX] {
+        assert_eq!(split_at(tiles, at), []);
+    }
+    let (mut out, mut size) = ([0xEE; 15], 7);
+    assert_eq!(probe::split_at(tiles, 14, &mut out, &mut size), 17);
     assert_eq!((out, size), ([0xEE; 15], 16));
 }

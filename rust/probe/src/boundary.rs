@@ -2,9 +2,34 @@
 //!
 //! One reason serves for every call: each pointer and length are those of one slice, or of one
 //! number; what is read is shared and what is written is borrowed by nobody else; the archive keeps
-//! none of them after it returns.
+//! none of them after it returns. A slice of records is counted in records, which are laid out as the
+//! archive's own.
+
+/// A tile-part: its tile's index, its offset and its length.
+#[cfg(any(feature = "header", feature = "parts"))]
+#[repr(C)]
+#[derive(Debug, Default, Clone, Copy, PartialEq, Eq)]
+pub struct TilePartEntry {
+    pub tile_index: u16,
+    pub offset: u64,
+    pub length: u64,
+}
+
+#[cfg(any(feature = "header", feature = "parts"))]
+impl TilePartEntry {
+    pub fn new(tile_index: u16, offset: u64, length: u64) -> Self {
+        TilePartEntry {
+            tile_index,
+            offset,
+            length,
+        }
+    }
+}
 
 mod archive {
+    #[cfg(any(feature = "header", feature = "parts"))]
+    use super::TilePartEntry;
+
     extern "C" {
         #[cfg(feature = "header")]
         pub fn winterhasp_parse_main_header(
@@ -19,6 +44,29 @@ mod archive {
             entries: *mut u64,
         ) -> u32;
 
+        #[cfg(feature = "header")]
+        pub fn winterhasp_header_records(
+            codestream: *const u8,
+            codestream_len: usize,
+            table: *mut TilePartEntry,
+            table_len: usize,
+            out: *mut u8,
+            out_len: usize,
+            first_sot: *mut u64,
+            decode_length: *mut u64,
+            entries: *mut u64,
+        ) -> u32;
+
+        #[cfg(feature = "parts")]
+        pub fn winterhasp_scan_records(
+            codestream: *const u8,
+            codestream_len: usize,
+            first_sot_offset: u64,
+            table: *mut TilePartEntry,
+            table_len: usize,
+            value: *mut u64,
+        ) -> u32;
+
         #[cfg(feature = "parts")]
         pub fn winterhasp_split_count(tile: *const u8, tile_len: usize) -> u64;
 
@@ -27,6 +75,16 @@ mod archive {
             tile: *const u8,
             tile_len: usize,
             k: u64,
+            out: *mut u8,
+            out_len: usize,
+            value: *mut u64,
+        ) -> u32;
+
+        #[cfg(feature = "parts")]
+        pub fn winterhasp_split_at(
+            tile: *const u8,
+            tile_len: usize,
+            at: u64,
             out: *mut u8,
             out_len: usize,
             value: *mut u64,
@@ -92,6 +150,51 @@ pub fn parse_main_header(
     }
 }
 
+/// As `parse_main_header`, with the TLM entries as records.
+#[cfg(feature = "header")]
+pub fn header_records(
+    codestream: &[u8],
+    table: &mut [TilePartEntry],
+    out: &mut [u8],
+    [first_sot, decode_length, entries]: &mut [u64; 3],
+) -> u32 {
+    // SAFETY: as at the top of this file.
+    unsafe {
+        archive::winterhasp_header_records(
+            codestream.as_ptr(),
+            codestream.len(),
+            table.as_mut_ptr(),
+            table.len(),
+            out.as_mut_ptr(),
+            out.len(),
+            first_sot,
+            decode_length,
+            entries,
+        )
+    }
+}
+
+/// The tile-parts from the offset `first_sot` on go to `table`, their number to `value`.
+#[cfg(feature = "parts")]
+pub fn scan_records(
+    codestream: &[u8],
+    first_sot: u64,
+    table: &mut [TilePartEntry],
+    value: &mut u64,
+) -> u32 {
+    // SAFETY: as at the top of this file.
+    unsafe {
+        archive::winterhasp_scan_records(
+            codestream.as_ptr(),
+            codestream.len(),
+            first_sot,
+            table.as_mut_ptr(),
+            table.len(),
+            value,
+        )
+    }
+}
+
 /// How many tile-parts `tile` holds.
 #[cfg(feature = "parts")]
 pub fn split_count(tile: &[u8]) -> u64 {
@@ -108,6 +211,23 @@ pub fn split_part(tile: &[u8], k: u64, out: &mut [u8], value: &mut u64) -> u32 {
             tile.as_ptr(),
             tile.len(),
             k,
+            out.as_mut_ptr(),
+            out.len(),
+            value,
+        )
+    }
+}
+
+/// The part that stands at the position `at` goes to `out`, its length to `value`; where none does it
+/// is empty.
+#[cfg(feature = "parts")]
+pub fn split_at(tile: &[u8], at: u64, out: &mut [u8], value: &mut u64) -> u32 {
+    // SAFETY: as at the top of this file.
+    unsafe {
+        archive::winterhasp_split_at(
+            tile.as_ptr(),
+            tile.len(),
+            at,
             out.as_mut_ptr(),
             out.len(),
             value,
