@@ -3,12 +3,13 @@
 use std::fmt::Debug;
 
 use crate::caught::caught;
+use crate::compare::Run;
 use crate::lent::Lent;
 use crate::model::{Refusal, ACCEPTED};
 use crate::tally::Tally;
 
 /// What the original said.
-#[derive(Debug)]
+#[derive(Debug, Clone)]
 pub enum Told<A> {
     Accepted(A),
     Refused,
@@ -40,6 +41,7 @@ impl Leaves<1, 1> for Vec<u8> {
 }
 
 /// One case: what was lent before and after our function, and what the others say.
+#[derive(Clone)]
 pub struct Case<A, const V: usize, const M: usize> {
     pub before: Lent<V, M>,
     pub ours: Lent<V, M>,
@@ -48,6 +50,20 @@ pub struct Case<A, const V: usize, const M: usize> {
 }
 
 impl<A: Leaves<V, M>, const V: usize, const M: usize> Case<A, V, M> {
+    /// The case, and the same with what the other function of ours left. Both are held to the same,
+    /// and so to each other.
+    pub fn judge_both(self, other: Lent<V, M>, run: &mut Run, input: impl Fn() -> String)
+    where
+        A: Clone,
+    {
+        let second = Case {
+            ours: other,
+            ..self.clone()
+        };
+        self.judge(&mut run.tally, &input);
+        second.judge(&mut run.also[0], input);
+    }
+
     /// Counted under document 01's answer; where the original says nothing that document alone
     /// decides, and elsewhere it too is held to the original.
     pub fn judge(self, tally: &mut Tally, input: impl FnOnce() -> String) {

@@ -17,6 +17,8 @@ pub mod tally;
 
 #[cfg(all(present, any(feature = "header", feature = "parts")))]
 mod entries;
+#[cfg(all(present, any(feature = "header", feature = "parts")))]
+mod records;
 
 #[cfg(all(present, feature = "tile"))]
 pub mod assembly;

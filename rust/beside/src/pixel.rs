@@ -10,6 +10,7 @@ pub const COMPARISON: Comparison = Comparison {
     name: "pixel_type_from_siz",
     minimum: 512,
     answers: &["unsigned", "signed"],
+    also: &[],
     run,
 };
 

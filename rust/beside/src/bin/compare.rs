@@ -48,7 +48,10 @@ struct Options {
 
 impl Options {
     fn chosen(&self) -> Vec<&'static Comparison> {
-        let wanted = |comparison: &&Comparison| comparison.name.contains(&self.only);
+        let named = |name: &str| name.contains(&self.only);
+        let wanted = |comparison: &&Comparison| {
+            named(comparison.name) || comparison.also.iter().any(|also| named(also.name))
+        };
         COMPARISONS.iter().filter(wanted).collect()
     }
 }
@@ -80,9 +83,10 @@ fn compare_all(options: &Options) -> bool {
     let share = Duration::from_secs(options.seconds) / chosen.len() as u32;
     let mut all_hold = true;
     for comparison in chosen {
-        let tally = Run::of(comparison, options.seed, share);
-        println!("{tally}");
-        all_hold &= tally.holds();
+        for tally in Run::of(comparison, options.seed, share) {
+            println!("{tally}");
+            all_hold &= tally.holds();
+        }
     }
     all_hold
 }

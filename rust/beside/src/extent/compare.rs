@@ -16,6 +16,7 @@ pub const COMPARISON: Comparison = Comparison {
     name: super::NAME,
     minimum: 2_000_000,
     answers: &["complete", "truncated"],
+    also: &[],
     run,
 };
 

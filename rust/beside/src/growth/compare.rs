@@ -15,6 +15,7 @@ pub const COMPARISON: Comparison = Comparison {
     name: super::NAME,
     minimum: 1_000_000,
     answers: &["accepted"],
+    also: &[],
     run,
 };
 

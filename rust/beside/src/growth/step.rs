@@ -12,6 +12,7 @@ pub const COMPARISON: Comparison = Comparison {
     name: NAME,
     minimum: 1_000_000,
     answers: &["doubled", "capped"],
+    also: &[],
     run,
 };
 

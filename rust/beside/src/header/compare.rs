@@ -1,12 +1,14 @@
-//! The comparison: first SOT, decode header, table, refusals, and all that is not to be written.
+//! The comparison: first SOT, decode header, table of rows and of records, refusals, and all that is
+//! not to be written.
 
 use super::cases::payloads;
 use super::original;
-use crate::compare::{Comparison, Run};
+use crate::compare::{Also, Comparison, Run};
 use crate::judge::{Case, Leaves, Told};
 use crate::lent::{room, Lent};
 use crate::model::header::{parse_main_header, Header};
 use crate::model::{rows, ROW};
+use crate::records;
 use crate::sample::codestream::{Codestream, SOT, TLM};
 use crate::sample::damage::damage;
 use crate::sample::short::each_string;
@@ -17,20 +19,26 @@ use crate::tally::hex;
 pub const COMPARISON: Comparison = Comparison {
     name: super::NAME,
     minimum: 1_000_000,
-    answers: &[
-        "accepted",
-        "refused 1",
-        "refused 2",
-        "refused 3",
-        "refused 4",
-        "refused 5",
-        "refused 6",
-        "refused 17",
-        "refused 18",
-        "refused 19",
-    ],
+    answers: ANSWERS,
+    also: &[Also {
+        name: "header_records",
+        answers: ANSWERS,
+    }],
     run,
 };
+
+const ANSWERS: &[&str] = &[
+    "accepted",
+    "refused 1",
+    "refused 2",
+    "refused 3",
+    "refused 4",
+    "refused 5",
+    "refused 6",
+    "refused 17",
+    "refused 18",
+    "refused 19",
+];
 
 fn run(run: &mut Run) {
     over_long_loans(run);
@@ -72,19 +80,30 @@ fn needed(codestream: &[u8]) -> (usize, usize) {
     }
 }
 
+type Parse = fn(&[u8], &mut [u8], &mut [u8], &mut [u64; 3]) -> u32;
+
 fn check_with(run: &mut Run, codestream: &[u8], entries: usize, size: usize) {
     let table = ROW * entries + run.random.below(ROW);
     let before = Lent::preset(&mut run.random, [table, size]);
-    let mut ours = before.clone();
-    let [lent_table, lent_out] = &mut ours.memory;
-    ours.status = probe::parse_main_header(codestream, lent_table, lent_out, &mut ours.values);
+    let left_by = |parse: Parse| {
+        let mut lent = before.clone();
+        let [table, out] = &mut lent.memory;
+        lent.status = parse(codestream, table, out, &mut lent.values);
+        lent
+    };
+    let ours = left_by(probe::parse_main_header);
+    let of_records = left_by(|codestream, table, out, values| {
+        records::instead_of(table, |table| {
+            probe::header_records(codestream, table, out, values)
+        })
+    });
     let case = Case {
         before,
         ours,
         told: Told::by(|| original(codestream)),
         document: parse_main_header(codestream).and_then(|header| header.fit(table, size)),
     };
-    case.judge(&mut run.tally, || {
+    case.judge_both(of_records, run, || {
         // Of the longest loans all but the front is zeros.
         let front = &codestream[..codestream.len().min(100_000)];
         let length = codestream.len();

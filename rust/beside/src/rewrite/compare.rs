@@ -16,6 +16,7 @@ pub const COMPARISON: Comparison = Comparison {
     name: super::NAME,
     minimum: 1_000_000,
     answers: &["accepted", "refused 10", "refused 17"],
+    also: &[],
     run,
 };
 

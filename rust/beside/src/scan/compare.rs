@@ -1,12 +1,13 @@
-//! The comparison: entries, refusals, and the table beyond what was written.
+//! The comparison: entries, refusals, and the table beyond what was written; of rows and of records.
 
 use super::cases::inputs;
 use super::original;
-use crate::compare::{Comparison, Run};
+use crate::compare::{Also, Comparison, Run};
 use crate::judge::{Case, Leaves, Told};
 use crate::lent::{room, Lent};
 use crate::model::parts::scan_sot_markers;
 use crate::model::{rows, Entry, Refusal, ROW};
+use crate::records;
 use crate::sample::codestream::EOC;
 use crate::sample::damage::damage;
 use crate::sample::short::each_string;
@@ -17,15 +18,21 @@ use crate::tally::hex;
 pub const COMPARISON: Comparison = Comparison {
     name: super::NAME,
     minimum: 1_000_000,
-    answers: &[
-        "accepted",
-        "refused 7",
-        "refused 8",
-        "refused 9",
-        "refused 18",
-    ],
+    answers: ANSWERS,
+    also: &[Also {
+        name: "scan_records",
+        answers: ANSWERS,
+    }],
     run,
 };
+
+const ANSWERS: &[&str] = &[
+    "accepted",
+    "refused 7",
+    "refused 8",
+    "refused 9",
+    "refused 18",
+];
 
 fn run(run: &mut Run) {
     past_4_gigabytes(run);
@@ -66,9 +73,17 @@ fn every_room(run: &mut Run, codestream: &[u8], start: u64) {
 fn check_with(run: &mut Run, codestream: &[u8], start: u64, entries: usize) {
     let table = ROW * entries + run.random.below(ROW);
     let before = Lent::preset(&mut run.random, [table]);
-    let mut ours = before.clone();
-    ours.status =
-        winterhasp::scan_into(codestream, start, &mut ours.memory[0], &mut ours.values[0]);
+    let left_by = |scan: fn(&[u8], u64, &mut [u8], &mut u64) -> u32| {
+        let mut lent = before.clone();
+        lent.status = scan(codestream, start, &mut lent.memory[0], &mut lent.values[0]);
+        lent
+    };
+    let ours = left_by(winterhasp::scan_into);
+    let of_records = left_by(|codestream, start, table, value| {
+        records::instead_of(table, |table| {
+            probe::scan_records(codestream, start, table, value)
+        })
+    });
     let fit = |entries: Vec<Entry>| {
         Refusal::unless_it_lists(table, entries.len())?;
         Ok(entries)
@@ -79,7 +94,7 @@ fn check_with(run: &mut Run, codestream: &[u8], start: u64, entries: usize) {
         told: Told::by(|| original(codestream, start)),
         document: scan_sot_markers(codestream, start).and_then(fit),
     };
-    case.judge(&mut run.tally, || {
+    case.judge_both(of_records, run, || {
         // Of gigabytes all but the parts is zeros.
         let front = &codestream[..codestream.len().min(100_000)];
         let length = codestream.len();

@@ -23,6 +23,7 @@ pub const COMPARISON: Comparison = Comparison {
         "refused 15",
         "refused 16",
     ],
+    also: &[],
     run,
 };
 

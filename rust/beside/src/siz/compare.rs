@@ -18,6 +18,7 @@ pub const COMPARISON: Comparison = Comparison {
     name: super::NAME,
     minimum: 1_000_000,
     answers: &["accepted", "refused 20", "refused 21", "refused 22"],
+    also: &[],
     run,
 };
 

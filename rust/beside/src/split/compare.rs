@@ -1,23 +1,29 @@
-//! The comparison: the count, and every part byte for byte, up to two past the last.
+//! The comparison: the count, and every part byte for byte, up to two past the last. By position: the
+//! walk from part to part, and what stands at each of its positions, elsewhere and past the end.
 
 use original::markers::split_tile_parts as original;
 
 use super::cases::payloads;
 use crate::caught::caught;
-use crate::compare::{Comparison, Run};
+use crate::compare::{Also, Comparison, Run};
 use crate::judge::{Case, Told};
 use crate::lent::{room, Lent};
 use crate::model::parts::split_tile_parts;
 use crate::model::Refusal;
+use crate::random::Random;
 use crate::sample::damage::damage;
 use crate::sample::parts;
 use crate::sample::short::each_string;
-use crate::tally::hex;
+use crate::tally::{hex, Tally};
 
 pub const COMPARISON: Comparison = Comparison {
     name: super::NAME,
     minimum: 1_000_000,
     answers: &["count", "accepted", "refused 17"],
+    also: &[Also {
+        name: "split_at",
+        answers: &["walk", "accepted", "refused 17"],
+    }],
     run,
 };
 
@@ -35,37 +41,103 @@ fn run(run: &mut Run) {
 fn check(run: &mut Run, tile: &[u8]) {
     let document = split_tile_parts(tile);
     let told = caught(|| original(tile));
-    let ours = Some((probe::split_count(tile), document.clone()));
-    let expected = told.clone().map(|told| (told.len() as u64, told));
+    by_number(run, tile, told.as_deref(), &document);
+    by_position(run, tile, told.as_deref(), &document);
+}
+
+fn by_number(run: &mut Run, tile: &[u8], told: Option<&[&[u8]]>, document: &[&[u8]]) {
+    let ours = Some((probe::split_count(tile), document));
+    let expected = told.map(|told| (told.len() as u64, told));
     run.tally.compare("count", &ours, &expected, || hex(tile));
-    let far = run.random.number() >> run.random.below(64);
+    let far = far(&mut run.random);
     let count = document.len() as u64;
     for k in (0..=count + 1).chain([far, far << 32]) {
         let at = usize::try_from(k).unwrap_or(usize::MAX);
         let part = |parts: &[&[u8]]| parts.get(at).map_or(Vec::new(), |part| part.to_vec());
-        let told = match &told {
-            Some(told) => Told::Accepted(part(told)),
-            None => Told::Nothing,
+        let asked = Asked {
+            split: probe::split_part,
+            tile,
+            which: k,
+            told: told.map_or(Told::Nothing, |told| Told::Accepted(part(told))),
+            part: part(document),
         };
-        check_part(run, tile, k, told, part(&document));
+        asked.check(&mut run.random, &mut run.tally);
     }
 }
 
-fn check_part(run: &mut Run, tile: &[u8], k: u64, told: Told<Vec<u8>>, part: Vec<u8>) {
-    let size = room(&mut run.random, part.len());
-    let before = Lent::preset(&mut run.random, [size]);
-    let mut ours = before.clone();
-    ours.status = probe::split_part(tile, k, &mut ours.memory[0], &mut ours.values[0]);
-    let fits = Refusal::unless_it_holds(size, part.len() as u128);
-    let case = Case {
-        before,
-        ours,
-        told,
-        document: fits.map(|()| part),
-    };
-    case.judge(&mut run.tally, || {
-        format!("{}, part {k}, output {size}", hex(tile))
-    });
+/// What stands at a position is the first part of the tile from there on.
+fn by_position(run: &mut Run, tile: &[u8], told: Option<&[&[u8]]>, document: &[&[u8]]) {
+    let tally = &mut run.also[0];
+    let walked = walked(tile);
+    let ours = Some((walked.iter().map(Vec::as_slice).collect(), document));
+    let expected = told.map(|told| (told.to_vec(), told));
+    tally.compare("walk", &ours, &expected, || hex(tile));
+    let mut positions = vec![0];
+    for part in document {
+        positions.push(positions[positions.len() - 1] + part.len() as u64);
+    }
+    let end = tile.len() as u64;
+    let anywhere = [(); 2].map(|()| run.random.below(tile.len() + 1) as u64);
+    let far = far(&mut run.random);
+    positions.extend(anywhere);
+    positions.extend([end, end + 1, far, far << 32, u64::MAX]);
+    for at in positions {
+        let from = usize::try_from(at).ok().and_then(|at| tile.get(at..));
+        let from = from.unwrap_or_default();
+        let first = |parts: Vec<&[u8]>| parts.first().map_or(Vec::new(), |part| part.to_vec());
+        let asked = Asked {
+            split: probe::split_at,
+            tile,
+            which: at,
+            told: Told::by(|| Some(first(original(from)))),
+            part: first(split_tile_parts(from)),
+        };
+        asked.check(&mut run.random, tally);
+    }
+}
+
+/// From 0 on, each where the one before ends.
+fn walked(tile: &[u8]) -> Vec<Vec<u8>> {
+    let mut out = vec![0; tile.len()];
+    let (mut parts, mut at, mut length) = (Vec::new(), 0, 0);
+    while probe::split_at(tile, at, &mut out, &mut length) == 0 && length > 0 {
+        parts.push(out[..length as usize].to_vec());
+        at += length;
+    }
+    parts
+}
+
+fn far(random: &mut Random) -> u64 {
+    random.number() >> random.below(64)
+}
+
+/// A part that is asked for by its number or its position, and what it is to be.
+struct Asked<'a> {
+    split: fn(&[u8], u64, &mut [u8], &mut u64) -> u32,
+    tile: &'a [u8],
+    which: u64,
+    told: Told<Vec<u8>>,
+    part: Vec<u8>,
+}
+
+impl Asked<'_> {
+    fn check(self, random: &mut Random, tally: &mut Tally) {
+        let Asked { tile, which, .. } = self;
+        let size = room(random, self.part.len());
+        let before = Lent::preset(random, [size]);
+        let mut ours = before.clone();
+        ours.status = (self.split)(tile, which, &mut ours.memory[0], &mut ours.values[0]);
+        let fits = Refusal::unless_it_holds(size, self.part.len() as u128);
+        let case = Case {
+            before,
+            ours,
+            told: self.told,
+            document: fits.map(|()| self.part),
+        };
+        case.judge(tally, || {
+            format!("{}, asked for {which}, output {size}", hex(tile))
+        });
+    }
 }
 
 /// In place of the first part's fields, and behind it.
