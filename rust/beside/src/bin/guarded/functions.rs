@@ -25,29 +25,23 @@ pub const FUNCTIONS: &[Function] = &[
     },
     Function {
         name: "parse_main_header",
-        answers: &[
-            "accepted",
-            "refused 1",
-            "refused 2",
-            "refused 3",
-            "refused 4",
-            "refused 5",
-            "refused 6",
-            "refused 17",
-            "refused 18",
-        ],
+        answers: OF_HEADERS,
         run: header,
     },
     Function {
+        name: "header_records",
+        answers: OF_HEADERS,
+        run: header_records,
+    },
+    Function {
         name: "scan_sot_markers",
-        answers: &[
-            "accepted",
-            "refused 7",
-            "refused 8",
-            "refused 9",
-            "refused 18",
-        ],
+        answers: OF_SCANS,
         run: scan,
+    },
+    Function {
+        name: "scan_records",
+        answers: OF_SCANS,
+        run: scan_records,
     },
     Function {
         name: "split_count",
@@ -58,6 +52,11 @@ pub const FUNCTIONS: &[Function] = &[
         name: "split_part",
         answers: &["accepted", "refused 17"],
         run: split_part,
+    },
+    Function {
+        name: "split_at",
+        answers: &["accepted", "refused 17"],
+        run: split_at,
     },
     Function {
         name: "rewrite_siz_for_tile",
@@ -104,6 +103,26 @@ pub const FUNCTIONS: &[Function] = &[
     },
 ];
 
+const OF_HEADERS: &[&str] = &[
+    "accepted",
+    "refused 1",
+    "refused 2",
+    "refused 3",
+    "refused 4",
+    "refused 5",
+    "refused 6",
+    "refused 17",
+    "refused 18",
+];
+
+const OF_SCANS: &[&str] = &[
+    "accepted",
+    "refused 7",
+    "refused 8",
+    "refused 9",
+    "refused 18",
+];
+
 fn usual(status: u32) -> &'static str {
     Refusal::new(status, 0).label()
 }
@@ -132,18 +151,22 @@ fn extent(calls: &mut Calls) {
     });
 }
 
-fn header(calls: &mut Calls) {
-    let random = &mut calls.random;
+/// A codestream, and room for its entries and its decode header, or about that.
+fn header_input(random: &mut Random) -> (Vec<u8>, usize, usize) {
     let codestream = codestream(random);
     let (entries, size) = match model::header::parse_main_header(&codestream) {
         Ok(header) => (header.entries.len(), header.decode_header.len()),
         Err(_) => (2, 50),
     };
-    let table = room(random, entries) * ROW + random.below(ROW);
-    let sizes = [table, room(random, size)];
+    (codestream, room(random, entries), room(random, size))
+}
+
+fn header(calls: &mut Calls) {
+    let (codestream, entries, size) = header_input(&mut calls.random);
+    let table = entries * ROW + calls.random.below(ROW);
     calls.call(
         [codestream],
-        sizes,
+        [table, size],
         usual,
         |[codestream], memory, values| {
             let [table, out] = memory;
@@ -152,8 +175,19 @@ fn header(calls: &mut Calls) {
     );
 }
 
-fn scan(calls: &mut Calls) {
-    let random = &mut calls.random;
+fn header_records(calls: &mut Calls) {
+    let (codestream, entries, size) = header_input(&mut calls.random);
+    calls.with_table(
+        [codestream],
+        [size],
+        entries,
+        usual,
+        |[codestream], [out], table, values| probe::header_records(codestream, table, out, values),
+    );
+}
+
+/// A codestream, a start, and room for its entries, or about that.
+fn scan_input(random: &mut Random) -> (Vec<u8>, u64, usize) {
     let (codestream, start) = match random.below(3) {
         0 => {
             let whole = codestream(random);
@@ -166,12 +200,28 @@ fn scan(calls: &mut Calls) {
     };
     let entries =
         model::parts::scan_sot_markers(&codestream, start).map_or(2, |entries| entries.len());
-    let table = room(random, entries) * ROW + random.below(ROW);
+    (codestream, start, room(random, entries))
+}
+
+fn scan(calls: &mut Calls) {
+    let (codestream, start, entries) = scan_input(&mut calls.random);
+    let table = entries * ROW + calls.random.below(ROW);
     calls.call(
         [codestream],
         [table],
         usual,
         |[codestream], [table], [value]| winterhasp::scan_into(codestream, start, table, value),
+    );
+}
+
+fn scan_records(calls: &mut Calls) {
+    let (codestream, start, entries) = scan_input(&mut calls.random);
+    calls.with_table(
+        [codestream],
+        [],
+        entries,
+        usual,
+        |[codestream], [], table, [value]| probe::scan_records(codestream, start, table, value),
     );
 }
 
@@ -196,6 +246,22 @@ fn split_part(calls: &mut Calls) {
     let size = room(random, found.get(k).map_or(0, |part| part.len()));
     calls.call([tile], [size], usual, |[tile], [out], [value]| {
         probe::split_part(tile, k as u64, out, value)
+    });
+}
+
+fn split_at(calls: &mut Calls) {
+    let random = &mut calls.random;
+    let tile = tile_parts(random);
+    let found = model::parts::split_tile_parts(&tile);
+    let before = found.iter().take(random.below(found.len() + 1));
+    let at = match random.once_in(4) {
+        true => random.below(tile.len() + 3),
+        false => before.map(|part| part.len()).sum(),
+    };
+    let from = model::parts::split_tile_parts(tile.get(at..).unwrap_or_default());
+    let size = room(random, from.first().map_or(0, |part| part.len()));
+    calls.call([tile], [size], usual, |[tile], [out], [value]| {
+        probe::split_at(tile, at as u64, out, value)
     });
 }
 

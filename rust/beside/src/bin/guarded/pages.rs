@@ -68,27 +68,28 @@ impl Guarded {
         unsafe { slice::from_raw_parts(at, bytes.len()) }
     }
 
-    /// A copy of `bytes`.
-    pub fn exclusive(&mut self, side: Side, bytes: &[u8]) -> &mut [u8] {
-        let at = self.hold(side, bytes);
+    /// A copy of `items`.
+    pub fn exclusive<T: Copy>(&mut self, side: Side, items: &[T]) -> &mut [T] {
+        let at = self.hold(side, items);
         // SAFETY: as in `shared`; the borrow of `self` is exclusive.
-        unsafe { slice::from_raw_parts_mut(at, bytes.len()) }
+        unsafe { slice::from_raw_parts_mut(at, items.len()) }
     }
 
     /// A copy of `numbers`.
     pub fn numbers<const N: usize>(&mut self, side: Side, numbers: [u64; N]) -> &mut [u64; N] {
-        let bytes = numbers.map(u64::to_ne_bytes);
-        let at = self.hold(side, bytes.as_flattened());
-        // SAFETY: as in `exclusive`; pages begin and end at multiples of 8, and so do the numbers.
-        unsafe { &mut *at.cast() }
+        let lent = self.exclusive(side, &numbers);
+        lent.try_into().expect("as many as there were")
     }
 
-    /// Puts `bytes` at one end; gives their address.
-    fn hold(&mut self, side: Side, bytes: &[u8]) -> *mut u8 {
-        self.protect(side, bytes.len(), PROT_READ | PROT_WRITE);
-        let at = self.place(side, bytes.len());
+    /// Puts `items` at one end; gives their address, at which they may stand: pages begin and end at
+    /// multiples of every size that things are aligned to, and so do the items.
+    fn hold<T: Copy>(&mut self, side: Side, items: &[T]) -> *mut T {
+        const { assert!(PAGES.is_multiple_of(align_of::<T>())) };
+        let length = size_of_val(items);
+        self.protect(side, length, PROT_READ | PROT_WRITE);
+        let at = self.place(side, length).cast();
         // SAFETY: `at` and as many bytes as that are inside, writable and lent to nobody.
-        unsafe { ptr::copy_nonoverlapping(bytes.as_ptr(), at, bytes.len()) };
+        unsafe { ptr::copy_nonoverlapping(items.as_ptr(), at, items.len()) };
         at
     }
 
