@@ -1,10 +1,11 @@
-//! The benchmark: few and many tile-parts, side by side and spread over a gigabyte. A table that is
-//! lent is not cleared between calls; the original allocates its own and lets it grow, so ours is
-//! timed with a table allocated for each call too.
+//! The benchmark: few and many tile-parts, side by side and spread over a gigabyte, into rows of bytes
+//! and into records. A table that is lent is not cleared between calls; the original allocates its own
+//! and lets it grow, so ours is timed with a table allocated for each call too.
 
 use std::cell::RefCell;
 
 use original::markers;
+use probe::TilePartEntry;
 
 use crate::bench::{row, Benchmark};
 use crate::model::ROW;
@@ -20,23 +21,39 @@ struct Input {
     codestream: Vec<u8>,
     parts: usize,
     table: RefCell<Vec<u8>>,
+    records: RefCell<Vec<TilePartEntry>>,
 }
 
-fn scanned(codestream: &[u8], table: &mut [u8]) -> Option<u64> {
-    let mut entries = 0;
-    match winterhasp::scan_into(codestream, 0, table, &mut entries) {
-        0 => Some(entries),
-        _ => None,
+impl Input {
+    fn scanned(&self, table: &mut [u8]) -> Option<u64> {
+        let mut entries = 0;
+        let status = winterhasp::scan_into(&self.codestream, 0, table, &mut entries);
+        (status == 0).then_some(entries)
+    }
+
+    fn recorded(&self, table: &mut [TilePartEntry]) -> Option<u64> {
+        let mut entries = 0;
+        let status = probe::scan_records(&self.codestream, 0, table, &mut entries);
+        (status == 0).then_some(entries)
     }
 }
 
-fn lent(input: &Input) -> Option<u64> {
-    scanned(&input.codestream, &mut input.table.borrow_mut())
-}
+type Way = fn(&Input) -> Option<u64>;
 
-fn allocated(input: &Input) -> Option<u64> {
-    scanned(&input.codestream, &mut vec![0; ROW * input.parts])
-}
+const WAYS: [(&str, Way); 4] = [
+    ("table lent", |input| {
+        input.scanned(&mut input.table.borrow_mut())
+    }),
+    ("table allocated", |input| {
+        input.scanned(&mut vec![0; ROW * input.parts])
+    }),
+    ("records lent", |input| {
+        input.recorded(&mut input.records.borrow_mut())
+    }),
+    ("records allocated", |input| {
+        input.recorded(&mut vec![TilePartEntry::default(); input.parts])
+    }),
+];
 
 fn theirs(input: &Input) -> Option<u64> {
     let told = markers::scan_sot_markers(&input.codestream, 0).ok()?;
@@ -59,10 +76,16 @@ fn measure(parts: usize, how: &str, codestream: Vec<u8>) {
         codestream,
         parts,
         table: vec![0; ROW * parts].into(),
+        records: vec![TilePartEntry::default(); parts].into(),
     };
-    let name = |table| format!("{parts} parts {how}, table {table}");
-    row(&name("lent"), &input, lent, theirs);
-    row(&name("allocated"), &input, allocated, theirs);
+    for (table, ours) in WAYS {
+        row(
+            &format!("{parts} parts {how}, {table}"),
+            &input,
+            ours,
+            theirs,
+        );
+    }
 }
 
 /// `count` parts of the same size in `length` bytes.

@@ -1,6 +1,6 @@
-//! The benchmark: a tile of many parts, each copied out. Ours is asked for part k by number and
-//! walks k steps to it, so all parts of a tile take steps by the square; the first alone is timed
-//! too. The output is not cleared between calls.
+//! The benchmark: a tile of many parts, each copied out. Asked for part k by number ours walks k steps
+//! to it, so all parts of a tile take steps by the square, and as many steps as parts by position; the
+//! first alone is timed too. The output is not cleared between calls.
 
 use std::cell::RefCell;
 
@@ -31,6 +31,17 @@ fn ours(input: &Input, most: u64) -> (u64, u64) {
     (count, (0..count.min(most)).map(length).sum())
 }
 
+/// The same of all parts, by position.
+fn walked(input: &Input) -> (u64, u64) {
+    let mut out = input.out.borrow_mut();
+    let (mut count, mut at, mut length) = (0, 0, 0);
+    while probe::split_at(&input.tile, at, &mut out, &mut length) == 0 && length > 0 {
+        count += 1;
+        at += length;
+    }
+    (count, at)
+}
+
 fn theirs(input: &Input, most: usize) -> (u64, u64) {
     let mut out = input.out.borrow_mut();
     let parts = split_tile_parts(&input.tile);
@@ -56,6 +67,8 @@ fn rows() {
             |of| ours(of, u64::MAX),
             |of| theirs(of, usize::MAX),
         );
+        let by_position = name("all parts by position");
+        row(&by_position, &input, walked, |of| theirs(of, usize::MAX));
         let first = name("count and the first part");
         row(&first, &input, |of| ours(of, 1), |of| theirs(of, 1));
     }
