@@ -1,7 +1,8 @@
 -- The SIZ reading's definitions, opened once: a law for each case, that its step goes forward, and the answer by what the step finds.
-use Prim.Native.Nat.{ℕ, _+_, _-_, _%_, _≤_, _<_}
+use Prim.Native.Nat.{ℕ, _+_, _-_, _*_, _%_, _≤_, _<_}
+use native.Mathlib.Nat.{add-zero}
 use native.Mathlib.Omega.{arith}
-use mathlib.Core.Path.{_≡_}
+use mathlib.Core.Path.{_≡_, ap}
 use mathlib.Core.Bool.{Bool, cond}
 use mathlib.Core.List.{List}
 use lib.ListN.{length, getD}
@@ -54,6 +55,14 @@ module _ (s : List ℕ) (at : ℕ) where
   info-of x y xo yo n = λ i. Siz (record { width = x i - xo i; height = y i - yo i; «num_components» = n i; «bits_per_component» = getD s (at + 40) 0 % 128 + 1; «is_signed» = leb 128 (getD s (at + 40) 0) })
 
   -- ---- a step
+
+  -- SIZ begins with FF
+  pub not-siz : ((i : ℕ) → getD s i 0 < 256) → (getD s at 0 ≡ 0xff → ⊥) → be 2 s at ≡ SIZ → ⊥
+  unfolding be
+  not-siz bytes b e =
+      let both : (0 * 256 + getD s (at + 0) 0) * 256 + getD s (at + 1) 0 ≡ SIZ = e in
+      let first : getD s (at + 0) 0 ≡ getD s at 0 = ap (λ (n : ℕ). getD s n 0) (add-zero at) in
+      b (omega (arith, both, first, bytes (at + 1)))
 
   pub move-few : length s < at + 2 → moveAt s at ≡ end (refused 21 at)
   unfolding moveAt

@@ -77,11 +77,11 @@ fn siz_step(codestream: &[u8], at: usize) -> SizStep
     if left < 2 {
         return SizStep::Ended(refuse(21, at as u64));
     }
-    if numbers::read_u16(codestream, at) == SIZ {
-        return SizStep::Ended(read_siz(codestream, at));
-    }
     if codestream[at] != 0xff {
         return SizStep::Next(at + 1);
+    }
+    if numbers::read_u16(codestream, at) == SIZ {
+        return SizStep::Ended(read_siz(codestream, at));
     }
     if left < 4 {
         return SizStep::Ended(refuse(21, at as u64));

@@ -3,7 +3,7 @@ use Prim.Native.Nat.{_+_}
 use native.Mathlib.Omega.{arith}
 use mathlib.Core.Path.{sym, _∙_}
 use borrow.Author.Needs.{needs}
-use Rattle.reader.proofs.Sizes.{move-few, move-siz, move-byte, move-no-length, move-segment}
+use Rattle.reader.proofs.Sizes.{not-siz, move-few, move-siz, move-byte, move-no-length, move-segment}
 use Rattle.chain.specs.Chain.{end, on}
 use Rattle.reader.proofs.siz.siz_step.Statement.{statement}
 use Rattle.reader.proofs.siz.siz_step.Tie as tie
@@ -17,25 +17,25 @@ refuse-requires c κs = search needs
 returns : tie.Need-returns
 returns c = (λ i. end (c .refuse .ensures i)) ∙ sym (move-few _ _ (omega arith))
 
+shared-slice-read-if2 : tie.Need-shared-slice-read-if2
+shared-slice-read-if2 c = search needs
+
+add-t12 : tie.Need-add-t12
+add-t12 c = search needs
+
+-- SIZ begins with FF
+returns-2 : tie.Need-returns-2
+returns-2 c =
+    sym (move-byte _ _ (omega arith) (not-siz _ _ (λ i. omega (arith, c .before .shared-slice-known2 .given i)) (c .if2 .taken)) (c .if2 .taken))
+
 read-u16-requires : tie.Need-read-u16-requires
 read-u16-requires c κs = search needs
 
 read-siz-requires : tie.Need-read-siz-requires
 read-siz-requires c κs = search needs
 
-returns-2 : tie.Need-returns-2
-returns-2 c = (λ i. end (c .read-siz .ensures i)) ∙ sym (move-siz _ _ (omega arith) (sym (c .before .before .read-u16 .ensures) ∙ c .before .if2 .taken))
-
-shared-slice-read-if3 : tie.Need-shared-slice-read-if3
-shared-slice-read-if3 c = search needs
-
-add-t14 : tie.Need-add-t14
-add-t14 c = search needs
-
 returns-3 : tie.Need-returns-3
-returns-3 c =
-    let c₂ = c .before .before in
-    sym (move-byte _ _ (omega arith) (λ e. c₂ .if2 .left (c₂ .before .read-u16 .ensures ∙ e)) (c .if3 .taken))
+returns-3 c = (λ i. end (c .read-siz .ensures i)) ∙ sym (move-siz _ _ (omega arith) (sym (c .before .before .read-u16 .ensures) ∙ c .before .if3 .taken))
 
 refuse-requires-2 : tie.Need-refuse-requires-2
 refuse-requires-2 c κs = search needs
@@ -45,7 +45,7 @@ returns-4 c =
     let c₃ = c .before .before in
     let c₂ = c₃ .before .before in
     (λ i. end (c .refuse2 .ensures i))
-    ∙ sym (move-no-length _ _ (omega arith) (λ e. c₂ .if2 .left (c₂ .before .read-u16 .ensures ∙ e)) (c₃ .if3 .left) (omega arith))
+    ∙ sym (move-no-length _ _ (omega arith) (λ e. c₃ .if3 .left (c₃ .before .read-u16 .ensures ∙ e)) (c₃ .before .before .if2 .left) (omega arith))
 
 add-read-u16 : tie.Need-add-read-u16
 add-read-u16 c = search needs
@@ -68,7 +68,7 @@ returns-5 c =
     let c₂ = c₃ .before .before in
     let at = c₂ .before .before .before .before .before .args .at in
     (λ i. on (at + (2 + c .read-u162 .ensures i)))
-    ∙ sym (move-segment _ _ (omega arith) (λ e. c₂ .if2 .left (c₂ .before .read-u16 .ensures ∙ e)) (c₃ .if3 .left) (omega arith))
+    ∙ sym (move-segment _ _ (omega arith) (λ e. c₃ .if3 .left (c₃ .before .read-u16 .ensures ∙ e)) (c₃ .before .before .if2 .left) (omega arith))
 
 pub siz-step-spec : {M : Type 1} → statement M
 siz-step-spec =
@@ -77,11 +77,11 @@ siz-step-spec =
     clamped-sub-requires
     refuse-requires
     returns
+    shared-slice-read-if2
+    add-t12
+    returns-2
     read-u16-requires
     read-siz-requires
-    returns-2
-    shared-slice-read-if3
-    add-t14
     returns-3
     refuse-requires-2
     returns-4
