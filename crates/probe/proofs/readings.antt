@@ -1,2 +1,2 @@
-pub mod winterhasp_header_records
+pub mod main_header
 pub mod winterhasp_scan_records

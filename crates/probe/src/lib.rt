@@ -1,94 +1,25 @@
 // What the runs beside the original need and the host has no use for, exported for C: thin calls on numbers and byte
 // slices. Each answers 0 where it accepts, or the refusal's number with its place in the first number lent.
+pub mod main_header;
+
 ghost use mathlib.Core.Path.{_≡_};
 ghost use mathlib.Core.Bool.{cond, not};
 ghost use mathlib.Core.List.{[]};
 ghost use Prim.Native.Nat.{_/_};
 ghost use lib.ListN.{length, getD};
 ghost use lib.Dec.{eqb};
-ghost use Rattle.header.specs.Parse.{parsed, tableAfter, outAfter};
 ghost use Rattle.parts.specs.Scan.{scanned, scanNumber, scanValue};
 ghost use Rattle.parts.specs.Split.{partsOf, standing};
-ghost use Rattle.records.specs.MainHeader.{recordsAfter};
 ghost use Rattle.records.specs.Scan.{scannedRecords};
 ghost use Rattle.reader.specs.Search.{foundIn};
 ghost use Rattle.reader.specs.Siz.{sizRead, sampleType, sampleNumber};
 ghost use Rattle.reader.specs.Growth.{nextRegion, grown};
-ghost use Rattle.probe.specs.Answers.{headerNumber, headerFirst, headerLength, headerEntries};
 ghost use Rattle.probe.specs.Answers.{partNumber, partOut, foundNumber, foundStart, foundLength};
 ghost use Rattle.probe.specs.Answers.{sizNumber, sizWidth, sizHeight, sizComponents, sizBits, sizSigned};
-use header::parse::MainHeader;
 use reader::search::Found;
 use reader::siz::SampleType;
 use reader::siz::SizRead;
 use types::TilePartEntry;
-
-fn tell_header(
-    answer: MainHeader,
-    first_sot: &mut u64,
-    decode_length: &mut u64,
-    entries: &mut u64,
-) -> u32
-    ensures { λ r. ⌜ r ≡ headerNumber answer ⌝ }
-    ensures { λ _. ⌜ now («first_sot» .exit) ≡ headerFirst answer ⌝ }
-    ensures { λ _. ⌜ now («decode_length» .exit) ≡ headerLength answer (now («decode_length» .entry)) ⌝ }
-    ensures { λ _. ⌜ now (entries .exit) ≡ headerEntries answer (now (entries .entry)) ⌝ }
-{
-    match answer {
-        MainHeader::Header(info) => {
-            let place = info.first_sot_offset;
-            *first_sot = place.0;
-            *decode_length = info.decode_header_length;
-            *entries = info.tlm_entries;
-            0
-        }
-        MainHeader::Refused(refusal) => {
-            *first_sot = refusal.place;
-            refusal.number
-        }
-    }
-}
-
-#[no_mangle]
-pub extern "C" fn winterhasp_parse_main_header(
-    codestream: &[u8],
-    table: &mut [u8],
-    out: &mut [u8],
-    first_sot: &mut u64,
-    decode_length: &mut u64,
-    entries: &mut u64,
-) -> u32
-    ensures { λ r. ⌜ r ≡ headerNumber (parsed (now (codestream .entry)) (length (now (table .entry)) / 18) (length (now (out .entry)))) ⌝ }
-    ensures { λ _. ⌜ now («first_sot» .exit) ≡ headerFirst (parsed (now (codestream .entry)) (length (now (table .entry)) / 18) (length (now (out .entry)))) ⌝ }
-    ensures { λ _. ⌜ now («decode_length» .exit) ≡ headerLength (parsed (now (codestream .entry)) (length (now (table .entry)) / 18) (length (now (out .entry)))) (now («decode_length» .entry)) ⌝ }
-    ensures { λ _. ⌜ now (entries .exit) ≡ headerEntries (parsed (now (codestream .entry)) (length (now (table .entry)) / 18) (length (now (out .entry)))) (now (entries .entry)) ⌝ }
-    ensures { λ _. ⌜ now (table .exit) ≡ tableAfter (parsed (now (codestream .entry)) (length (now (table .entry)) / 18) (length (now (out .entry)))) (now (codestream .entry)) (now (table .entry)) ⌝ }
-    ensures { λ _. ⌜ now (out .exit) ≡ outAfter (parsed (now (codestream .entry)) (length (now (table .entry)) / 18) (length (now (out .entry)))) (now (codestream .entry)) (now (out .entry)) ⌝ }
-{
-    let answer = header::parse::parse_main_header(codestream, table, out);
-    tell_header(answer, first_sot, decode_length, entries)
-}
-
-// The same with a table of records.
-#[no_mangle]
-pub extern "C" fn winterhasp_header_records(
-    codestream: &[u8],
-    table: &mut [TilePartEntry],
-    out: &mut [u8],
-    first_sot: &mut u64,
-    decode_length: &mut u64,
-    entries: &mut u64,
-) -> u32
-    ensures { λ r. ⌜ r ≡ headerNumber (parsed (now (codestream .entry)) (length (now (table .entry))) (length (now (out .entry)))) ⌝ }
-    ensures { λ _. ⌜ now («first_sot» .exit) ≡ headerFirst (parsed (now (codestream .entry)) (length (now (table .entry))) (length (now (out .entry)))) ⌝ }
-    ensures { λ _. ⌜ now («decode_length» .exit) ≡ headerLength (parsed (now (codestream .entry)) (length (now (table .entry))) (length (now (out .entry)))) (now («decode_length» .entry)) ⌝ }
-    ensures { λ _. ⌜ now (entries .exit) ≡ headerEntries (parsed (now (codestream .entry)) (length (now (table .entry))) (length (now (out .entry)))) (now (entries .entry)) ⌝ }
-    ensures { λ _. ⌜ now (table .exit) ≡ recordsAfter (parsed (now (codestream .entry)) (length (now (table .entry))) (length (now (out .entry)))) (now (codestream .entry)) (now (table .entry)) ⌝ }
-    ensures { λ _. ⌜ now (out .exit) ≡ outAfter (parsed (now (codestream .entry)) (length (now (table .entry))) (length (now (out .entry)))) (now (codestream .entry)) (now (out .entry)) ⌝ }
-{
-    let answer = records::main_header::parse_main_header(codestream, table, out);
-    tell_header(answer, first_sot, decode_length, entries)
-}
 
 // The scan into a table of records. `value`: entries.
 #[no_mangle]

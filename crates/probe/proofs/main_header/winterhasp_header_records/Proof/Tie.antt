@@ -1,13 +1,13 @@
--- `Tie` of `probe::winterhasp_header_records`, written by tools/twin.py from twins/probe.twin: change that, and not this.
-use Rattle.probe.proofs.tell_header.Met
-use Rattle.probe.proofs.tell_header.Reads
-use Rattle.probe.proofs.tell_header.Symbol
-use Rattle.probe.proofs.winterhasp_header_records.Code
-use Rattle.probe.proofs.winterhasp_header_records.Key
-use Rattle.probe.proofs.readings.winterhasp_header_records.Kinds
-use Rattle.probe.proofs.winterhasp_header_records.Proof.Lts
-use Rattle.probe.proofs.readings.winterhasp_header_records.Reads as Reads'
-use Rattle.probe.proofs.winterhasp_header_records.Statement
+-- `Tie` of `probe::main_header/winterhasp_header_records`, written by tools/twin.py from twins/probe.twin: change that, and not this.
+use Rattle.probe.proofs.main_header.tell_header.Met
+use Rattle.probe.proofs.main_header.tell_header.Reads
+use Rattle.probe.proofs.main_header.tell_header.Symbol
+use Rattle.probe.proofs.main_header.winterhasp_header_records.Code
+use Rattle.probe.proofs.main_header.winterhasp_header_records.Key
+use Rattle.probe.proofs.readings.main_header.winterhasp_header_records.Kinds
+use Rattle.probe.proofs.main_header.winterhasp_header_records.Proof.Lts
+use Rattle.probe.proofs.readings.main_header.winterhasp_header_records.Reads as Reads'
+use Rattle.probe.proofs.main_header.winterhasp_header_records.Statement
 use Rattle.records.proofs.main_header.parse_main_header.Met as Met'
 use Rattle.records.proofs.readings.main_header.parse_main_header.Reads as Reads''
 use Rattle.records.proofs.main_header.parse_main_header.Symbol as Symbol'
@@ -95,4 +95,4 @@ module _ {M : Type 1} where
     𝓡 = 𝓡;
   }) (Reads'.passes record { M = M; 𝓤 = 𝓤; H = H; 𝓜 = 𝓜; 𝓖 = 𝓖; 𝓡 = 𝓡 }) λ g. closed 𝓤 H (𝓖 .A) (Running.givenOf 𝓤 H 𝓜 𝓖) (Run.Over 𝓤 H 𝓜 𝓖 𝓡 Code.env) (Reads''.known
       record { M = M; 𝓤 = 𝓤; H = H; 𝓜 = 𝓜; 𝓖 = 𝓖; 𝓡 = 𝓡 } Code.env Symbol'.name Symbol'.routine Code.calls-records·main-header·parse-main-header (Met'.met 𝓤 H 𝓜 𝓖 𝓡)) (Reads.known
-      record { M = M; 𝓤 = 𝓤; H = H; 𝓜 = 𝓜; 𝓖 = 𝓖; 𝓡 = 𝓡 } Code.env Symbol.name Symbol.routine Code.calls-probe·tell-header (Met.met 𝓤 H 𝓜 𝓖 𝓡))
+      record { M = M; 𝓤 = 𝓤; H = H; 𝓜 = 𝓜; 𝓖 = 𝓖; 𝓡 = 𝓡 } Code.env Symbol.name Symbol.routine Code.calls-probe·main-header·tell-header (Met.met 𝓤 H 𝓜 𝓖 𝓡))

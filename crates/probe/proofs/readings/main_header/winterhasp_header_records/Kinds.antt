@@ -1,4 +1,4 @@
--- `Kinds` of `probe::winterhasp_header_records`, written by tools/twin.py from twins/probe.twin: change that, and not this.
+-- `Kinds` of `probe::main_header/winterhasp_header_records`, written by tools/twin.py from twins/probe.twin: change that, and not this.
 use Rattle.types.proofs.lent.TilePartEntry as LentTilePartEntry
 use borrow.Fn.Kinds
 use borrow.Kind.MutSlice

@@ -1,6 +1,6 @@
--- `Reads` of `probe::winterhasp_header_records`, written by tools/twin.py from twins/probe.twin: change that, and not this.
-use Rattle.probe.proofs.winterhasp_header_records
-use Rattle.probe.proofs.readings.winterhasp_header_records.Kinds
+-- `Reads` of `probe::main_header/winterhasp_header_records`, written by tools/twin.py from twins/probe.twin: change that, and not this.
+use Rattle.probe.proofs.main_header.winterhasp_header_records
+use Rattle.probe.proofs.readings.main_header.winterhasp_header_records.Kinds
 use base.Logic
 use borrow.Fn.Kinds as Kinds'
 use borrow.Fn.Learn

@@ -2,8 +2,8 @@
 mod Lts
 mod Tie
 use borrow.Author.Needs.{needs}
-use Rattle.probe.proofs.winterhasp_header_records.Statement.{statement}
-use Rattle.probe.proofs.winterhasp_header_records.Proof.Tie as tie
+use Rattle.probe.proofs.main_header.winterhasp_header_records.Statement.{statement}
+use Rattle.probe.proofs.main_header.winterhasp_header_records.Proof.Tie as tie
 
 parse-main-header-requires : tie.Need-parse-main-header-requires
 parse-main-header-requires c κs = search needs

@@ -1,4 +1,4 @@
--- `Lts` of `probe::winterhasp_header_records`, written by tools/twin.py from twins/probe.twin: change that, and not this.
+-- `Lts` of `probe::main_header/winterhasp_header_records`, written by tools/twin.py from twins/probe.twin: change that, and not this.
 use Rattle.types.proofs.lent.TilePartEntry as LentTilePartEntry
 use Prim.Native.Nat
 use Rattle.header.proofs.parse.MainHeader
@@ -160,8 +160,8 @@ abbrev b7 : Syntax.Body
 b7 = Syntax.assign (Syntax.place 14 List.[]) (Syntax.addrOf (Syntax.place 6 (List._∷_ (Syntax.deref (Syntax.tyInt Syntax.w64)) List.[])))
 
 abbrev b8 : Syntax.Body
-b8 = Syntax.call "probe::tell_header" (List._∷_ (Syntax.copy (Syntax.place 7 List.[])) (List._∷_ (Syntax.copy (Syntax.place 12 List.[])) (List._∷_ (Syntax.copy (Syntax.place 13
-    List.[])) (List._∷_ (Syntax.copy (Syntax.place 14 List.[])) List.[])))) (Syntax.place 0 List.[])
+b8 = Syntax.call "probe::main_header::tell_header" (List._∷_ (Syntax.copy (Syntax.place 7 List.[])) (List._∷_ (Syntax.copy (Syntax.place 12 List.[])) (List._∷_ (Syntax.copy
+    (Syntax.place 13 List.[])) (List._∷_ (Syntax.copy (Syntax.place 14 List.[])) List.[])))) (Syntax.place 0 List.[])
 
 abbrev b9 : Syntax.Body
 b9 = Syntax.return
@@ -1188,8 +1188,8 @@ module _ (claims· : Claims) where
     module _ (M : Type 1) where
       abbrev pub Closed : Type 2
       Closed = (𝓤 : URA.URA M) (H : Wp.Heap 𝓤) (A : Atoms.Atoms 𝓤) (W : Kit.Given 𝓤 H A) (𝓣 : Wp.Tables 𝓤 H) (known0 : Plain.Known 𝓤 H A W 𝓣 3 ps·0 r·0 (claims· .0) (claims· .1)
-          "records::main_header::parse_main_header") (known1 : Plain.Known 𝓤 H A W 𝓣 3 ps·1 r·1 (claims· .2) (claims· .3) "probe::tell_header") → Statement.Triple 𝓤 (Wp.WpFn 𝓤 H (𝓣
-          .C) (𝓣 .Λ) (Function.fnOf 6 ps r xs m hs body)) (Function.plainOf 𝓤 H A 6 ps r Pre· Post·)
+          "records::main_header::parse_main_header") (known1 : Plain.Known 𝓤 H A W 𝓣 3 ps·1 r·1 (claims· .2) (claims· .3) "probe::main_header::tell_header") → Statement.Triple 𝓤
+          (Wp.WpFn 𝓤 H (𝓣 .C) (𝓣 .Λ) (Function.fnOf 6 ps r xs m hs body)) (Function.plainOf 𝓤 H A 6 ps r Pre· Post·)
 
     module _ where
       abbrev at0 : Typed.TF T33 O0
@@ -1300,7 +1300,7 @@ module _ (claims· : Claims) where
       module _ {M : Type 1} (𝓤 : URA.URA M) (H : Wp.Heap 𝓤) (A : Atoms.Atoms 𝓤) (W : Kit.Given 𝓤 H A) (𝓣 : Wp.Tables 𝓤 H) where
         abbrev Knowns : Type 1
         Knowns = Plain.Known 𝓤 H A W 𝓣 3 ps·0 r·0 (claims· .0) (claims· .1) "records::main_header::parse_main_header" × Plain.Known 𝓤 H A W 𝓣 3 ps·1 r·1 (claims· .2) (claims· .3)
-            "probe::tell_header"
+            "probe::main_header::tell_header"
 
       module _ (κs : Lifetimes.Lfts 6) (qs : Lifetimes.Shares 6) where
         abbrev g2 : List.List Row.Entry
@@ -2298,59 +2298,59 @@ module _ (claims· : Claims) where
               Path'.refl)) d9
 
           d11 : Typed.Typed 𝓤 H A 𝓣 E G23 b10 Δ0 at11
-          d11 = Typed.s-seq 𝓤 H A W 𝓣 E G23 G24 b8 b9 Δ0 (Typed.both s22) at10 (Plain.t-call-plain 𝓤 H A W 𝓣 3 ps·1 r·1 (claims· .2) (claims· .3) "probe::tell_header" (known .1) E
-              (λ pos β. β) G23 (
+          d11 = Typed.s-seq 𝓤 H A W 𝓣 E G23 G24 b8 b9 Δ0 (Typed.both s22) at10 (Plain.t-call-plain 𝓤 H A W 𝓣 3 ps·1 r·1 (claims· .2) (claims· .3) "probe::main_header::tell_header"
+              (known .1) E (λ pos β. β) G23 (
                 record { pos = 7; st = List.[]; d = 0; at = λ x. x },
                 (
                   record {
                     pos = 12;
-                    ty = Syntax.tyRef Syntax.erased Syntax.mut (Syntax.tyInt Syntax.w64);
-                    ref
-                        = λ x. x;
+                    ty = Syntax.tyRef Syntax.erased Syntax.mut (Syntax.tyInt
+                        Syntax.w64);
+                    ref = λ x. x;
                   },
                   (
                     record { pos = 13; ty = Syntax.tyRef Syntax.erased Syntax.mut (Syntax.tyInt Syntax.w64); ref = λ x. x },
                     (
                       record {
                         pos = 14;
-                        ty = Syntax.tyRef
-                            Syntax.erased Syntax.mut (Syntax.tyInt Syntax.w64);
+                        ty =
+                            Syntax.tyRef Syntax.erased Syntax.mut (Syntax.tyInt Syntax.w64);
                         ref = λ x. x;
                       },
                       tt,
                     ),
                   ),
                 ),
-              ) 0 (List._∷_ 8 (List._∷_ 9 (List._∷_ 10 List.[]))) (Call.sub-id 𝓤 H A W (G23 .slots)) (
+              ) 0 (List._∷_ 8 (List._∷_ 9 (List._∷_ 10 List.[]))) (Call.sub-id 𝓤 H A W (G23
+              .slots)) (
                 (
-                  Yields.yields-copy 𝓤 H A W (λ ρ. Unit) (Declared.row MainHeader.the-type) Path'.refl (Copies.cEnum MainHeader.the-type Laws.the-laws Laws.the-copy .copy 𝓤 H A W)
-                      (Rows.whole (Declared.row MainHeader.the-type)) (λ x. x) (λ x. x) (λ ρ told. Local.mem-whole 𝓤 H A W (Declared.row MainHeader.the-type) ρ) λ ρ told. Local.whole-mem 𝓤
-                      H A W (Declared.row MainHeader.the-type) ρ,
+                  Yields.yields-copy 𝓤 H A W (λ ρ. Unit) (Declared.row MainHeader.the-type) Path'.refl (Copies.cEnum MainHeader.the-type Laws.the-laws Laws.the-copy .copy 𝓤
+                      H A W) (Rows.whole (Declared.row MainHeader.the-type)) (λ x. x) (λ x. x) (λ ρ told. Local.mem-whole 𝓤 H A W (Declared.row MainHeader.the-type) ρ) λ ρ told.
+                      Local.whole-mem 𝓤 H A W (Declared.row MainHeader.the-type) ρ,
                   Path'.refl,
                 ),
                 (
-                  Reads.as-is 𝓤 H A (Rows.mref (Referent.rtF (Referent.fInt Syntax.w64)) (Syntax.tyRef Syntax.erased
-                      Syntax.mut (Syntax.tyInt Syntax.w64)) 8),
-                  Reads.reads-mref 𝓤 H A W (Referent.rtF (Referent.fInt Syntax.w64)) (Syntax.tyRef Syntax.erased Syntax.mut (Syntax.tyInt
-                      Syntax.w64)) 8,
+                  Reads.as-is 𝓤 H A (Rows.mref (Referent.rtF (Referent.fInt Syntax.w64)) (Syntax.tyRef
+                      Syntax.erased Syntax.mut (Syntax.tyInt Syntax.w64)) 8),
+                  Reads.reads-mref 𝓤 H A W (Referent.rtF (Referent.fInt Syntax.w64)) (Syntax.tyRef Syntax.erased Syntax.mut
+                      (Syntax.tyInt Syntax.w64)) 8,
                   Path'.refl,
                   (
-                    Reads.as-is 𝓤 H A (Rows.mref (Referent.rtF (Referent.fInt Syntax.w64)) (Syntax.tyRef Syntax.erased Syntax.mut (Syntax.tyInt Syntax.w64))
-                        9),
+                    Reads.as-is 𝓤 H A (Rows.mref (Referent.rtF (Referent.fInt Syntax.w64)) (Syntax.tyRef Syntax.erased Syntax.mut (Syntax.tyInt
+                        Syntax.w64)) 9),
                     Reads.reads-mref 𝓤 H A W (Referent.rtF (Referent.fInt Syntax.w64)) (Syntax.tyRef Syntax.erased Syntax.mut (Syntax.tyInt Syntax.w64)) 9,
                     Path'.refl,
                     (
-                      Reads.as-is 𝓤
-                          H A (Rows.mref (Referent.rtF (Referent.fInt Syntax.w64)) (Syntax.tyRef Syntax.erased Syntax.mut (Syntax.tyInt Syntax.w64)) 10),
-                      Reads.reads-mref 𝓤 H A W (Referent.rtF
-                          (Referent.fInt Syntax.w64)) (Syntax.tyRef Syntax.erased Syntax.mut (Syntax.tyInt Syntax.w64)) 10,
+                      Reads.as-is 𝓤 H A (Rows.mref (Referent.rtF (Referent.fInt Syntax.w64)) (Syntax.tyRef Syntax.erased Syntax.mut (Syntax.tyInt Syntax.w64)) 10),
+                      Reads.reads-mref 𝓤 H A
+                          W (Referent.rtF (Referent.fInt Syntax.w64)) (Syntax.tyRef Syntax.erased Syntax.mut (Syntax.tyInt Syntax.w64)) 10,
                       Path'.refl,
                       tt,
                     ),
                   ),
                 ),
-              ) (Reads.room-gone 𝓤 H A (Syntax.tyInt Syntax.w32))
-              (tt, (tt, (tt, tt))) Path'.refl) d10
+              ) (Reads.room-gone 𝓤 H A
+              (Syntax.tyInt Syntax.w32)) (tt, (tt, (tt, tt))) Path'.refl) d10
 
           d12 : Typed.Typed 𝓤 H A 𝓣 E G22 b11 Δ0 at12
           d12 = Typed.s-seq 𝓤 H A W 𝓣 E G22 G23 b7 b10 Δ0 (Typed.give s21) at11 (Reborrow.t-mref-relend 𝓤 H A W E 𝓣 G22 6 14 5 10 (Referent.rtF (Referent.fInt Syntax.w64))
@@ -3237,6 +3237,6 @@ module _ (claims· : Claims) where
           }
 
         module _ {M : Type 1} (𝓤 : URA.URA M) (H : Wp.Heap 𝓤) (A : Atoms.Atoms 𝓤) (W : Kit.Given 𝓤 H A) (𝓣 : Wp.Tables 𝓤 H) (known0 : Plain.Known 𝓤 H A W 𝓣 3 ps·0 r·0 (claims· .0)
-            (claims· .1) "records::main_header::parse_main_header") (known1 : Plain.Known 𝓤 H A W 𝓣 3 ps·1 r·1 (claims· .2) (claims· .3) "probe::tell_header") where
+            (claims· .1) "records::main_header::parse_main_header") (known1 : Plain.Known 𝓤 H A W 𝓣 3 ps·1 r·1 (claims· .2) (claims· .3) "probe::main_header::tell_header") where
           pub spec : Statement.Triple 𝓤 (Wp.WpFn 𝓤 H (𝓣 .C) (𝓣 .Λ) (Function.fnOf 6 ps r xs m hs body)) (Function.plainOf 𝓤 H A 6 ps r Pre· Post·)
           spec = Plain.t-fn-plain 𝓤 H A W 𝓣 6 ps r xs m hs body (λ κs qs bs. Φ) (λ κs qs bs bd. typed κs qs 𝓤 H A W 𝓣 (known0, known1) bs bd) Pre· Post· asked

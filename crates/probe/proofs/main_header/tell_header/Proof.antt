@@ -1,8 +1,8 @@
 -- Each arm's numbers are the definition's, at the answer that was matched.
 use mathlib.Core.Path.{refl}
 use borrow.Author.Needs.{needs}
-use Rattle.probe.proofs.tell_header.Statement.{statement}
-use Rattle.probe.proofs.tell_header.Tie as tie
+use Rattle.probe.proofs.main_header.tell_header.Statement.{statement}
+use Rattle.probe.proofs.main_header.tell_header.Tie as tie
 
 enum-known-answer : tie.Need-enum-known-answer
 enum-known-answer c = search needs

@@ -1,7 +1,7 @@
 -- What the callees say of answer and lent memory is what is promised.
 use borrow.Author.Needs.{needs}
-use Rattle.probe.proofs.winterhasp_parse_main_header.Statement.{statement}
-use Rattle.probe.proofs.winterhasp_parse_main_header.Tie as tie
+use Rattle.probe.proofs.main_header.winterhasp_parse_main_header.Statement.{statement}
+use Rattle.probe.proofs.main_header.winterhasp_parse_main_header.Tie as tie
 
 parse-main-header-requires : tie.Need-parse-main-header-requires
 parse-main-header-requires c κs = search needs

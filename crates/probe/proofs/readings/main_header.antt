@@ -1,0 +1,1 @@
+pub mod winterhasp_header_records
