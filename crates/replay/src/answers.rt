@@ -9,7 +9,7 @@ use reader::siz::SizRead;
 use types::ROW;
 
 // The payload is the prefix.
-pub fn extent(prefix: &[u8]) {
+pub(crate) fn extent(prefix: &[u8]) {
     match header::extent::main_header_extent(prefix) {
         MainHeaderExtent::Complete(first_sot) => {
             print::text(b"extent complete");
@@ -20,7 +20,7 @@ pub fn extent(prefix: &[u8]) {
 }
 
 // The payload is the codestream.
-pub fn header(codestream: &[u8]) {
+pub(crate) fn header(codestream: &[u8]) {
     let mut table = new_table();
     let mut out = io::large_buffer();
     let answer = header::parse::parse_main_header(codestream, &mut table, &mut out);
@@ -29,7 +29,7 @@ pub fn header(codestream: &[u8]) {
 }
 
 // The same with a table of records.
-pub fn header_records(codestream: &[u8]) {
+pub(crate) fn header_records(codestream: &[u8]) {
     let mut out = io::large_buffer();
     let read = records::tables::header_table(codestream, &mut out);
     let answer = read.answer;
@@ -39,7 +39,7 @@ pub fn header_records(codestream: &[u8]) {
 }
 
 // The payload is the start, 8 bytes, and the codestream.
-pub fn scan(payload: &[u8]) {
+pub(crate) fn scan(payload: &[u8]) {
     if payload.len() < 8 {
         return print::text(b"unknown kind");
     }
@@ -51,7 +51,7 @@ pub fn scan(payload: &[u8]) {
 }
 
 // The same with a table of records.
-pub fn scan_records(payload: &[u8]) {
+pub(crate) fn scan_records(payload: &[u8]) {
     if payload.len() < 8 {
         return print::text(b"unknown kind");
     }
@@ -64,7 +64,7 @@ pub fn scan_records(payload: &[u8]) {
 }
 
 // The payload is the tile's buffer.
-pub fn split(tile: &[u8]) {
+pub(crate) fn split(tile: &[u8]) {
     let count = parts::split::split_count(tile);
     print::text(b"split");
     print::number(count as u64);
@@ -74,7 +74,7 @@ pub fn split(tile: &[u8]) {
 }
 
 // The payload is the index, 2 bytes, and the header.
-pub fn rewrite(payload: &[u8]) {
+pub(crate) fn rewrite(payload: &[u8]) {
     if payload.len() < 2 {
         return print::text(b"unknown kind");
     }
@@ -86,7 +86,7 @@ pub fn rewrite(payload: &[u8]) {
 }
 
 // The payload is the header's length, 4 bytes, the header, the number of rows, 2 bytes, the rows, and the codestream.
-pub fn assembly(payload: &[u8]) {
+pub(crate) fn assembly(payload: &[u8]) {
     if payload.len() < 4 {
         return print::text(b"unknown kind");
     }
@@ -110,7 +110,7 @@ fn assemble(header: &[u8], rows: &[u8], codestream: &[u8]) {
 }
 
 // The payload is the file.
-pub fn search(file: &[u8]) {
+pub(crate) fn search(file: &[u8]) {
     print::text(b"search");
     match reader::search::find_codestream(file) {
         Found::Codestream(start, size) => {
@@ -122,7 +122,7 @@ pub fn search(file: &[u8]) {
 }
 
 // The payload is the codestream.
-pub fn siz(codestream: &[u8]) {
+pub(crate) fn siz(codestream: &[u8]) {
     print::text(b"siz");
     let SizRead::Siz(info) = reader::siz::parse_siz_marker(codestream) else {
         return print::text(b" refused");
@@ -146,7 +146,7 @@ pub fn siz(codestream: &[u8]) {
 }
 
 // The payload is the region and the codestream's length, 8 bytes each.
-pub fn growth(payload: &[u8]) {
+pub(crate) fn growth(payload: &[u8]) {
     if payload.len() != 16 {
         return print::text(b"unknown kind");
     }

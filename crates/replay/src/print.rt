@@ -7,7 +7,7 @@ use types::ROW;
 use types::TilePartEntry;
 
 // The line but for its entries; gives how many follow.
-pub fn header(answer: MainHeader, out: &[u8]) -> u64 {
+pub(crate) fn header(answer: MainHeader, out: &[u8]) -> u64 {
     text(b"header");
     let MainHeader::Header(info) = answer else {
         text(b" refused");
@@ -24,7 +24,7 @@ pub fn header(answer: MainHeader, out: &[u8]) -> u64 {
 }
 
 // The same of a scan.
-pub fn scan(answer: Scanned) -> u64 {
+pub(crate) fn scan(answer: Scanned) -> u64 {
     text(b"scan");
     let Scanned::Table(count) = answer else {
         text(b" refused");
@@ -34,7 +34,7 @@ pub fn scan(answer: Scanned) -> u64 {
     count
 }
 
-pub fn written(answer: Written, out: &[u8]) {
+pub(crate) fn written(answer: Written, out: &[u8]) {
     match answer {
         Written::Bytes(count) => hex(out, count),
         Written::Refused(_) => text(b" refused"),
@@ -42,7 +42,7 @@ pub fn written(answer: Written, out: &[u8]) {
 }
 
 // The first rows of a table, which has as many.
-pub fn rows(table: &[u8], count: u64) {
+pub(crate) fn rows(table: &[u8], count: u64) {
     let end = numbers::minimum(count, (table.len() / ROW) as u64) as usize;
     for i in 0..end {
         record(types::read_row(table, i * ROW));
@@ -50,7 +50,7 @@ pub fn rows(table: &[u8], count: u64) {
 }
 
 // The first records of a table, which has as many.
-pub fn records(table: [TilePartEntry; 2048], count: u64) {
+pub(crate) fn records(table: [TilePartEntry; 2048], count: u64) {
     let end = numbers::minimum(count, 2048) as usize;
     for i in 0..end {
         record(table[i]);
@@ -64,7 +64,7 @@ fn record(entry: TilePartEntry) {
 }
 
 // The first bytes of a buffer, which has as many, after a space.
-pub fn hex(bytes: &[u8], count: u64) {
+pub(crate) fn hex(bytes: &[u8], count: u64) {
     let end = numbers::minimum(count, bytes.len() as u64) as usize;
     text(b" ");
     for i in 0..end {
@@ -73,11 +73,11 @@ pub fn hex(bytes: &[u8], count: u64) {
 }
 
 // A number, after a space.
-pub fn number(n: u64) {
+pub(crate) fn number(n: u64) {
     text(b" ");
     io::print_decimal(STDOUT_FILENO, n);
 }
 
-pub fn text(word: &[u8]) {
+pub(crate) fn text(word: &[u8]) {
     io::write_all(STDOUT_FILENO, word);
 }
