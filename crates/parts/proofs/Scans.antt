@@ -19,7 +19,7 @@ use Rattle.parts.specs.Sot.{lsot, psot}
 use Rattle.parts.specs.Scan.{refusal, entryOf, partAt, eocAt, sotStepAt, scanStepAt, ScanEnd, ended, refused, moveOf, moveAt, scanFrom, visited, entriesFrom}
 use Rattle.parts.specs.declared.scan.ScanStep.{ScanStep}
 use Rattle.parts.specs.declared.scan.ScanStep.the-variants.{Part, Ended, Refused}
-use Rattle.numbers.proofs.Choice.{by-test, by-bool}
+use Rattle.numbers.proofs.Choice.{by-test}
 use Rattle.chain.proofs.Laws.{end-on}
 
 -- ---- the step, case by case
@@ -35,27 +35,13 @@ module _ (s : List ℕ) (at : ℕ) where
     sot-rest z = rw (eq-eqb _ _ ten, eq-eqb _ _ z)
 
     module _ (some : psot s at ≡ 0 → ⊥) where
-      psot-past : length s < at + psot s at → sotStepAt s at ≡ Refused (refusal 9 at)
+      pub sot-past : length s < at + psot s at → sotStepAt s at ≡ Refused (refusal 9 at)
       unfolding sotStepAt
-      psot-past h = rw (eq-eqb _ _ ten, ne-eqb _ _ some, lt-leb _ _ h)
+      sot-past h = rw (eq-eqb _ _ ten, ne-eqb _ _ some, lt-leb _ _ h)
 
       pub sot-part : at + psot s at ≤ length s → sotStepAt s at ≡ Part (entryOf s at (psot s at))
       unfolding sotStepAt
       sot-part h = rw (eq-eqb _ _ ten, ne-eqb _ _ some, le-leb _ _ h)
-
-    -- the same two by the record, whatever Psot is
-    module _ (here : at ≤ length s) where
-      pub sot-past : length s < at + partAt s at .length → sotStepAt s at ≡ Refused (refusal 9 at)
-      sot-past h =
-          by-bool (eqb (psot s at) 0)
-          (λ z. let k = rw z at h in absurd (omega arith))
-          (λ n. psot-past (eqb-false _ _ n) (rw n at h))
-
-      pub sot-found : at + partAt s at .length ≤ length s → sotStepAt s at ≡ Part (partAt s at)
-      sot-found h =
-          by-bool (eqb (psot s at) 0)
-          (λ z. rw z (sot-rest (eqb-true _ _ z)))
-          (λ n. rw n (sot-part (eqb-false _ _ n) (rw n at h)))
 
   pub step-outside : length s ≤ at → scanStepAt s at ≡ Ended
   unfolding scanStepAt
@@ -193,6 +179,7 @@ pub record Next (s : List ℕ) (at : ℕ) : Type 0 where
   pub entries : entriesFrom s at ≡ partAt s at ∷ entriesFrom s (at + partAt s at .length)
   pub some : 0 < partAt s at .length
   pub inside : at + partAt s at .length ≤ lib.ListN.length s
+  pub long : (psot s at ≡ partAt s at .length) ⊎ ((psot s at ≡ 0) × (at + partAt s at .length ≡ lib.ListN.length s))
 
 pub stands-part : (s : List ℕ) (at : ℕ) (e : TilePartEntry) → Stands s at e → e ≡ partAt s at
 stands-part s at e t =
@@ -206,13 +193,24 @@ next s at (Part e) found h =
     let t = part-stands s at e found in
     let same : e ≡ partAt s at = stands-part s at e t in
     let k = rw same at t in
-    record { room = t .room; entries = rw same at (entries-part s at e found); some = k .some; inside = k .inside }
+    record { room = t .room; entries = rw same at (entries-part s at e found); some = k .some; inside = k .inside; long = k .long }
 next s at Ended found h = absurd (omega (arith, ap length (entries-ended s at found)))
 next s at (Refused r) found h = absurd (omega (arith, ap length (entries-refused s at r found)))
 
 -- where records are left, one stands there
 pub entries-next : (s : List ℕ) (at : ℕ) → 0 < length (entriesFrom s at) → Next s at
 entries-next s at h = next s at (scanStepAt s at) refl h
+
+-- where Psot leads is inside
+pub leads-inside : (s : List ℕ) (at : ℕ) → Next s at → at + psot s at ≤ length s
+leads-inside s at n = ⊎-elim (λ l. omega (arith, n .inside)) (λ l. omega (arith, n .room)) (n .long)
+
+-- and there stands what is left, if anything: no record comes after Psot 0
+pub leads-on : (s : List ℕ) (at : ℕ) → Next s at → 0 < length (entriesFrom s (at + partAt s at .length))
+    → entriesFrom s (at + partAt s at .length) ≡ entriesFrom s (at + psot s at)
+leads-on s at n h =
+    ⊎-elim (λ l. ap (λ (k : ℕ). entriesFrom s (at + k)) (sym l))
+    (λ l. absurd (omega (arith, l .1, entries-next s (at + partAt s at .length) h .room))) (n .long)
 
 -- records, field by field
 pub same-entry : {i j at n m : ℕ} → i ≡ j → n ≡ m

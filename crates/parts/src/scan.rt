@@ -4,7 +4,8 @@ ghost use Prim.Native.Nat.{_+_, _*_, _/_, _≤_};
 ghost use lib.ListN.{length};
 ghost use Rattle.numbers.specs.Bytes.{put};
 ghost use Rattle.types.specs.Row.{rowsOf};
-ghost use Rattle.parts.specs.Scan.{eocAt, partAt, sotStepAt, scanStepAt, scanFrom, judged, entriesFrom, scanned, scanNumber, scanValue, scannedTable};
+ghost use Rattle.parts.specs.Sot.{psot};
+ghost use Rattle.parts.specs.Scan.{entryOf, eocAt, partAt, sotStepAt, scanStepAt, scanFrom, judged, entriesFrom, scanned, scanNumber, scanValue, scannedTable};
 use types::ROW;
 use types::Refusal;
 use types::TilePartEntry;
@@ -32,30 +33,43 @@ fn at_eoc(codestream: &[u8], at: usize) -> bool
     2 <= codestream.len() - at && numbers::read_u16(codestream, at) == EOC
 }
 
-// The record of the tile-part whose SOT stands there: Isot at 4, Psot at 6. Psot 0 is to the codestream's end.
+// The record of a tile-part of so many bytes whose SOT stands there: Isot at 4.
+fn entry_at(codestream: &[u8], at: usize, bytes: u64) -> TilePartEntry
+    requires { ⌜ at + 12 ≤ length (now codestream) ⌝ }
+    ensures { λ r. ⌜ r ≡ entryOf (now (codestream .entry)) at bytes ⌝ }
+{
+    let tile_index = numbers::read_u16(codestream, at + 4);
+    TilePartEntry {
+        tile_index,
+        offset: at as u64,
+        length: bytes,
+    }
+}
+
+// The record of the tile-part whose SOT stands there: Psot at 6. Psot 0 is to the codestream's end.
 pub fn part_at(codestream: &[u8], at: usize) -> TilePartEntry
     requires { ⌜ at + 12 ≤ length (now codestream) ⌝ }
     ensures { λ r. ⌜ r ≡ partAt (now (codestream .entry)) at ⌝ }
 {
-    let tile_index = numbers::read_u16(codestream, at + 4);
-    let psot = numbers::read_u32(codestream, at + 6) as u64;
-    let offset = at as u64;
+    let psot = numbers::read_u32(codestream, at + 6) as usize;
     if psot == 0 {
         let rest = codestream.len() - at;
-        return TilePartEntry {
-            tile_index,
-            offset,
-            length: rest as u64,
-        };
+        return entry_at(codestream, at, rest as u64);
     }
-    TilePartEntry {
-        tile_index,
-        offset,
-        length: psot,
-    }
+    entry_at(codestream, at, psot as u64)
 }
 
-// Lsot stands at 2.
+// Where Psot says that the next tile-part stands; Psot 0 says nothing, and stays. A walk that asks this and not the record's length
+// does not wait for the choice of the length.
+pub fn next_at(codestream: &[u8], at: usize) -> usize
+    requires { ⌜ at + 12 ≤ length (now codestream) ⌝ }
+    requires { ⌜ at + psot (now codestream) at ≤ length (now codestream) ⌝ }
+    ensures { λ r. ⌜ r ≡ at + psot (now (codestream .entry)) at ⌝ }
+{
+    at + numbers::read_u32(codestream, at + 6) as usize
+}
+
+// Lsot stands at 2. A record in each branch, and not the one of part_at: the walk waits for the length, and would for its choice.
 fn sot_step(codestream: &[u8], at: usize) -> ScanStep
     requires { ⌜ at + 12 ≤ length (now codestream) ⌝ }
     ensures { λ r. ⌜ r ≡ sotStepAt (now (codestream .entry)) at ⌝ }
@@ -64,12 +78,15 @@ fn sot_step(codestream: &[u8], at: usize) -> ScanStep
     if numbers::read_u16(codestream, at + 2) != 10 {
         return ScanStep::Refused(Refusal { number: 8, place });
     }
-    let entry = part_at(codestream, at);
+    let psot = numbers::read_u32(codestream, at + 6) as usize;
     let rest = codestream.len() - at;
-    if (rest as u64) < entry.length {
+    if psot == 0 {
+        return ScanStep::Part(entry_at(codestream, at, rest as u64));
+    }
+    if rest < psot {
         return ScanStep::Refused(Refusal { number: 9, place });
     }
-    ScanStep::Part(entry)
+    ScanStep::Part(entry_at(codestream, at, psot as u64))
 }
 
 pub fn scan_step(codestream: &[u8], at: usize) -> ScanStep
@@ -146,7 +163,7 @@ pub fn tell(answer: Scanned, value: &mut u64) -> u32
     }
 }
 
-// Writes the records, one row after the other.
+// Writes the records, one row after the other. The next position comes after the row: before it, LLVM reads Psot byte by byte.
 fn fill(codestream: &[u8], start: usize, count: usize, table: &mut [u8])
     requires { ⌜ count ≡ length (entriesFrom (now codestream) start) ⌝ }
     requires { ⌜ 18 * count ≤ length (now table) ⌝ }
@@ -159,7 +176,7 @@ fn fill(codestream: &[u8], start: usize, count: usize, table: &mut [u8])
         let entry = part_at(codestream, at);
         types::write_row(table, row, entry);
         row += ROW;
-        at = types::end_of(entry) as usize;
+        at = next_at(codestream, at);
         i += 1;
     }
 }

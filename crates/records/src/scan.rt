@@ -18,7 +18,7 @@ pub fn fill(codestream: &[u8], start: usize, count: usize, table: &mut [TilePart
     for i in 0..count {
         let entry = parts::scan::part_at(codestream, at);
         table[i] = entry;
-        at = types::end_of(entry) as usize;
+        at = parts::scan::next_at(codestream, at);
     }
 }
 

@@ -1,12 +1,11 @@
 -- The rows that are left, put where the next row goes, make the table that all rows make of the one lent; a turn puts one.
 use Prim.Native.Nat.{_+_, _-_}
 use native.Mathlib.Omega.{arith}
-use mathlib.Core.Path.{ap}
 use borrow.Author.Needs.{needs}
-use Rattle.types.specs.declared.TilePartEntry.{TilePartEntry}
 use Rattle.types.proofs.Laws.{length-rows}
 use Rattle.types.proofs.Standing.{rows}
 use Rattle.parts.specs.Scan.{entriesFrom}
+use Rattle.parts.proofs.Scans.{leads-inside}
 use Rattle.parts.proofs.Fills.{Filled, none-filled, stands, one-room, turn, all-filled}
 use Rattle.parts.proofs.scan.fill.Statement.{statement}
 use Rattle.parts.proofs.scan.fill.Tie as tie
@@ -33,11 +32,11 @@ add-row c =
     let l = c .before .before .before .before .before in
     omega (arith, one-room rows (l .loop-test .taken) (l .before .loop .inv), l .before .loop .inv .same)
 
-end-of-requires : tie.Need-end-of-requires Inv-loop μ-loop
-end-of-requires c κs =
-    let p = c .before .before .before .before in
-    let h = stands rows (p .before .loop-test .taken) (p .before .before .loop .inv) in
-    omega (arith, ap (λ (e : TilePartEntry). e .offset + e .length) (p .part-at .ensures))
+next-at-requires : tie.Need-next-at-requires Inv-loop μ-loop
+next-at-requires c κs =
+    let p = c .before .before .before .before .before in
+    let h = stands rows (p .loop-test .taken) (p .before .loop .inv) in
+    (h .room, leads-inside _ _ h)
 
 add-i : tie.Need-add-i Inv-loop μ-loop
 add-i c = omega arith
@@ -48,7 +47,7 @@ loop-less c = omega arith
 loop-again : tie.Need-loop-again Inv-loop μ-loop
 loop-again c =
     let p = c .before .before .before .before .before in
-    turn rows (p .before .loop-test .taken) (p .part-at .ensures) (c .before .before .before .write-row .ensures) (c .end-of .ensures) (p .before .before .loop .inv)
+    turn rows (p .before .loop-test .taken) (p .part-at .ensures) (c .before .before .before .write-row .ensures) (c .next-at .ensures) (p .before .before .loop .inv)
 
 same-length : tie.Need-same-length Inv-loop μ-loop
 same-length c = c .before .loop .inv .same
@@ -66,7 +65,7 @@ fill-spec =
     part-at-requires
     write-row-requires
     add-row
-    end-of-requires
+    next-at-requires
     add-i
     loop-less
     loop-again

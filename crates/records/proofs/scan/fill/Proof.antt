@@ -3,11 +3,10 @@ mod Lts
 mod Tie
 use Prim.Native.Nat.{_+_, _-_}
 use native.Mathlib.Omega.{arith}
-use mathlib.Core.Path.{ap, _∙_}
 use borrow.Author.Needs.{needs}
 use Rattle.numbers.proofs.Laws.{put-one}
-use Rattle.types.specs.declared.TilePartEntry.{TilePartEntry}
 use Rattle.types.proofs.Standing.{records}
+use Rattle.parts.proofs.Scans.{leads-inside}
 use Rattle.parts.proofs.Fills.{Filled, none-filled, stands, one-room, turn, all-filled}
 use Rattle.records.proofs.scan.fill.Statement.{statement}
 use Rattle.records.proofs.scan.fill.Proof.Tie as tie
@@ -30,10 +29,10 @@ mul-entry c = search needs
 slice-set-from-entry : tie.Need-slice-set-from-entry Inv-loop μ-loop
 slice-set-from-entry c = omega (arith, one-room records (c .before .loop-test .taken) (c .before .before .loop .inv))
 
-end-of-requires : tie.Need-end-of-requires Inv-loop μ-loop
-end-of-requires c κs =
+next-at-requires : tie.Need-next-at-requires Inv-loop μ-loop
+next-at-requires c κs =
     let h = stands records (c .before .loop-test .taken) (c .before .before .loop .inv) in
-    omega (arith, ap (λ (e : TilePartEntry). e .offset + e .length) (c .part-at .ensures))
+    (h .room, leads-inside _ _ h)
 
 add-i : tie.Need-add-i Inv-loop μ-loop
 add-i c = omega arith
@@ -46,7 +45,7 @@ loop-again c =
     let p = c .before in
     let l = p .before .before .loop in
     let fits = one-room records (p .before .loop-test .taken) (l .inv) in
-    turn records (p .before .loop-test .taken) (p .part-at .ensures) (put-one (l .table) (l .i) (p .part-at .result) (omega arith)) (c .end-of .ensures) (l .inv)
+    turn records (p .before .loop-test .taken) (p .part-at .ensures) (put-one (l .table) (l .i) (p .part-at .result) (omega arith)) (c .next-at .ensures) (l .inv)
 
 same-length : tie.Need-same-length Inv-loop μ-loop
 same-length c = c .before .loop .inv .same
@@ -64,7 +63,7 @@ fill-spec =
     part-at-requires
     mul-entry
     slice-set-from-entry
-    end-of-requires
+    next-at-requires
     add-i
     loop-less
     loop-again

@@ -50,7 +50,7 @@ r = Unit'.rUnit
 
 abbrev pub xs : List.List Syntax.Ty
 xs = List._∷_ (Syntax.tyInt Syntax.w64) (List._∷_ (Syntax.tyInt Syntax.w64) (List._∷_ LentTilePartEntry.spelled (List._∷_ Syntax.tyBool (List._∷_ (Syntax.tyInt Syntax.w64)
-    (List._∷_ Syntax.tyPtr (List._∷_ (Syntax.tyInt Syntax.w64) List.[]))))))
+    (List._∷_ Syntax.tyPtr List.[])))))
 
 abbrev pub m : Nat.ℕ
 m = 0
@@ -61,16 +61,15 @@ ps·0 = List._∷_ (ShrSlice.pShrS (Referent.rtF (Referent.fInt Syntax.w8)) 0 tt
 abbrev pub r·0 : Kinds.RK 1
 r·0 = LentTilePartEntry.result
 
-abbrev pub ps·1 : List.List (Kinds.PK 0)
-ps·1 = List._∷_ LentTilePartEntry.param List.[]
+abbrev pub ps·1 : List.List (Kinds.PK 1)
+ps·1 = List._∷_ (ShrSlice.pShrS (Referent.rtF (Referent.fInt Syntax.w8)) 0 tt) (List._∷_ (Num.pNum Syntax.w64) List.[])
 
-abbrev pub r·1 : Kinds.RK 0
+abbrev pub r·1 : Kinds.RK 1
 r·1 = Num.rNum Syntax.w64
 
 abbrev pub hs : List.List Syntax.Home
 hs = List._∷_ Syntax.valueLocal (List._∷_ Syntax.valueLocal (List._∷_ Syntax.valueLocal (List._∷_ Syntax.valueLocal (List._∷_ Syntax.valueLocal (List._∷_ Syntax.valueLocal
-    (List._∷_ Syntax.valueLocal (List._∷_ Syntax.valueLocal (List._∷_ Syntax.valueLocal (List._∷_ Syntax.valueLocal (List._∷_ Syntax.valueLocal (List._∷_ Syntax.valueLocal
-    List.[])))))))))))
+    (List._∷_ Syntax.valueLocal (List._∷_ Syntax.valueLocal (List._∷_ Syntax.valueLocal (List._∷_ Syntax.valueLocal (List._∷_ Syntax.valueLocal List.[]))))))))))
 
 abbrev b0 : Syntax.Body
 b0 = Syntax.assign (Syntax.place 5 List.[]) (Syntax.rvOpd (Syntax.copy (Syntax.place 2 List.[])))
@@ -103,67 +102,61 @@ abbrev b9 : Syntax.Body
 b9 = Syntax.assign (Syntax.place 10 (List._∷_ (Syntax.deref LentTilePartEntry.spelled) List.[])) (Syntax.rvOpd (Syntax.copy (Syntax.place 7 List.[])))
 
 abbrev b10 : Syntax.Body
-b10 = Syntax.call "types::end_of" (List._∷_ (Syntax.copy (Syntax.place 7 List.[])) List.[]) (Syntax.place 11 List.[])
+b10 = Syntax.call "parts::scan::next_at" (List._∷_ (Syntax.copy (Syntax.place 1 List.[])) (List._∷_ (Syntax.copy (Syntax.place 5 List.[])) List.[])) (Syntax.place 5 List.[])
 
 abbrev b11 : Syntax.Body
-b11 = Syntax.assign (Syntax.place 5 List.[]) (Syntax.rvOpd (Syntax.copy (Syntax.place 11 List.[])))
+b11 = Syntax.assign (Syntax.place 6 List.[]) (Syntax.op2 (Syntax.add Syntax.unsigned) (Syntax.copy (Syntax.place 6 List.[])) (Syntax.int Syntax.w64 1))
 
 abbrev b12 : Syntax.Body
-b12 = Syntax.assign (Syntax.place 6 List.[]) (Syntax.op2 (Syntax.add Syntax.unsigned) (Syntax.copy (Syntax.place 6 List.[])) (Syntax.int Syntax.w64 1))
+b12 = Syntax.seq b10 b11
 
 abbrev b13 : Syntax.Body
-b13 = Syntax.seq b11 b12
+b13 = Syntax.seq b9 b12
 
 abbrev b14 : Syntax.Body
-b14 = Syntax.seq b10 b13
+b14 = Syntax.seq b8 b13
 
 abbrev b15 : Syntax.Body
-b15 = Syntax.seq b9 b14
+b15 = Syntax.seq b7 b14
 
 abbrev b16 : Syntax.Body
-b16 = Syntax.seq b8 b15
+b16 = Syntax.seq b6 b15
 
 abbrev b17 : Syntax.Body
-b17 = Syntax.seq b7 b16
+b17 = Syntax.seq b5 b16
 
 abbrev b18 : Syntax.Body
-b18 = Syntax.seq b6 b17
+b18 = Syntax.seq b2 b17
 
 abbrev b19 : Syntax.Body
-b19 = Syntax.seq b5 b18
+b19 = Syntax.loop b18
 
 abbrev b20 : Syntax.Body
-b20 = Syntax.seq b2 b19
+b20 = Syntax.block b19
 
 abbrev b21 : Syntax.Body
-b21 = Syntax.loop b20
+b21 = Syntax.assign (Syntax.place 0 List.[]) (Syntax.rvOpd Syntax.opdUnit)
 
 abbrev b22 : Syntax.Body
-b22 = Syntax.block b21
+b22 = Syntax.return
 
 abbrev b23 : Syntax.Body
-b23 = Syntax.assign (Syntax.place 0 List.[]) (Syntax.rvOpd Syntax.opdUnit)
+b23 = Syntax.seq b21 b22
 
 abbrev b24 : Syntax.Body
-b24 = Syntax.return
+b24 = Syntax.seq b20 b23
 
 abbrev b25 : Syntax.Body
-b25 = Syntax.seq b23 b24
+b25 = Syntax.seq b1 b24
 
 abbrev b26 : Syntax.Body
-b26 = Syntax.seq b22 b25
-
-abbrev b27 : Syntax.Body
-b27 = Syntax.seq b1 b26
-
-abbrev b28 : Syntax.Body
-b28 = Syntax.seq b0 b27
+b26 = Syntax.seq b0 b25
 
 abbrev pub body : Syntax.Body
-body = b28
+body = b26
 
 abbrev pub Claims : Type 1
-Claims = Kinds.In 1 ps·0 × Kinds.Out 1 ps·0 r·0 × Kinds.In 0 ps·1 × Kinds.Out 0 ps·1 r·1
+Claims = Kinds.In 1 ps·0 × Kinds.Out 1 ps·0 r·0 × Kinds.In 1 ps·1 × Kinds.Out 1 ps·1 r·1
 
 abbrev pub t0 : List.List Row.Entry
 t0 = List._∷_ (0, Rows'.any-gone Syntax.tyUnit) (List._∷_ (
@@ -179,7 +172,7 @@ t0 = List._∷_ (0, Rows'.any-gone Syntax.tyUnit) (List._∷_ (
   Rows'.any-gone (Syntax.tyInt
       Syntax.w64),
 ) (List._∷_ (7, Rows'.any-gone LentTilePartEntry.spelled) (List._∷_ (8, Rows'.any-gone Syntax.tyBool) (List._∷_ (9, Rows'.any-gone (Syntax.tyInt Syntax.w64))
-    (List._∷_ (10, Rows'.any-gone Syntax.tyPtr) (List._∷_ (11, Rows'.any-gone (Syntax.tyInt Syntax.w64)) List.[])))))))))))
+    (List._∷_ (10, Rows'.any-gone Syntax.tyPtr) List.[]))))))))))
 
 abbrev pub t1 : List.List Row.Entry
 t1 = List._∷_ (0, Rows'.sc-here Row.sUnit) (List._∷_ (
@@ -194,7 +187,7 @@ t1 = List._∷_ (0, Rows'.sc-here Row.sUnit) (List._∷_ (
     (List._∷_ (7, Rows'.any-gone LentTilePartEntry.spelled) (List._∷_ (8, Rows'.any-gone Syntax.tyBool) (List._∷_ (9, Rows'.any-gone (Syntax.tyInt Syntax.w64)) (List._∷_ (
       10,
       Rows'.any-gone Syntax.tyPtr,
-    ) (List._∷_ (11, Rows'.any-gone (Syntax.tyInt Syntax.w64)) List.[])))))))))))
+    ) List.[]))))))))))
 
 abbrev pub t2 : List.List Row.Entry
 t2 = List._∷_ (0, Rows'.any-gone Syntax.tyUnit) (List._∷_ (
@@ -210,7 +203,7 @@ t2 = List._∷_ (0, Rows'.any-gone Syntax.tyUnit) (List._∷_ (
   Rows'.any-gone (Syntax.tyInt
       Syntax.w64),
 ) (List._∷_ (7, Rows'.any-gone LentTilePartEntry.spelled) (List._∷_ (8, Rows'.any-gone Syntax.tyBool) (List._∷_ (9, Rows'.any-gone (Syntax.tyInt Syntax.w64))
-    (List._∷_ (10, Rows'.any-gone Syntax.tyPtr) (List._∷_ (11, Rows'.any-gone (Syntax.tyInt Syntax.w64)) List.[])))))))))))
+    (List._∷_ (10, Rows'.any-gone Syntax.tyPtr) List.[]))))))))))
 
 abbrev pub t3 : List.List Row.Entry
 t3 = List._∷_ (0, Rows'.any-gone Syntax.tyUnit) (List._∷_ (
@@ -225,7 +218,7 @@ t3 = List._∷_ (0, Rows'.any-gone Syntax.tyUnit) (List._∷_ (
     (List._∷_ (7, Rows'.any-gone LentTilePartEntry.spelled) (List._∷_ (8, Rows'.any-gone Syntax.tyBool) (List._∷_ (9, Rows'.any-gone (Syntax.tyInt Syntax.w64)) (List._∷_ (
       10,
       Rows'.any-gone Syntax.tyPtr,
-    ) (List._∷_ (11, Rows'.any-gone (Syntax.tyInt Syntax.w64)) List.[])))))))))))
+    ) List.[]))))))))))
 
 abbrev pub t4 : List.List Row.Entry
 t4 = List._∷_ (0, Rows'.any-gone Syntax.tyUnit) (List._∷_ (
@@ -240,7 +233,7 @@ t4 = List._∷_ (0, Rows'.any-gone Syntax.tyUnit) (List._∷_ (
     (List._∷_ (7, Rows'.any-gone LentTilePartEntry.spelled) (List._∷_ (8, Rows'.sc-here Row.sBool) (List._∷_ (9, Rows'.any-gone (Syntax.tyInt Syntax.w64)) (List._∷_ (
       10,
       Rows'.any-gone Syntax.tyPtr,
-    ) (List._∷_ (11, Rows'.any-gone (Syntax.tyInt Syntax.w64)) List.[])))))))))))
+    ) List.[]))))))))))
 
 abbrev pub t5 : List.List Row.Entry
 t5 = List._∷_ (0, Rows'.any-gone Syntax.tyUnit) (List._∷_ (
@@ -256,7 +249,7 @@ t5 = List._∷_ (0, Rows'.any-gone Syntax.tyUnit) (List._∷_ (
       10,
       Rows'.any-gone
           Syntax.tyPtr,
-    ) (List._∷_ (11, Rows'.any-gone (Syntax.tyInt Syntax.w64)) List.[])))))))))))
+    ) List.[]))))))))))
 
 abbrev pub t6 : List.List Row.Entry
 t6 = List._∷_ (0, Rows'.any-gone Syntax.tyUnit) (List._∷_ (
@@ -267,14 +260,9 @@ t6 = List._∷_ (0, Rows'.any-gone Syntax.tyUnit) (List._∷_ (
   4,
   Mut.mslice LentTilePartEntry.row
       (Syntax.tyRef (Syntax.named 1) Syntax.mut LentTilePartEntry.pointee) 1,
-) (List._∷_ (5, Rows'.any-gone (Syntax.tyInt Syntax.w64)) (List._∷_ (
-  6,
-  Rows'.sc-here (Row.sInt
-      Syntax.w64),
-) (List._∷_ (7, LentTilePartEntry.held) (List._∷_ (8, Rows'.any-gone Syntax.tyBool) (List._∷_ (9, Rows'.any-gone (Syntax.tyInt Syntax.w64)) (List._∷_ (
-  10,
-  Rows'.any-gone Syntax.tyPtr,
-) (List._∷_ (11, Rows'.any-gone (Syntax.tyInt Syntax.w64)) List.[])))))))))))
+) (List._∷_ (5, Rows'.sc-here (Row.sInt Syntax.w64)) (List._∷_ (6, Rows'.sc-here (Row.sInt Syntax.w64))
+    (List._∷_ (7, LentTilePartEntry.held) (List._∷_ (8, Rows'.any-gone Syntax.tyBool) (List._∷_ (9, Rows'.sc-here (Row.sInt Syntax.w64)) (List._∷_ (10, Rows'.any-gone Syntax.tyPtr)
+    List.[]))))))))))
 
 abbrev pub t7 : List.List Row.Entry
 t7 = List._∷_ (0, Rows'.any-gone Syntax.tyUnit) (List._∷_ (
@@ -285,15 +273,9 @@ t7 = List._∷_ (0, Rows'.any-gone Syntax.tyUnit) (List._∷_ (
   4,
   Mut.mslice LentTilePartEntry.row
       (Syntax.tyRef (Syntax.named 1) Syntax.mut LentTilePartEntry.pointee) 1,
-) (List._∷_ (5, Rows'.any-gone (Syntax.tyInt Syntax.w64)) (List._∷_ (
-  6,
-  Rows'.sc-here (Row.sInt
-      Syntax.w64),
-) (List._∷_ (7, LentTilePartEntry.held) (List._∷_ (8, Rows'.any-gone Syntax.tyBool) (List._∷_ (9, Rows'.sc-here (Row.sInt Syntax.w64)) (List._∷_ (
-  10,
-  Rows'.any-gone
-      Syntax.tyPtr,
-) (List._∷_ (11, Rows'.any-gone (Syntax.tyInt Syntax.w64)) List.[])))))))))))
+) (List._∷_ (5, Rows'.sc-here (Row.sInt Syntax.w64)) (List._∷_ (6, Rows'.sc-here (Row.sInt Syntax.w64))
+    (List._∷_ (7, LentTilePartEntry.held) (List._∷_ (8, Rows'.any-gone Syntax.tyBool) (List._∷_ (9, Rows'.sc-here (Row.sInt Syntax.w64)) (List._∷_ (10, Rows'.sc-here Row.sPtr)
+    List.[]))))))))))
 
 abbrev pub t8 : List.List Row.Entry
 t8 = List._∷_ (0, Rows'.any-gone Syntax.tyUnit) (List._∷_ (
@@ -304,15 +286,11 @@ t8 = List._∷_ (0, Rows'.any-gone Syntax.tyUnit) (List._∷_ (
   4,
   Mut.mslice LentTilePartEntry.row
       (Syntax.tyRef (Syntax.named 1) Syntax.mut LentTilePartEntry.pointee) 1,
-) (List._∷_ (5, Rows'.any-gone (Syntax.tyInt Syntax.w64)) (List._∷_ (
-  6,
-  Rows'.sc-here (Row.sInt
-      Syntax.w64),
-) (List._∷_ (7, LentTilePartEntry.held) (List._∷_ (8, Rows'.any-gone Syntax.tyBool) (List._∷_ (9, Rows'.sc-here (Row.sInt Syntax.w64)) (List._∷_ (
-  10,
-  Rows'.sc-here
-      Row.sPtr,
-) (List._∷_ (11, Rows'.any-gone (Syntax.tyInt Syntax.w64)) List.[])))))))))))
+) (List._∷_ (5, Rows'.sc-here (Row.sInt Syntax.w64)) (List._∷_ (6, Rows'.sc-here (Row.sInt Syntax.w64))
+    (List._∷_ (7, Rows'.any-gone LentTilePartEntry.spelled) (List._∷_ (8, Rows'.any-gone Syntax.tyBool) (List._∷_ (9, Rows'.sc-here (Row.sInt Syntax.w64)) (List._∷_ (
+      10,
+      Rows'.sc-here Row.sPtr,
+    ) List.[]))))))))))
 
 abbrev pub t9 : List.List Row.Entry
 t9 = List._∷_ (0, Rows'.any-gone Syntax.tyUnit) (List._∷_ (
@@ -323,66 +301,14 @@ t9 = List._∷_ (0, Rows'.any-gone Syntax.tyUnit) (List._∷_ (
   4,
   Mut.mslice LentTilePartEntry.row
       (Syntax.tyRef (Syntax.named 1) Syntax.mut LentTilePartEntry.pointee) 1,
-) (List._∷_ (5, Rows'.any-gone (Syntax.tyInt Syntax.w64)) (List._∷_ (
-  6,
-  Rows'.sc-here (Row.sInt
-      Syntax.w64),
-) (List._∷_ (7, LentTilePartEntry.held) (List._∷_ (8, Rows'.any-gone Syntax.tyBool) (List._∷_ (9, Rows'.any-gone (Syntax.tyInt Syntax.w64)) (List._∷_ (
-  10,
-  Rows'.sc-here Row.sPtr,
-) (List._∷_ (11, Rows'.any-gone (Syntax.tyInt Syntax.w64)) List.[])))))))))))
-
-abbrev pub t10 : List.List Row.Entry
-t10 = List._∷_ (0, Rows'.any-gone Syntax.tyUnit) (List._∷_ (
-  1,
-  Rows'.sslice (Referent.rtF (Referent.fInt Syntax.w8)) (Syntax.tyRef (Syntax.named 0) Syntax.imm (Syntax.tyInt
-      Syntax.w8)) 0,
-) (List._∷_ (2, Rows'.sc-here (Row.sInt Syntax.w64)) (List._∷_ (3, Rows'.sc-here (Row.sInt Syntax.w64)) (List._∷_ (
-  4,
-  Mut.mslice LentTilePartEntry.row
-      (Syntax.tyRef (Syntax.named 1) Syntax.mut LentTilePartEntry.pointee) 1,
-) (List._∷_ (5, Rows'.any-gone (Syntax.tyInt Syntax.w64)) (List._∷_ (
-  6,
-  Rows'.sc-here (Row.sInt
-      Syntax.w64),
-) (List._∷_ (7, LentTilePartEntry.held) (List._∷_ (8, Rows'.any-gone Syntax.tyBool) (List._∷_ (9, Rows'.any-gone (Syntax.tyInt Syntax.w64)) (List._∷_ (
-  10,
-  Rows'.any-gone Syntax.tyPtr,
-) (List._∷_ (11, Rows'.sc-here (Row.sInt Syntax.w64)) List.[])))))))))))
-
-abbrev pub t11 : List.List Row.Entry
-t11 = List._∷_ (0, Rows'.any-gone Syntax.tyUnit) (List._∷_ (
-  1,
-  Rows'.sslice (Referent.rtF (Referent.fInt Syntax.w8)) (Syntax.tyRef (Syntax.named 0) Syntax.imm (Syntax.tyInt
-      Syntax.w8)) 0,
-) (List._∷_ (2, Rows'.sc-here (Row.sInt Syntax.w64)) (List._∷_ (3, Rows'.sc-here (Row.sInt Syntax.w64)) (List._∷_ (
-  4,
-  Mut.mslice LentTilePartEntry.row
-      (Syntax.tyRef (Syntax.named 1) Syntax.mut LentTilePartEntry.pointee) 1,
-) (List._∷_ (5, Rows'.any-gone (Syntax.tyInt Syntax.w64)) (List._∷_ (
-  6,
-  Rows'.sc-here (Row.sInt
-      Syntax.w64),
-) (List._∷_ (7, Rows'.any-gone LentTilePartEntry.spelled) (List._∷_ (8, Rows'.any-gone Syntax.tyBool) (List._∷_ (9, Rows'.any-gone (Syntax.tyInt Syntax.w64))
-    (List._∷_ (10, Rows'.any-gone Syntax.tyPtr) (List._∷_ (11, Rows'.sc-here (Row.sInt Syntax.w64)) List.[])))))))))))
-
-abbrev pub t12 : List.List Row.Entry
-t12 = List._∷_ (0, Rows'.any-gone Syntax.tyUnit) (List._∷_ (
-  1,
-  Rows'.sslice (Referent.rtF (Referent.fInt Syntax.w8)) (Syntax.tyRef (Syntax.named 0) Syntax.imm (Syntax.tyInt
-      Syntax.w8)) 0,
-) (List._∷_ (2, Rows'.sc-here (Row.sInt Syntax.w64)) (List._∷_ (3, Rows'.sc-here (Row.sInt Syntax.w64)) (List._∷_ (
-  4,
-  Mut.mslice LentTilePartEntry.row
-      (Syntax.tyRef (Syntax.named 1) Syntax.mut LentTilePartEntry.pointee) 1,
 ) (List._∷_ (5, Rows'.sc-here (Row.sInt Syntax.w64)) (List._∷_ (6, Rows'.sc-here (Row.sInt Syntax.w64))
     (List._∷_ (7, Rows'.any-gone LentTilePartEntry.spelled) (List._∷_ (8, Rows'.any-gone Syntax.tyBool) (List._∷_ (9, Rows'.any-gone (Syntax.tyInt Syntax.w64)) (List._∷_ (
       10,
-      Rows'.any-gone Syntax.tyPtr,
-    ) (List._∷_ (11, Rows'.sc-here (Row.sInt Syntax.w64)) List.[])))))))))))
+      Rows'.sc-here Row.sPtr,
+    ) List.[]))))))))))
 
-abbrev pub t13 : List.List Row.Entry
-t13 = List._∷_ (0, Rows'.sc-here Row.sUnit) (List._∷_ (
+abbrev pub t10 : List.List Row.Entry
+t10 = List._∷_ (0, Rows'.sc-here Row.sUnit) (List._∷_ (
   1,
   Rows'.sslice (Referent.rtF (Referent.fInt Syntax.w8)) (Syntax.tyRef (Syntax.named 0) Syntax.imm (Syntax.tyInt Syntax.w8))
       0,
@@ -395,10 +321,10 @@ t13 = List._∷_ (0, Rows'.sc-here Row.sUnit) (List._∷_ (
       10,
       Rows'.any-gone
           Syntax.tyPtr,
-    ) (List._∷_ (11, Rows'.any-gone (Syntax.tyInt Syntax.w64)) List.[])))))))))))
+    ) List.[]))))))))))
 
-abbrev pub t14 : List.List Row.Entry
-t14 = List._∷_ (0, Rows'.sc-here Row.sUnit) (List._∷_ (
+abbrev pub t11 : List.List Row.Entry
+t11 = List._∷_ (0, Rows'.sc-here Row.sUnit) (List._∷_ (
   1,
   Rows'.sslice (Referent.rtF (Referent.fInt Syntax.w8)) (Syntax.tyRef (Syntax.named 0) Syntax.imm (Syntax.tyInt Syntax.w8))
       0,
@@ -410,10 +336,10 @@ t14 = List._∷_ (0, Rows'.sc-here Row.sUnit) (List._∷_ (
     (List._∷_ (7, Rows'.any-gone LentTilePartEntry.spelled) (List._∷_ (8, Rows'.any-gone Syntax.tyBool) (List._∷_ (9, Rows'.any-gone (Syntax.tyInt Syntax.w64)) (List._∷_ (
       10,
       Rows'.any-gone Syntax.tyPtr,
-    ) (List._∷_ (11, Rows'.any-gone (Syntax.tyInt Syntax.w64)) List.[])))))))))))
+    ) List.[]))))))))))
 
-abbrev pub t15 : List.List Row.Entry
-t15 = List._∷_ (0, Rows'.sc-here Row.sUnit) (List._∷_ (
+abbrev pub t12 : List.List Row.Entry
+t12 = List._∷_ (0, Rows'.sc-here Row.sUnit) (List._∷_ (
   1,
   Rows'.sslice (Referent.rtF (Referent.fInt Syntax.w8)) (Syntax.tyRef (Syntax.named 0) Syntax.imm (Syntax.tyInt Syntax.w8))
       0,
@@ -425,7 +351,7 @@ t15 = List._∷_ (0, Rows'.sc-here Row.sUnit) (List._∷_ (
     (List._∷_ (7, Rows'.any-gone LentTilePartEntry.spelled) (List._∷_ (8, Rows'.any-gone Syntax.tyBool) (List._∷_ (9, Rows'.any-gone (Syntax.tyInt Syntax.w64)) (List._∷_ (
       10,
       Rows'.any-gone Syntax.tyPtr,
-    ) (List._∷_ (11, Rows'.any-gone (Syntax.tyInt Syntax.w64)) List.[])))))))))))
+    ) List.[]))))))))))
 
 abbrev pub T0 : Row.Cx
 T0 = record { locals = t0; slots = List.[] }
@@ -470,7 +396,7 @@ abbrev pub T13 : Row.Cx
 T13 = record { locals = t7; slots = List.[] }
 
 abbrev pub T14 : Row.Cx
-T14 = record { locals = t8; slots = List.[] }
+T14 = record { locals = t7; slots = List.[] }
 
 abbrev pub T15 : Row.Cx
 T15 = record { locals = t8; slots = List.[] }
@@ -479,34 +405,25 @@ abbrev pub T16 : Row.Cx
 T16 = record { locals = t9; slots = List.[] }
 
 abbrev pub T17 : Row.Cx
-T17 = record { locals = t6; slots = List.[] }
+T17 = record { locals = t3; slots = List.[] }
 
 abbrev pub T18 : Row.Cx
-T18 = record { locals = t10; slots = List.[] }
+T18 = record { locals = t3; slots = List.[] }
 
 abbrev pub T19 : Row.Cx
-T19 = record { locals = t11; slots = List.[] }
+T19 = record { locals = t3; slots = List.[] }
 
 abbrev pub T20 : Row.Cx
-T20 = record { locals = t12; slots = List.[] }
+T20 = record { locals = t10; slots = List.[] }
 
 abbrev pub T21 : Row.Cx
-T21 = record { locals = t3; slots = List.[] }
+T21 = record { locals = t11; slots = List.[] }
 
 abbrev pub T22 : Row.Cx
-T22 = record { locals = t3; slots = List.[] }
+T22 = record { locals = t12; slots = List.[] }
 
 abbrev pub T23 : Row.Cx
-T23 = record { locals = t13; slots = List.[] }
-
-abbrev pub T24 : Row.Cx
-T24 = record { locals = t14; slots = List.[] }
-
-abbrev pub T25 : Row.Cx
-T25 = record { locals = t15; slots = List.[] }
-
-abbrev pub T26 : Row.Cx
-T26 = record { locals = t1; slots = List.[] }
+T23 = record { locals = t1; slots = List.[] }
 
 abbrev pub O0 : Typed.Outs
 O0 = record { next = Option.none; exits = List.[]; returns = Option.some T1 }
@@ -566,20 +483,20 @@ module _ (claims· : Claims) where
     ),
   ) 7 (List._∷_ 0 List.[]) LentTilePartEntry.spelled
 
-  abbrev s8 : Typed.Mo T11 → Typed.Mo T12
-  s8 = Scalar.n-room T11 5 (Syntax.tyInt Syntax.w64)
-
-  abbrev s9 : Typed.Asks T12 T13
-  s9 = Scalar.k-op2 T12 (Syntax.mul Syntax.unsigned) (Scalar.oAt 6 (Syntax.tyInt Syntax.w64) (Row.valS (Row.sInt Syntax.w64))) (Scalar.oInt Syntax.w64 24) 9 (Rows'.sc-here
+  abbrev s8 : Typed.Asks T11 T12
+  s8 = Scalar.k-op2 T11 (Syntax.mul Syntax.unsigned) (Scalar.oAt 6 (Syntax.tyInt Syntax.w64) (Row.valS (Row.sInt Syntax.w64))) (Scalar.oInt Syntax.w64 24) 9 (Rows'.sc-here
       (Row.sInt Syntax.w64)) (Row.sInt Syntax.w64 .of)
 
-  abbrev s10 : Typed.Asks T13 T14
-  s10 = Scalar.k-op2 T13 Syntax.offset (Scalar.oFld 4 (List._∷_ (Syntax.field 0) List.[]) (Syntax.tyRef (Syntax.named 1) Syntax.mut LentTilePartEntry.pointee) 0 Reads.ptrVal)
+  abbrev s9 : Typed.Asks T12 T13
+  s9 = Scalar.k-op2 T12 Syntax.offset (Scalar.oFld 4 (List._∷_ (Syntax.field 0) List.[]) (Syntax.tyRef (Syntax.named 1) Syntax.mut LentTilePartEntry.pointee) 0 Reads.ptrVal)
       (Scalar.oAt 9 (Syntax.tyInt Syntax.w64) (Row.valS (Row.sInt Syntax.w64))) 10 (Rows'.sc-here Row.sPtr) (Row.sPtr .of)
 
-  abbrev s11 : Typed.Asks T14 T15
-  s11 = Move.k-sl-set-from LentTilePartEntry.row T14 4 10 7 1 (Syntax.tyRef (Syntax.named 1) Syntax.mut LentTilePartEntry.pointee) Row.off LentTilePartEntry.held (Shared.bySize 24)
+  abbrev s10 : Typed.Asks T13 T14
+  s10 = Move.k-sl-set-from LentTilePartEntry.row T13 4 10 7 1 (Syntax.tyRef (Syntax.named 1) Syntax.mut LentTilePartEntry.pointee) Row.off LentTilePartEntry.held (Shared.bySize 24)
       (λ u. u .1 .1 .1 .1 .1 .1 .0) (λ x. x) (λ x. x) (λ x. x) λ x. x
+
+  abbrev s11 : Typed.Mo T14 → Typed.Mo T15
+  s11 = Scalar.n-room T14 7 LentTilePartEntry.spelled
 
   abbrev s12 : Typed.Mo T15 → Typed.Mo T16
   s12 = Scalar.n-room T15 9 (Syntax.tyInt Syntax.w64)
@@ -588,32 +505,30 @@ module _ (claims· : Claims) where
   s13 = Scalar.n-room T16 10 Syntax.tyPtr
 
   abbrev s14 : Typed.Both T17 T18
-  s14 = Call.callB ps·1 r·1 (claims· .2) (claims· .3) T17 (record { pos = 7; st = List.[]; d = 0; at = λ x. x }, tt) 11 List.[] (Syntax.tyInt Syntax.w64)
+  s14 = Call.callB ps·1 r·1 (claims· .2) (claims· .3) T17 (
+    record { pos = 1; ty = Syntax.tyRef (Syntax.named 0) Syntax.imm (Syntax.tyInt Syntax.w8); ref = λ x. x },
+    (
+      Num.vAt 5 λ
+          x. x,
+      tt,
+    ),
+  ) 5 (List._∷_ 0 List.[]) (Syntax.tyInt Syntax.w64)
 
-  abbrev s15 : Typed.Mo T18 → Typed.Mo T19
-  s15 = Scalar.n-room T18 7 LentTilePartEntry.spelled
-
-  abbrev s16 : Typed.Mo T19 → Typed.Mo T20
-  s16 = Scalar.n-use T19 (Scalar.oAt 11 (Syntax.tyInt Syntax.w64) (Row.valS (Row.sInt Syntax.w64))) 5 (Rows'.sc-here (Row.sInt Syntax.w64)) (Row.sInt Syntax.w64 .of)
-
-  abbrev s17 : Typed.Mo T20 → Typed.Mo T21
-  s17 = Scalar.n-room T20 11 (Syntax.tyInt Syntax.w64)
-
-  abbrev s18 : Typed.Asks T21 T22
-  s18 = Scalar.k-op2 T21 (Syntax.add Syntax.unsigned) (Scalar.oAt 6 (Syntax.tyInt Syntax.w64) (Row.valS (Row.sInt Syntax.w64))) (Scalar.oInt Syntax.w64 1) 6 (Rows'.sc-here
+  abbrev s15 : Typed.Asks T18 T19
+  s15 = Scalar.k-op2 T18 (Syntax.add Syntax.unsigned) (Scalar.oAt 6 (Syntax.tyInt Syntax.w64) (Row.valS (Row.sInt Syntax.w64))) (Scalar.oInt Syntax.w64 1) 6 (Rows'.sc-here
       (Row.sInt Syntax.w64)) (Row.sInt Syntax.w64 .of)
 
-  abbrev s19 : Typed.Mo T5 → Typed.Mo T23
-  s19 = Scalar.n-use T5 Scalar.oUnit 0 (Rows'.sc-here Row.sUnit) (Row.sUnit .of)
+  abbrev s16 : Typed.Mo T5 → Typed.Mo T20
+  s16 = Scalar.n-use T5 Scalar.oUnit 0 (Rows'.sc-here Row.sUnit) (Row.sUnit .of)
 
-  abbrev s20 : Typed.Mo T23 → Typed.Mo T24
-  s20 = Scalar.n-room T23 5 (Syntax.tyInt Syntax.w64)
+  abbrev s17 : Typed.Mo T20 → Typed.Mo T21
+  s17 = Scalar.n-room T20 5 (Syntax.tyInt Syntax.w64)
 
-  abbrev s21 : Typed.Mo T24 → Typed.Mo T25
-  s21 = Scalar.n-room T24 2 (Syntax.tyInt Syntax.w64)
+  abbrev s18 : Typed.Mo T21 → Typed.Mo T22
+  s18 = Scalar.n-room T21 2 (Syntax.tyInt Syntax.w64)
 
-  abbrev s22 : Typed.Mo T25 → Typed.Mo T26
-  s22 = Scalar.n-room T25 3 (Syntax.tyInt Syntax.w64)
+  abbrev s19 : Typed.Mo T22 → Typed.Mo T23
+  s19 = Scalar.n-room T22 3 (Syntax.tyInt Syntax.w64)
 
   abbrev put0 : List.List (LentTilePartEntry.row .Denot) × Rows'.sc-here (Row.sInt Syntax.w64) .Mod × Rows'.sc-here (Row.sInt Syntax.w64) .Mod → Typed.Mo T4 → Typed.Mo T4
   put0 = λ vs u. Row.set 6 (6, Rows'.sc-here (Row.sInt Syntax.w64)) (vs .2) (T4 .locals) (Row.set 5 (5, Rows'.sc-here (Row.sInt Syntax.w64)) (vs .1) (T4 .locals) (Row.set 4 (
@@ -630,7 +545,7 @@ module _ (claims· : Claims) where
     module _ (M : Type 1) where
       abbrev pub Closed : Type 2
       Closed = (𝓤 : URA.URA M) (H : Wp.Heap 𝓤) (A : Atoms.Atoms 𝓤) (W : Kit.Given 𝓤 H A) (𝓣 : Wp.Tables 𝓤 H) (known0 : Plain.Known 𝓤 H A W 𝓣 1 ps·0 r·0 (claims· .0) (claims· .1)
-          "parts::scan::part_at") (known1 : Plain.Known 𝓤 H A W 𝓣 0 ps·1 r·1 (claims· .2) (claims· .3) "types::end_of") → Statement.Triple 𝓤 (Wp.WpFn 𝓤 H (𝓣 .C) (𝓣 .Λ)
+          "parts::scan::part_at") (known1 : Plain.Known 𝓤 H A W 𝓣 1 ps·1 r·1 (claims· .2) (claims· .3) "parts::scan::next_at") → Statement.Triple 𝓤 (Wp.WpFn 𝓤 H (𝓣 .C) (𝓣 .Λ)
           (Function.fnOf 2 ps r xs m hs body)) (Function.plainOf 𝓤 H A 2 ps r Pre· Post·)
 
     module _ (Inv·0 : InvT-loop) (μ·0 : MeasureT-loop) where
@@ -652,89 +567,81 @@ module _ (claims· : Claims) where
       abbrev at5 : Typed.TF T6 O4
       at5 = Scalar.Φcond T6 O4 8 (λ x. x) at1 at4
 
-      abbrev at6 : Typed.TF T21 O3
-      at6 = λ Ψ. Typed.ask s18 (Typed.atNext O3 Ψ)
+      abbrev at6 : Typed.TF T18 O3
+      at6 = λ Ψ. Typed.ask s15 (Typed.atNext O3 Ψ)
 
-      abbrev at7 : Typed.TF T20 O3
-      at7 = λ Ψ. Typed.pass T20 T21 s17 (at6 Ψ)
+      abbrev at7 : Typed.TF T17 O3
+      at7 = λ Ψ. Typed.both s14 (at6 Ψ)
 
-      abbrev at8 : Typed.TF T19 O3
-      at8 = λ Ψ. Typed.pass T19 T20 s16 (at7 Ψ)
+      abbrev at8 : Typed.TF T16 O3
+      at8 = λ Ψ. Typed.pass T16 T17 s13 (at7 Ψ)
 
-      abbrev at9 : Typed.TF T18 O3
-      at9 = λ Ψ. Typed.pass T18 T19 s15 (at8 Ψ)
+      abbrev at9 : Typed.TF T15 O3
+      at9 = λ Ψ. Typed.pass T15 T16 s12 (at8 Ψ)
 
-      abbrev at10 : Typed.TF T17 O3
-      at10 = λ Ψ. Typed.both s14 (at9 Ψ)
+      abbrev at10 : Typed.TF T14 O3
+      at10 = λ Ψ. Typed.pass T14 T15 s11 (at9 Ψ)
 
-      abbrev at11 : Typed.TF T16 O3
-      at11 = λ Ψ. Typed.pass T16 T17 s13 (at10 Ψ)
+      abbrev at11 : Typed.TF T13 O3
+      at11 = λ Ψ. Typed.ask s10 (at10 Ψ)
 
-      abbrev at12 : Typed.TF T15 O3
-      at12 = λ Ψ. Typed.pass T15 T16 s12 (at11 Ψ)
+      abbrev at12 : Typed.TF T12 O3
+      at12 = λ Ψ. Typed.ask s9 (at11 Ψ)
 
-      abbrev at13 : Typed.TF T14 O3
-      at13 = λ Ψ. Typed.ask s11 (at12 Ψ)
+      abbrev at13 : Typed.TF T11 O3
+      at13 = λ Ψ. Typed.ask s8 (at12 Ψ)
 
-      abbrev at14 : Typed.TF T13 O3
-      at14 = λ Ψ. Typed.ask s10 (at13 Ψ)
+      abbrev at14 : Typed.TF T7 O3
+      at14 = λ Ψ. Typed.both s7 (at13 Ψ)
 
-      abbrev at15 : Typed.TF T12 O3
-      at15 = λ Ψ. Typed.ask s9 (at14 Ψ)
+      abbrev at15 : Typed.TF T6 O3
+      at15 = λ Ψ. at5 (Typed.wantNext T7 O3 (at14 Ψ) Ψ)
 
-      abbrev at16 : Typed.TF T11 O3
-      at16 = λ Ψ. Typed.pass T11 T12 s8 (at15 Ψ)
+      abbrev at16 : Typed.TF T4 O3
+      at16 = λ Ψ. Typed.ask s3 (at15 Ψ)
 
-      abbrev at17 : Typed.TF T7 O3
-      at17 = λ Ψ. Typed.both s7 (at16 Ψ)
-
-      abbrev at18 : Typed.TF T6 O3
-      at18 = λ Ψ. at5 (Typed.wantNext T7 O3 (at17 Ψ) Ψ)
-
-      abbrev at19 : Typed.TF T4 O3
-      at19 = λ Ψ. Typed.ask s3 (at18 Ψ)
-
-      abbrev at20 : Typed.TF T4 O2
-      at20 = Typed.LoopBy T4 O2 put0 (λ u vs. Inv·0 (Row.get 1 (T4 .locals) u .now) (Row.get 2 (T4 .locals) u) (Row.get 3 (T4 .locals) u) (Row.get 4 (T4 .locals) u .now) (Row.get 5
+      abbrev at17 : Typed.TF T4 O2
+      at17 = Typed.LoopBy T4 O2 put0 (λ u vs. Inv·0 (Row.get 1 (T4 .locals) u .now) (Row.get 2 (T4 .locals) u) (Row.get 3 (T4 .locals) u) (Row.get 4 (T4 .locals) u .now) (Row.get 5
           (T4 .locals) u) (Row.get 6 (T4 .locals) u) (vs .0) (vs .1) (vs .2)) (λ u vs. μ·0 (Row.get 1 (T4 .locals) u .now) (Row.get 2 (T4 .locals) u) (Row.get 3 (T4 .locals) u)
-          (Row.get 4 (T4 .locals) u .now) (Row.get 5 (T4 .locals) u) (Row.get 6 (T4 .locals) u) (vs .0) (vs .1) (vs .2)) at19
+          (Row.get 4 (T4 .locals) u .now) (Row.get 5 (T4 .locals) u) (Row.get 6 (T4 .locals) u) (vs .0) (vs .1) (vs .2)) at16
 
-      abbrev at21 : Typed.TF T4 O1
-      at21 = λ Ψ. at20 (Typed.inBlock O1 Ψ)
+      abbrev at18 : Typed.TF T4 O1
+      at18 = λ Ψ. at17 (Typed.inBlock O1 Ψ)
 
-      abbrev at22 : Typed.TF T26 O0
-      at22 = Typed.atRet O0
+      abbrev at19 : Typed.TF T23 O0
+      at19 = Typed.atRet O0
 
-      abbrev at23 : Typed.TF T25 O0
-      at23 = λ Ψ. Typed.pass T25 T26 s22 (at22 Ψ)
+      abbrev at20 : Typed.TF T22 O0
+      at20 = λ Ψ. Typed.pass T22 T23 s19 (at19 Ψ)
 
-      abbrev at24 : Typed.TF T24 O0
-      at24 = λ Ψ. Typed.pass T24 T25 s21 (at23 Ψ)
+      abbrev at21 : Typed.TF T21 O0
+      at21 = λ Ψ. Typed.pass T21 T22 s18 (at20 Ψ)
 
-      abbrev at25 : Typed.TF T23 O0
-      at25 = λ Ψ. Typed.pass T23 T24 s20 (at24 Ψ)
+      abbrev at22 : Typed.TF T20 O0
+      at22 = λ Ψ. Typed.pass T20 T21 s17 (at21 Ψ)
 
-      abbrev at26 : Typed.TF T5 O0
-      at26 = λ Ψ. Typed.pass T5 T23 s19 (at25 Ψ)
+      abbrev at23 : Typed.TF T5 O0
+      at23 = λ Ψ. Typed.pass T5 T20 s16 (at22 Ψ)
 
-      abbrev at27 : Typed.TF T4 O0
-      at27 = λ Ψ. at21 (Typed.wantNext T5 O0 (at26 Ψ) Ψ)
+      abbrev at24 : Typed.TF T4 O0
+      at24 = λ Ψ. at18 (Typed.wantNext T5 O0 (at23 Ψ) Ψ)
 
-      abbrev at28 : Typed.TF T3 O0
-      at28 = λ Ψ. Typed.pass T3 T4 s2 (at27 Ψ)
+      abbrev at25 : Typed.TF T3 O0
+      at25 = λ Ψ. Typed.pass T3 T4 s2 (at24 Ψ)
 
-      abbrev at29 : Typed.TF T2 O0
-      at29 = λ Ψ. Typed.pass T2 T3 s1 (at28 Ψ)
+      abbrev at26 : Typed.TF T2 O0
+      at26 = λ Ψ. Typed.pass T2 T3 s1 (at25 Ψ)
 
-      abbrev at30 : Typed.TF T0 O0
-      at30 = λ Ψ. Typed.give s0 (at29 Ψ)
+      abbrev at27 : Typed.TF T0 O0
+      at27 = λ Ψ. Typed.give s0 (at26 Ψ)
 
       abbrev pub Φ : Typed.TF T0 O0
-      Φ = at30
+      Φ = at27
 
       module _ {M : Type 1} (𝓤 : URA.URA M) (H : Wp.Heap 𝓤) (A : Atoms.Atoms 𝓤) (W : Kit.Given 𝓤 H A) (𝓣 : Wp.Tables 𝓤 H) where
         abbrev Knowns : Type 1
-        Knowns = Plain.Known 𝓤 H A W 𝓣 1 ps·0 r·0 (claims· .0) (claims· .1) "parts::scan::part_at" × Plain.Known 𝓤 H A W 𝓣 0 ps·1 r·1 (claims· .2) (claims· .3) "types::end_of"
+        Knowns = Plain.Known 𝓤 H A W 𝓣 1 ps·0 r·0 (claims· .0) (claims· .1) "parts::scan::part_at" × Plain.Known 𝓤 H A W 𝓣 1 ps·1 r·1 (claims· .2) (claims· .3)
+            "parts::scan::next_at"
 
       module _ (κs : Lifetimes.Lfts 2) (qs : Lifetimes.Shares 2) where
         abbrev G0 : Row.Cx
@@ -780,7 +687,7 @@ module _ (claims· : Claims) where
         G13 = record { locals = t7; slots = List._∷_ (Row.lease (κs .0) (qs .0)) (List._∷_ (Row.lease (κs .1 .0) (qs .1 .0)) List.[]) }
 
         abbrev G14 : Row.Cx
-        G14 = record { locals = t8; slots = List._∷_ (Row.lease (κs .0) (qs .0)) (List._∷_ (Row.lease (κs .1 .0) (qs .1 .0)) List.[]) }
+        G14 = record { locals = t7; slots = List._∷_ (Row.lease (κs .0) (qs .0)) (List._∷_ (Row.lease (κs .1 .0) (qs .1 .0)) List.[]) }
 
         abbrev G15 : Row.Cx
         G15 = record { locals = t8; slots = List._∷_ (Row.lease (κs .0) (qs .0)) (List._∷_ (Row.lease (κs .1 .0) (qs .1 .0)) List.[]) }
@@ -789,34 +696,25 @@ module _ (claims· : Claims) where
         G16 = record { locals = t9; slots = List._∷_ (Row.lease (κs .0) (qs .0)) (List._∷_ (Row.lease (κs .1 .0) (qs .1 .0)) List.[]) }
 
         abbrev G17 : Row.Cx
-        G17 = record { locals = t6; slots = List._∷_ (Row.lease (κs .0) (qs .0)) (List._∷_ (Row.lease (κs .1 .0) (qs .1 .0)) List.[]) }
+        G17 = record { locals = t3; slots = List._∷_ (Row.lease (κs .0) (qs .0)) (List._∷_ (Row.lease (κs .1 .0) (qs .1 .0)) List.[]) }
 
         abbrev G18 : Row.Cx
-        G18 = record { locals = t10; slots = List._∷_ (Row.lease (κs .0) (qs .0)) (List._∷_ (Row.lease (κs .1 .0) (qs .1 .0)) List.[]) }
+        G18 = record { locals = t3; slots = List._∷_ (Row.lease (κs .0) (qs .0)) (List._∷_ (Row.lease (κs .1 .0) (qs .1 .0)) List.[]) }
 
         abbrev G19 : Row.Cx
-        G19 = record { locals = t11; slots = List._∷_ (Row.lease (κs .0) (qs .0)) (List._∷_ (Row.lease (κs .1 .0) (qs .1 .0)) List.[]) }
+        G19 = record { locals = t3; slots = List._∷_ (Row.lease (κs .0) (qs .0)) (List._∷_ (Row.lease (κs .1 .0) (qs .1 .0)) List.[]) }
 
         abbrev G20 : Row.Cx
-        G20 = record { locals = t12; slots = List._∷_ (Row.lease (κs .0) (qs .0)) (List._∷_ (Row.lease (κs .1 .0) (qs .1 .0)) List.[]) }
+        G20 = record { locals = t10; slots = List._∷_ (Row.lease (κs .0) (qs .0)) (List._∷_ (Row.lease (κs .1 .0) (qs .1 .0)) List.[]) }
 
         abbrev G21 : Row.Cx
-        G21 = record { locals = t3; slots = List._∷_ (Row.lease (κs .0) (qs .0)) (List._∷_ (Row.lease (κs .1 .0) (qs .1 .0)) List.[]) }
+        G21 = record { locals = t11; slots = List._∷_ (Row.lease (κs .0) (qs .0)) (List._∷_ (Row.lease (κs .1 .0) (qs .1 .0)) List.[]) }
 
         abbrev G22 : Row.Cx
-        G22 = record { locals = t3; slots = List._∷_ (Row.lease (κs .0) (qs .0)) (List._∷_ (Row.lease (κs .1 .0) (qs .1 .0)) List.[]) }
+        G22 = record { locals = t12; slots = List._∷_ (Row.lease (κs .0) (qs .0)) (List._∷_ (Row.lease (κs .1 .0) (qs .1 .0)) List.[]) }
 
         abbrev G23 : Row.Cx
-        G23 = record { locals = t13; slots = List._∷_ (Row.lease (κs .0) (qs .0)) (List._∷_ (Row.lease (κs .1 .0) (qs .1 .0)) List.[]) }
-
-        abbrev G24 : Row.Cx
-        G24 = record { locals = t14; slots = List._∷_ (Row.lease (κs .0) (qs .0)) (List._∷_ (Row.lease (κs .1 .0) (qs .1 .0)) List.[]) }
-
-        abbrev G25 : Row.Cx
-        G25 = record { locals = t15; slots = List._∷_ (Row.lease (κs .0) (qs .0)) (List._∷_ (Row.lease (κs .1 .0) (qs .1 .0)) List.[]) }
-
-        abbrev G26 : Row.Cx
-        G26 = record { locals = t1; slots = List._∷_ (Row.lease (κs .0) (qs .0)) (List._∷_ (Row.lease (κs .1 .0) (qs .1 .0)) List.[]) }
+        G23 = record { locals = t1; slots = List._∷_ (Row.lease (κs .0) (qs .0)) (List._∷_ (Row.lease (κs .1 .0) (qs .1 .0)) List.[]) }
 
         abbrev Δ0 : Typed.Outs
         Δ0 = record { next = Option.none; exits = List.[]; returns = Option.some G1 }
@@ -857,76 +755,61 @@ module _ (claims· : Claims) where
           d5 : Typed.Typed 𝓤 H A 𝓣 E G6 b5 Δ4 at5
           d5 = Scalar.t-cond 𝓤 H A W E 𝓣 G6 8 (λ x. x) b3 b4 Δ4 at1 at4 (Scalar.reads-sc 𝓤 H A W Row.sBool) Path'.refl d1 d4
 
-          d6 : Typed.Typed 𝓤 H A 𝓣 E G21 b12 Δ3 at6
-          d6 = Typed.s-typed 𝓤 H A W 𝓣 E G21 b12 Δ3 (Typed.ask s18) tt (Scalar.t-op2 𝓤 H A W E 𝓣 G21 (Syntax.add Syntax.unsigned) (Scalar.oAt 6 (Syntax.tyInt Syntax.w64) (Row.valS
+          d6 : Typed.Typed 𝓤 H A 𝓣 E G18 b11 Δ3 at6
+          d6 = Typed.s-typed 𝓤 H A W 𝓣 E G18 b11 Δ3 (Typed.ask s15) tt (Scalar.t-op2 𝓤 H A W E 𝓣 G18 (Syntax.add Syntax.unsigned) (Scalar.oAt 6 (Syntax.tyInt Syntax.w64) (Row.valS
               (Row.sInt Syntax.w64))) (Scalar.oInt Syntax.w64 1) 6 (Rows'.sc-here (Row.sInt Syntax.w64)) (Syntax.tyInt Syntax.w64) (Row.valS (Row.sInt Syntax.w64)) (Row.sInt
               Syntax.w64 .of) (Scalar.reads-sc 𝓤 H A W (Row.sInt Syntax.w64), Path'.refl) tt (Scalar.room-sc 𝓤 H A W (Row.sInt Syntax.w64)) (Scalar.holds-sc 𝓤 H A W (Row.sInt
               Syntax.w64)) Path'.refl (λ u. Path'.refl) λ u. tt)
 
-          d7 : Typed.Typed 𝓤 H A 𝓣 E G20 b12 Δ3 at7
-          d7 = Typed.g-pre 𝓤 H A W 𝓣 E G20 G21 b12 Δ3 (Typed.pass T20 T21 s17) at6 (Scalar.g-room 𝓤 H A W E G20 11 (Syntax.tyInt Syntax.w64) (Scalar.room-sc 𝓤 H A W (Row.sInt
-              Syntax.w64))) d6
-
-          d8 : Typed.Typed 𝓤 H A 𝓣 E G19 b13 Δ3 at8
-          d8 = Typed.s-seq 𝓤 H A W 𝓣 E G19 G20 b11 b12 Δ3 (Typed.pass T19 T20 s16) at7 (Scalar.t-use 𝓤 H A W E 𝓣 G19 (Scalar.oAt 11 (Syntax.tyInt Syntax.w64) (Row.valS (Row.sInt
-              Syntax.w64))) 5 (Rows'.sc-here (Row.sInt Syntax.w64)) (Syntax.tyInt Syntax.w64) (Row.valS (Row.sInt Syntax.w64)) (Row.sInt Syntax.w64 .of) (
-                Scalar.reads-sc 𝓤 H A W
-                    (Row.sInt Syntax.w64),
+          d7 : Typed.Typed 𝓤 H A 𝓣 E G17 b12 Δ3 at7
+          d7 = Typed.s-seq 𝓤 H A W 𝓣 E G17 G18 b10 b11 Δ3 (Typed.both s14) at6 (Plain.t-call-plain 𝓤 H A W 𝓣 1 ps·1 r·1 (claims· .2) (claims· .3) "parts::scan::next_at" (known .1)
+              E (λ pos β. β) G17 (record { pos = 1; ty = Syntax.tyRef (Syntax.named 0) Syntax.imm (Syntax.tyInt Syntax.w8); ref = λ x. x }, (Num.vAt 5 λ x. x, tt)) 5 (List._∷_ 0
+              List.[]) (Call.sub-id 𝓤 H A W (G17 .slots)) (
+                ShrSlice.spares-sslice 𝓤 H A W (Referent.rtF (Referent.fInt Syntax.w8)) (Syntax.tyRef (Syntax.named 0) Syntax.imm
+                    (Syntax.tyInt Syntax.w8)) 0,
+                Shared.reads-sslice 𝓤 H A W (Referent.rtF (Referent.fInt Syntax.w8)) (Syntax.tyRef (Syntax.named 0) Syntax.imm (Syntax.tyInt Syntax.w8))
+                    0,
                 Path'.refl,
-              ) (Reads.room-gone 𝓤 H A (Syntax.tyInt Syntax.w64)) (Scalar.holds-sc 𝓤 H A W (Row.sInt Syntax.w64)) Path'.refl (λ u. Path'.refl) λ u.
-              tt) d7
+                ((Scalar.reads-sc 𝓤 H A W (Row.sInt Syntax.w64), Path'.refl), tt),
+              ) (Scalar.room-sc 𝓤 H A W (Row.sInt Syntax.w64)) (tt, tt) Path'.refl) d6
 
-          d9 : Typed.Typed 𝓤 H A 𝓣 E G18 b13 Δ3 at9
-          d9 = Typed.g-pre 𝓤 H A W 𝓣 E G18 G19 b13 Δ3 (Typed.pass T18 T19 s15) at8 (Scalar.g-room 𝓤 H A W E G18 7 LentTilePartEntry.spelled (LentTilePartEntry.room 𝓤 H A W)) d8
+          d8 : Typed.Typed 𝓤 H A 𝓣 E G16 b12 Δ3 at8
+          d8 = Typed.g-pre 𝓤 H A W 𝓣 E G16 G17 b12 Δ3 (Typed.pass T16 T17 s13) at7 (Scalar.g-room 𝓤 H A W E G16 10 Syntax.tyPtr (Scalar.room-sc 𝓤 H A W Row.sPtr)) d7
 
-          d10 : Typed.Typed 𝓤 H A 𝓣 E G17 b14 Δ3 at10
-          d10 = Typed.s-seq 𝓤 H A W 𝓣 E G17 G18 b10 b13 Δ3 (Typed.both s14) at9 (Plain.t-call-plain 𝓤 H A W 𝓣 0 ps·1 r·1 (claims· .2) (claims· .3) "types::end_of" (known .1) E (λ
-              pos β. β) G17 (record { pos = 7; st = List.[]; d = 0; at = λ x. x }, tt) 11 List.[] (Call.sub-id 𝓤 H A W (G17 .slots)) (
-                (
-                  LentTilePartEntry.yields 𝓤 H A W,
-                  Path'.refl,
-                ),
-                tt,
-              ) (Reads.room-gone 𝓤 H A (Syntax.tyInt Syntax.w64)) tt Path'.refl) d9
+          d9 : Typed.Typed 𝓤 H A 𝓣 E G15 b12 Δ3 at9
+          d9 = Typed.g-pre 𝓤 H A W 𝓣 E G15 G16 b12 Δ3 (Typed.pass T15 T16 s12) at8 (Scalar.g-room 𝓤 H A W E G15 9 (Syntax.tyInt Syntax.w64) (Scalar.room-sc 𝓤 H A W (Row.sInt
+              Syntax.w64))) d8
 
-          d11 : Typed.Typed 𝓤 H A 𝓣 E G16 b14 Δ3 at11
-          d11 = Typed.g-pre 𝓤 H A W 𝓣 E G16 G17 b14 Δ3 (Typed.pass T16 T17 s13) at10 (Scalar.g-room 𝓤 H A W E G16 10 Syntax.tyPtr (Scalar.room-sc 𝓤 H A W Row.sPtr)) d10
+          d10 : Typed.Typed 𝓤 H A 𝓣 E G14 b12 Δ3 at10
+          d10 = Typed.g-pre 𝓤 H A W 𝓣 E G14 G15 b12 Δ3 (Typed.pass T14 T15 s11) at9 (Scalar.g-room 𝓤 H A W E G14 7 LentTilePartEntry.spelled (LentTilePartEntry.room 𝓤 H A W)) d9
 
-          d12 : Typed.Typed 𝓤 H A 𝓣 E G15 b14 Δ3 at12
-          d12 = Typed.g-pre 𝓤 H A W 𝓣 E G15 G16 b14 Δ3 (Typed.pass T15 T16 s12) at11 (Scalar.g-room 𝓤 H A W E G15 9 (Syntax.tyInt Syntax.w64) (Scalar.room-sc 𝓤 H A W (Row.sInt
-              Syntax.w64))) d11
-
-          d13 : Typed.Typed 𝓤 H A 𝓣 E G14 b15 Δ3 at13
-          d13 = Typed.s-seq 𝓤 H A W 𝓣 E G14 G15 b9 b14 Δ3 (Typed.ask s11) at12 (Move.t-sl-set-from 𝓤 H A W E LentTilePartEntry.row 𝓣 Path'.refl (λ ρ. Unit) G14 4 10 7 1
+          d11 : Typed.Typed 𝓤 H A 𝓣 E G13 b13 Δ3 at11
+          d11 = Typed.s-seq 𝓤 H A W 𝓣 E G13 G14 b9 b12 Δ3 (Typed.ask s10) at10 (Move.t-sl-set-from 𝓤 H A W E LentTilePartEntry.row 𝓣 Path'.refl (λ ρ. Unit) G13 4 10 7 1
               (Syntax.tyRef (Syntax.named 1) Syntax.mut LentTilePartEntry.pointee) (Row.lease (κs .1 .0) (qs .1 .0)) LentTilePartEntry.spelled LentTilePartEntry.spelled
               LentTilePartEntry.held (Shared.bySize 24) (λ u. u .1 .1 .1 .1 .1 .1 .0) (λ x. x) (λ x. x) (λ x. x) (λ x. x) (λ i o. Elements.at-mul o 24 i) Path'.refl Path'.refl
-              (Own.told-none 𝓤 H A (G14 .slots)) (Reads.as-is 𝓤 H A (Mut.mslice LentTilePartEntry.row (Syntax.tyRef (Syntax.named 1) Syntax.mut LentTilePartEntry.pointee) 1))
+              (Own.told-none 𝓤 H A (G13 .slots)) (Reads.as-is 𝓤 H A (Mut.mslice LentTilePartEntry.row (Syntax.tyRef (Syntax.named 1) Syntax.mut LentTilePartEntry.pointee) 1))
               (Reads.as-is 𝓤 H A (Rows'.sc-here Row.sPtr)) (Yields.yields-copy 𝓤 H A W (λ ρ. Unit) LentTilePartEntry.row Path'.refl (LentTilePartEntry.copies .copy 𝓤 H A W)
               LentTilePartEntry.held (λ x. x) (λ x. x) (λ ρ told. LentTilePartEntry.in-mem 𝓤 H A W ρ) λ ρ told. LentTilePartEntry.of-mem 𝓤 H A W ρ) Path'.refl tt Path'.refl
-              Path'.refl) d12
+              Path'.refl) d10
 
-          d14 : Typed.Typed 𝓤 H A 𝓣 E G13 b16 Δ3 at14
-          d14 = Typed.s-seq 𝓤 H A W 𝓣 E G13 G14 b8 b15 Δ3 (Typed.ask s10) at13 (Scalar.t-op2 𝓤 H A W E 𝓣 G13 Syntax.offset (Scalar.oFld 4 (List._∷_ (Syntax.field 0) List.[])
+          d12 : Typed.Typed 𝓤 H A 𝓣 E G12 b14 Δ3 at12
+          d12 = Typed.s-seq 𝓤 H A W 𝓣 E G12 G13 b8 b13 Δ3 (Typed.ask s9) at11 (Scalar.t-op2 𝓤 H A W E 𝓣 G12 Syntax.offset (Scalar.oFld 4 (List._∷_ (Syntax.field 0) List.[])
               (Syntax.tyRef (Syntax.named 1) Syntax.mut LentTilePartEntry.pointee) 0 Reads.ptrVal) (Scalar.oAt 9 (Syntax.tyInt Syntax.w64) (Row.valS (Row.sInt Syntax.w64))) 10
               (Rows'.sc-here Row.sPtr) Syntax.tyPtr (Row.valS Row.sPtr) (Row.sPtr .of) (
                 Mut.reads-mslice-ptr 𝓤 H A W LentTilePartEntry.row (Syntax.tyRef (Syntax.named 1) Syntax.mut
                     LentTilePartEntry.pointee) 1 0 Path'.refl,
                 Path'.refl,
               ) (Scalar.reads-sc 𝓤 H A W (Row.sInt Syntax.w64), Path'.refl) (Reads.room-gone 𝓤 H A Syntax.tyPtr)
-              (Scalar.holds-sc 𝓤 H A W Row.sPtr) Path'.refl (λ u. Path'.refl) λ u. tt) d13
+              (Scalar.holds-sc 𝓤 H A W Row.sPtr) Path'.refl (λ u. Path'.refl) λ u. tt) d11
 
-          d15 : Typed.Typed 𝓤 H A 𝓣 E G12 b17 Δ3 at15
-          d15 = Typed.s-seq 𝓤 H A W 𝓣 E G12 G13 b7 b16 Δ3 (Typed.ask s9) at14 (Scalar.t-op2 𝓤 H A W E 𝓣 G12 (Syntax.mul Syntax.unsigned) (Scalar.oAt 6 (Syntax.tyInt Syntax.w64)
+          d13 : Typed.Typed 𝓤 H A 𝓣 E G11 b15 Δ3 at13
+          d13 = Typed.s-seq 𝓤 H A W 𝓣 E G11 G12 b7 b14 Δ3 (Typed.ask s8) at12 (Scalar.t-op2 𝓤 H A W E 𝓣 G11 (Syntax.mul Syntax.unsigned) (Scalar.oAt 6 (Syntax.tyInt Syntax.w64)
               (Row.valS (Row.sInt Syntax.w64))) (Scalar.oInt Syntax.w64 24) 9 (Rows'.sc-here (Row.sInt Syntax.w64)) (Syntax.tyInt Syntax.w64) (Row.valS (Row.sInt Syntax.w64))
               (Row.sInt Syntax.w64 .of) (Scalar.reads-sc 𝓤 H A W (Row.sInt Syntax.w64), Path'.refl) tt (Reads.room-gone 𝓤 H A (Syntax.tyInt Syntax.w64)) (Scalar.holds-sc 𝓤 H A W
-              (Row.sInt Syntax.w64)) Path'.refl (λ u. Path'.refl) λ u. tt) d14
+              (Row.sInt Syntax.w64)) Path'.refl (λ u. Path'.refl) λ u. tt) d12
 
-          d16 : Typed.Typed 𝓤 H A 𝓣 E G11 b17 Δ3 at16
-          d16 = Typed.g-pre 𝓤 H A W 𝓣 E G11 G12 b17 Δ3 (Typed.pass T11 T12 s8) at15 (Scalar.g-room 𝓤 H A W E G11 5 (Syntax.tyInt Syntax.w64) (Scalar.room-sc 𝓤 H A W (Row.sInt
-              Syntax.w64))) d15
-
-          d17 : Typed.Typed 𝓤 H A 𝓣 E G7 b18 Δ3 at17
-          d17 = Typed.s-seq 𝓤 H A W 𝓣 E G7 G11 b6 b17 Δ3 (Typed.both s7) at16 (Plain.t-call-plain 𝓤 H A W 𝓣 1 ps·0 r·0 (claims· .0) (claims· .1) "parts::scan::part_at" (known .0) E
+          d14 : Typed.Typed 𝓤 H A 𝓣 E G7 b16 Δ3 at14
+          d14 = Typed.s-seq 𝓤 H A W 𝓣 E G7 G11 b6 b15 Δ3 (Typed.both s7) at13 (Plain.t-call-plain 𝓤 H A W 𝓣 1 ps·0 r·0 (claims· .0) (claims· .1) "parts::scan::part_at" (known .0) E
               (λ pos β. β) G7 (record { pos = 1; ty = Syntax.tyRef (Syntax.named 0) Syntax.imm (Syntax.tyInt Syntax.w8); ref = λ x. x }, (Num.vAt 5 λ x. x, tt)) 7 (List._∷_ 0
               List.[]) (Call.sub-id 𝓤 H A W (G7 .slots)) (
                 ShrSlice.spares-sslice 𝓤 H A W (Referent.rtF (Referent.fInt Syntax.w8)) (Syntax.tyRef (Syntax.named 0) Syntax.imm
@@ -935,68 +818,68 @@ module _ (claims· : Claims) where
                     0,
                 Path'.refl,
                 ((Scalar.reads-sc 𝓤 H A W (Row.sInt Syntax.w64), Path'.refl), tt),
-              ) (Reads.room-gone 𝓤 H A LentTilePartEntry.spelled) (tt, tt) Path'.refl) d16
+              ) (Reads.room-gone 𝓤 H A LentTilePartEntry.spelled) (tt, tt) Path'.refl) d13
 
-          d18 : Typed.Typed 𝓤 H A 𝓣 E G6 b19 Δ3 at18
-          d18 = Typed.t-seq 𝓤 H A W 𝓣 E G6 G7 b5 b18 Δ3 at5 at17 d5 d17
+          d15 : Typed.Typed 𝓤 H A 𝓣 E G6 b17 Δ3 at15
+          d15 = Typed.t-seq 𝓤 H A W 𝓣 E G6 G7 b5 b16 Δ3 at5 at14 d5 d14
 
-          d19 : Typed.Typed 𝓤 H A 𝓣 E G4 b20 Δ3 at19
-          d19 = Typed.s-seq 𝓤 H A W 𝓣 E G4 G6 b2 b19 Δ3 (Typed.ask s3) at18 (Scalar.t-op2 𝓤 H A W E 𝓣 G4 (Syntax.lt Syntax.unsigned) (Scalar.oAt 6 (Syntax.tyInt Syntax.w64)
+          d16 : Typed.Typed 𝓤 H A 𝓣 E G4 b18 Δ3 at16
+          d16 = Typed.s-seq 𝓤 H A W 𝓣 E G4 G6 b2 b17 Δ3 (Typed.ask s3) at15 (Scalar.t-op2 𝓤 H A W E 𝓣 G4 (Syntax.lt Syntax.unsigned) (Scalar.oAt 6 (Syntax.tyInt Syntax.w64)
               (Row.valS (Row.sInt Syntax.w64))) (Scalar.oAt 3 (Syntax.tyInt Syntax.w64) (Row.valS (Row.sInt Syntax.w64))) 8 (Rows'.sc-here Row.sBool) Syntax.tyBool (Row.valS
               Row.sBool) (Row.sBool .of) (Scalar.reads-sc 𝓤 H A W (Row.sInt Syntax.w64), Path'.refl) (Scalar.reads-sc 𝓤 H A W (Row.sInt Syntax.w64), Path'.refl) (Reads.room-gone 𝓤
-              H A Syntax.tyBool) (Scalar.holds-sc 𝓤 H A W Row.sBool) Path'.refl (λ u. Path'.refl) λ u. tt) d18
+              H A Syntax.tyBool) (Scalar.holds-sc 𝓤 H A W Row.sBool) Path'.refl (λ u. Path'.refl) λ u. tt) d15
 
-          d20 : Typed.Typed 𝓤 H A 𝓣 E G4 b21 Δ2 at20
-          d20 = Typed.t-loop-by 𝓤 H A W 𝓣 E G4 b20 Δ2 put0 (λ u vs. Inv·0 (Row.get 1 (T4 .locals) u .now) (Row.get 2 (T4 .locals) u) (Row.get 3 (T4 .locals) u) (Row.get 4 (T4
+          d17 : Typed.Typed 𝓤 H A 𝓣 E G4 b19 Δ2 at17
+          d17 = Typed.t-loop-by 𝓤 H A W 𝓣 E G4 b18 Δ2 put0 (λ u vs. Inv·0 (Row.get 1 (T4 .locals) u .now) (Row.get 2 (T4 .locals) u) (Row.get 3 (T4 .locals) u) (Row.get 4 (T4
               .locals) u .now) (Row.get 5 (T4 .locals) u) (Row.get 6 (T4 .locals) u) (vs .0) (vs .1) (vs .2)) (λ u vs. μ·0 (Row.get 1 (T4 .locals) u .now) (Row.get 2 (T4 .locals)
-              u) (Row.get 3 (T4 .locals) u) (Row.get 4 (T4 .locals) u .now) (Row.get 5 (T4 .locals) u) (Row.get 6 (T4 .locals) u) (vs .0) (vs .1) (vs .2)) at19 d19
+              u) (Row.get 3 (T4 .locals) u) (Row.get 4 (T4 .locals) u .now) (Row.get 5 (T4 .locals) u) (Row.get 6 (T4 .locals) u) (vs .0) (vs .1) (vs .2)) at16 d16
 
-          d21 : Typed.Typed 𝓤 H A 𝓣 E G4 b22 Δ1 at21
-          d21 = Typed.t-block 𝓤 H A W 𝓣 E G4 b21 Δ1 at20 d20
+          d18 : Typed.Typed 𝓤 H A 𝓣 E G4 b20 Δ1 at18
+          d18 = Typed.t-block 𝓤 H A W 𝓣 E G4 b19 Δ1 at17 d17
 
-          d22 : Typed.Typed 𝓤 H A 𝓣 E G26 b24 Δ0 at22
-          d22 = Typed.t-return 𝓤 H A W 𝓣 E Δ0 tt
+          d19 : Typed.Typed 𝓤 H A 𝓣 E G23 b22 Δ0 at19
+          d19 = Typed.t-return 𝓤 H A W 𝓣 E Δ0 tt
 
-          d23 : Typed.Typed 𝓤 H A 𝓣 E G25 b24 Δ0 at23
-          d23 = Typed.g-pre 𝓤 H A W 𝓣 E G25 G26 b24 Δ0 (Typed.pass T25 T26 s22) at22 (Scalar.g-room 𝓤 H A W E G25 3 (Syntax.tyInt Syntax.w64) (Scalar.room-sc 𝓤 H A W (Row.sInt
-              Syntax.w64))) d22
+          d20 : Typed.Typed 𝓤 H A 𝓣 E G22 b22 Δ0 at20
+          d20 = Typed.g-pre 𝓤 H A W 𝓣 E G22 G23 b22 Δ0 (Typed.pass T22 T23 s19) at19 (Scalar.g-room 𝓤 H A W E G22 3 (Syntax.tyInt Syntax.w64) (Scalar.room-sc 𝓤 H A W (Row.sInt
+              Syntax.w64))) d19
 
-          d24 : Typed.Typed 𝓤 H A 𝓣 E G24 b24 Δ0 at24
-          d24 = Typed.g-pre 𝓤 H A W 𝓣 E G24 G25 b24 Δ0 (Typed.pass T24 T25 s21) at23 (Scalar.g-room 𝓤 H A W E G24 2 (Syntax.tyInt Syntax.w64) (Scalar.room-sc 𝓤 H A W (Row.sInt
-              Syntax.w64))) d23
+          d21 : Typed.Typed 𝓤 H A 𝓣 E G21 b22 Δ0 at21
+          d21 = Typed.g-pre 𝓤 H A W 𝓣 E G21 G22 b22 Δ0 (Typed.pass T21 T22 s18) at20 (Scalar.g-room 𝓤 H A W E G21 2 (Syntax.tyInt Syntax.w64) (Scalar.room-sc 𝓤 H A W (Row.sInt
+              Syntax.w64))) d20
 
-          d25 : Typed.Typed 𝓤 H A 𝓣 E G23 b24 Δ0 at25
-          d25 = Typed.g-pre 𝓤 H A W 𝓣 E G23 G24 b24 Δ0 (Typed.pass T23 T24 s20) at24 (Scalar.g-room 𝓤 H A W E G23 5 (Syntax.tyInt Syntax.w64) (Scalar.room-sc 𝓤 H A W (Row.sInt
-              Syntax.w64))) d24
+          d22 : Typed.Typed 𝓤 H A 𝓣 E G20 b22 Δ0 at22
+          d22 = Typed.g-pre 𝓤 H A W 𝓣 E G20 G21 b22 Δ0 (Typed.pass T20 T21 s17) at21 (Scalar.g-room 𝓤 H A W E G20 5 (Syntax.tyInt Syntax.w64) (Scalar.room-sc 𝓤 H A W (Row.sInt
+              Syntax.w64))) d21
 
-          d26 : Typed.Typed 𝓤 H A 𝓣 E G5 b25 Δ0 at26
-          d26 = Typed.s-seq 𝓤 H A W 𝓣 E G5 G23 b23 b24 Δ0 (Typed.pass T5 T23 s19) at25 (Scalar.t-use 𝓤 H A W E 𝓣 G5 Scalar.oUnit 0 (Rows'.sc-here Row.sUnit) Syntax.tyUnit (Row.valS
-              Row.sUnit) (Row.sUnit .of) tt (Reads.room-gone 𝓤 H A Syntax.tyUnit) (Scalar.holds-sc 𝓤 H A W Row.sUnit) Path'.refl (λ u. Path'.refl) λ u. tt) d25
+          d23 : Typed.Typed 𝓤 H A 𝓣 E G5 b23 Δ0 at23
+          d23 = Typed.s-seq 𝓤 H A W 𝓣 E G5 G20 b21 b22 Δ0 (Typed.pass T5 T20 s16) at22 (Scalar.t-use 𝓤 H A W E 𝓣 G5 Scalar.oUnit 0 (Rows'.sc-here Row.sUnit) Syntax.tyUnit (Row.valS
+              Row.sUnit) (Row.sUnit .of) tt (Reads.room-gone 𝓤 H A Syntax.tyUnit) (Scalar.holds-sc 𝓤 H A W Row.sUnit) Path'.refl (λ u. Path'.refl) λ u. tt) d22
 
-          d27 : Typed.Typed 𝓤 H A 𝓣 E G4 b26 Δ0 at27
-          d27 = Typed.t-seq 𝓤 H A W 𝓣 E G4 G5 b22 b25 Δ0 at21 at26 d21 d26
+          d24 : Typed.Typed 𝓤 H A 𝓣 E G4 b24 Δ0 at24
+          d24 = Typed.t-seq 𝓤 H A W 𝓣 E G4 G5 b20 b23 Δ0 at18 at23 d18 d23
 
-          d28 : Typed.Typed 𝓤 H A 𝓣 E G3 b27 Δ0 at28
-          d28 = Typed.s-seq 𝓤 H A W 𝓣 E G3 G4 b1 b26 Δ0 (Typed.pass T3 T4 s2) at27 (Scalar.t-use 𝓤 H A W E 𝓣 G3 (Scalar.oInt Syntax.w64 0) 6 (Rows'.sc-here (Row.sInt Syntax.w64))
+          d25 : Typed.Typed 𝓤 H A 𝓣 E G3 b25 Δ0 at25
+          d25 = Typed.s-seq 𝓤 H A W 𝓣 E G3 G4 b1 b24 Δ0 (Typed.pass T3 T4 s2) at24 (Scalar.t-use 𝓤 H A W E 𝓣 G3 (Scalar.oInt Syntax.w64 0) 6 (Rows'.sc-here (Row.sInt Syntax.w64))
               (Syntax.tyInt Syntax.w64) (Row.valS (Row.sInt Syntax.w64)) (Row.sInt Syntax.w64 .of) tt (Reads.room-gone 𝓤 H A (Syntax.tyInt Syntax.w64)) (Scalar.holds-sc 𝓤 H A W
-              (Row.sInt Syntax.w64)) Path'.refl (λ u. Path'.refl) λ u. tt) d27
+              (Row.sInt Syntax.w64)) Path'.refl (λ u. Path'.refl) λ u. tt) d24
 
-          d29 : Typed.Typed 𝓤 H A 𝓣 E G2 b28 Δ0 at29
-          d29 = Typed.s-seq 𝓤 H A W 𝓣 E G2 G3 b0 b27 Δ0 (Typed.pass T2 T3 s1) at28 (Scalar.t-use 𝓤 H A W E 𝓣 G2 (Scalar.oAt 2 (Syntax.tyInt Syntax.w64) (Row.valS (Row.sInt
+          d26 : Typed.Typed 𝓤 H A 𝓣 E G2 b26 Δ0 at26
+          d26 = Typed.s-seq 𝓤 H A W 𝓣 E G2 G3 b0 b25 Δ0 (Typed.pass T2 T3 s1) at25 (Scalar.t-use 𝓤 H A W E 𝓣 G2 (Scalar.oAt 2 (Syntax.tyInt Syntax.w64) (Row.valS (Row.sInt
               Syntax.w64))) 5 (Rows'.sc-here (Row.sInt Syntax.w64)) (Syntax.tyInt Syntax.w64) (Row.valS (Row.sInt Syntax.w64)) (Row.sInt Syntax.w64 .of) (
                 Scalar.reads-sc 𝓤 H A W
                     (Row.sInt Syntax.w64),
                 Path'.refl,
               ) (Reads.room-gone 𝓤 H A (Syntax.tyInt Syntax.w64)) (Scalar.holds-sc 𝓤 H A W (Row.sInt Syntax.w64)) Path'.refl (λ u. Path'.refl) λ u.
-              tt) d28
+              tt) d25
 
-          d30 : Typed.Typed 𝓤 H A 𝓣 E G0 b28 Δ0 at30
-          d30 = Typed.g-pre 𝓤 H A W 𝓣 E G0 G2 b28 Δ0 (Typed.give s0) at29 (Know.g-shs-known 𝓤 H A W (Referent.fInt Syntax.w8) E G0 1 0 (Syntax.tyRef (Syntax.named 0) Syntax.imm
+          d27 : Typed.Typed 𝓤 H A 𝓣 E G0 b26 Δ0 at27
+          d27 = Typed.g-pre 𝓤 H A W 𝓣 E G0 G2 b26 Δ0 (Typed.give s0) at26 (Know.g-shs-known 𝓤 H A W (Referent.fInt Syntax.w8) E G0 1 0 (Syntax.tyRef (Syntax.named 0) Syntax.imm
               (Syntax.tyInt Syntax.w8)) (Row.lease (κs .0) (qs .0)) 0 (λ x. x) record { fits = Dec'.lit< tt } (Reads.as-is 𝓤 H A (Rows'.sslice (Referent.rtF (Referent.fInt
-              Syntax.w8)) (Syntax.tyRef (Syntax.named 0) Syntax.imm (Syntax.tyInt Syntax.w8)) 0)) Path'.refl tt) d29
+              Syntax.w8)) (Syntax.tyRef (Syntax.named 0) Syntax.imm (Syntax.tyInt Syntax.w8)) 0)) Path'.refl tt) d26
 
-          pub typed : Typed.Typed 𝓤 H A 𝓣 E (Function.Γin 2 ps r xs m κs qs) b28 (Function.Δret 2 ps r xs m κs qs) Φ
-          typed = d30
+          pub typed : Typed.Typed 𝓤 H A 𝓣 E (Function.Γin 2 ps r xs m κs qs) b26 (Function.Δret 2 ps r xs m κs qs) Φ
+          typed = d27
 
       module _ (κs : Lifetimes.Lfts 2) where
         pub record Args : Type 0 where
@@ -1041,7 +924,7 @@ module _ (claims· : Claims) where
       m3 = λ before given. s2 (m2 before given)
 
       abbrev W1 : (before : Start) → (given : s0 .gives (m0 (before .κs) (before .args))) → Typed.Want O1
-      W1 = λ before given. Typed.wantNext T5 O0 (at26 (W0 (before .κs) (before .args))) (W0 (before .κs) (before .args))
+      W1 = λ before given. Typed.wantNext T5 O0 (at23 (W0 (before .κs) (before .args))) (W0 (before .κs) (before .args))
 
       abbrev W2 : (before : Start) → (given : s0 .gives (m0 (before .κs) (before .args))) → Typed.Want O2
       W2 = λ before given. Typed.inBlock O1 (W1 before given)
@@ -1084,7 +967,7 @@ module _ (claims· : Claims) where
           (Row.sInt Syntax.w64) .Mod) → Typed.Want O3
       W3 = λ before table at i. Typed.inLoop T4 O2 (Typed.Round T4 O2 put0 (λ u vs. Inv·0 (Row.get 1 (T4 .locals) u .now) (Row.get 2 (T4 .locals) u) (Row.get 3 (T4 .locals) u)
           (Row.get 4 (T4 .locals) u .now) (Row.get 5 (T4 .locals) u) (Row.get 6 (T4 .locals) u) (vs .0) (vs .1) (vs .2)) (λ u vs. μ·0 (Row.get 1 (T4 .locals) u .now) (Row.get 2 (T4
-          .locals) u) (Row.get 3 (T4 .locals) u) (Row.get 4 (T4 .locals) u .now) (Row.get 5 (T4 .locals) u) (Row.get 6 (T4 .locals) u) (vs .0) (vs .1) (vs .2)) at19 (m3 (before
+          .locals) u) (Row.get 3 (T4 .locals) u) (Row.get 4 (T4 .locals) u .now) (Row.get 5 (T4 .locals) u) (Row.get 6 (T4 .locals) u) (vs .0) (vs .1) (vs .2)) at16 (m3 (before
           .before) (before .shared-slice-known .given)) (table, at, i)) (W2 (before .before) (before .shared-slice-known .given))
 
       abbrev pub m5 : (before : After-shared-slice-known) → (table : List.List (LentTilePartEntry.row .Denot)) → (at : Rows'.sc-here (Row.sInt Syntax.w64) .Mod) → (i :
@@ -1093,7 +976,7 @@ module _ (claims· : Claims) where
 
       abbrev W4 : (before : After-shared-slice-known) → (table : List.List (LentTilePartEntry.row .Denot)) → (at : Rows'.sc-here (Row.sInt Syntax.w64) .Mod) → (i : Rows'.sc-here
           (Row.sInt Syntax.w64) .Mod) → Typed.Want O4
-      W4 = λ before table at i. Typed.wantNext T7 O3 (at17 (W3 before table at i)) (W3 before table at i)
+      W4 = λ before table at i. Typed.wantNext T7 O3 (at14 (W3 before table at i)) (W3 before table at i)
 
       module _ (before· : After-shared-slice-known) where
         pub record At-loop·own : Type 0 where
@@ -1159,23 +1042,23 @@ module _ (claims· : Claims) where
         (Num.vAt 5 λ x. x, tt),
       ) (m6 (c .before .before)) (c .part-at)
 
-      abbrev pub m10 : (before : In-loop) → (given : s7 .gives (m6 (before .before))) → Typed.Mo T12
-      m10 = λ before given. s8 (m9 before given)
-
       abbrev pub Need-mul-entry : Type 0
-      Need-mul-entry = (c : After-part-at) → s9 .asks (m10 (c .before) (After-part-at·gave c))
+      Need-mul-entry = (c : After-part-at) → s8 .asks (m9 (c .before) (After-part-at·gave c))
+
+      abbrev pub m10 : (before : In-loop) → (given : s7 .gives (m6 (before .before))) → Typed.Mo T12
+      m10 = λ before given. s8 .next (m9 before given)
 
       abbrev pub m11 : (before : In-loop) → (given : s7 .gives (m6 (before .before))) → Typed.Mo T13
       m11 = λ before given. s9 .next (m10 before given)
 
+      abbrev pub Need-slice-set-from-entry : Type 0
+      Need-slice-set-from-entry = (c : After-part-at) → Shared.InSlice T13 4 10 (λ x. x) (λ u. u .1 .1 .1 .1 .1 .1 .0) (m11 (c .before) (After-part-at·gave c))
+
       abbrev pub m12 : (before : In-loop) → (given : s7 .gives (m6 (before .before))) → Typed.Mo T14
       m12 = λ before given. s10 .next (m11 before given)
 
-      abbrev pub Need-slice-set-from-entry : Type 0
-      Need-slice-set-from-entry = (c : After-part-at) → Shared.InSlice T14 4 10 (λ x. x) (λ u. u .1 .1 .1 .1 .1 .1 .0) (m12 (c .before) (After-part-at·gave c))
-
       abbrev pub m13 : (before : In-loop) → (given : s7 .gives (m6 (before .before))) → Typed.Mo T15
-      m13 = λ before given. s11 .next (m12 before given)
+      m13 = λ before given. s11 (m12 before given)
 
       abbrev pub m14 : (before : In-loop) → (given : s7 .gives (m6 (before .before))) → Typed.Mo T16
       m14 = λ before given. s12 (m13 before given)
@@ -1183,47 +1066,43 @@ module _ (claims· : Claims) where
       abbrev pub m15 : (before : In-loop) → (given : s7 .gives (m6 (before .before))) → Typed.Mo T17
       m15 = λ before given. s13 (m14 before given)
 
-      abbrev pub Need-end-of-requires : Type 0
-      Need-end-of-requires = (c : After-part-at) → s14 .asks (m15 (c .before) (After-part-at·gave c))
+      abbrev pub Need-next-at-requires : Type 0
+      Need-next-at-requires = (c : After-part-at) → s14 .asks (m15 (c .before) (After-part-at·gave c))
 
       abbrev pub m16 : (before : After-part-at) → (given : s14 .gives (m15 (before .before) (After-part-at·gave before))) → Typed.Mo T18
       m16 = λ before given. s14 .next (m15 (before .before) (After-part-at·gave before)) given
 
       module _ (before· : After-part-at) where
-        abbrev pub After-end-of·own : Type 0
-        After-end-of·own = Called.Called ps·1 r·1 (claims· .3) T17 (record { pos = 7; st = List.[]; d = 0; at = λ x. x }, tt) (m15 (before· .before) (After-part-at·gave before·))
+        abbrev pub After-next-at·own : Type 0
+        After-next-at·own = Called.Called ps·1 r·1 (claims· .3) T17 (
+          record { pos = 1; ty = Syntax.tyRef (Syntax.named 0) Syntax.imm (Syntax.tyInt Syntax.w8); ref = λ x. x },
+          (Num.vAt 5 λ x. x, tt),
+        ) (m15 (before· .before) (After-part-at·gave before·))
 
-      pub record After-end-of : Type 0 where
+      pub record After-next-at : Type 0 where
         pub before : After-part-at
-        pub end-of : After-end-of·own before
+        pub next-at : After-next-at·own before
 
-      abbrev pub After-end-of·gave : (c : After-end-of) → s14 .gives (m15 (c .before .before) (After-part-at·gave (c .before)))
-      After-end-of·gave = λ c. Called.given ps·1 r·1 (claims· .3) T17 (record { pos = 7; st = List.[]; d = 0; at = λ x. x }, tt) (m15 (c .before .before) (After-part-at·gave (c
-          .before))) (c .end-of)
-
-      abbrev pub m17 : (before : After-part-at) → (given : s14 .gives (m15 (before .before) (After-part-at·gave before))) → Typed.Mo T19
-      m17 = λ before given. s15 (m16 before given)
-
-      abbrev pub m18 : (before : After-part-at) → (given : s14 .gives (m15 (before .before) (After-part-at·gave before))) → Typed.Mo T20
-      m18 = λ before given. s16 (m17 before given)
-
-      abbrev pub m19 : (before : After-part-at) → (given : s14 .gives (m15 (before .before) (After-part-at·gave before))) → Typed.Mo T21
-      m19 = λ before given. s17 (m18 before given)
+      abbrev pub After-next-at·gave : (c : After-next-at) → s14 .gives (m15 (c .before .before) (After-part-at·gave (c .before)))
+      After-next-at·gave = λ c. Called.given ps·1 r·1 (claims· .3) T17 (
+        record { pos = 1; ty = Syntax.tyRef (Syntax.named 0) Syntax.imm (Syntax.tyInt Syntax.w8); ref = λ x. x },
+        (Num.vAt 5 λ x. x, tt),
+      ) (m15 (c .before .before) (After-part-at·gave (c .before))) (c .next-at)
 
       abbrev pub Need-add-i : Type 0
-      Need-add-i = (c : After-end-of) → s18 .asks (m19 (c .before) (After-end-of·gave c))
+      Need-add-i = (c : After-next-at) → s15 .asks (m16 (c .before) (After-next-at·gave c))
 
-      abbrev pub m20 : (before : After-part-at) → (given : s14 .gives (m15 (before .before) (After-part-at·gave before))) → Typed.Mo T22
-      m20 = λ before given. s18 .next (m19 before given)
+      abbrev pub m17 : (before : After-part-at) → (given : s14 .gives (m15 (before .before) (After-part-at·gave before))) → Typed.Mo T19
+      m17 = λ before given. s15 .next (m16 before given)
 
       abbrev pub Need-loop-less : Type 0
-      Need-loop-less = (c : After-end-of) → Nat._<_ (μ·0 (Row.get 1 (T4 .locals) (m3 (c .before .before .before .before .before) (c .before .before .before .before
+      Need-loop-less = (c : After-next-at) → Nat._<_ (μ·0 (Row.get 1 (T4 .locals) (m3 (c .before .before .before .before .before) (c .before .before .before .before
           .shared-slice-known .given)) .now) (Row.get 2 (T4 .locals) (m3 (c .before .before .before .before .before) (c .before .before .before .before .shared-slice-known
           .given))) (Row.get 3 (T4 .locals) (m3 (c .before .before .before .before .before) (c .before .before .before .before .shared-slice-known .given))) (Row.get 4 (T4 .locals)
           (m3 (c .before .before .before .before .before) (c .before .before .before .before .shared-slice-known .given)) .now) (Row.get 5 (T4 .locals) (m3 (c .before .before
           .before .before .before) (c .before .before .before .before .shared-slice-known .given))) (Row.get 6 (T4 .locals) (m3 (c .before .before .before .before .before) (c
-          .before .before .before .before .shared-slice-known .given))) (Row.get 4 (T4 .locals) (m20 (c .before) (After-end-of·gave c)) .now) (Row.get 5 (T4 .locals) (m20 (c
-          .before) (After-end-of·gave c))) (Row.get 6 (T4 .locals) (m20 (c .before) (After-end-of·gave c)))) (μ·0 (Row.get 1 (T4 .locals) (m3 (c .before .before .before .before
+          .before .before .before .before .shared-slice-known .given))) (Row.get 4 (T4 .locals) (m17 (c .before) (After-next-at·gave c)) .now) (Row.get 5 (T4 .locals) (m17 (c
+          .before) (After-next-at·gave c))) (Row.get 6 (T4 .locals) (m17 (c .before) (After-next-at·gave c)))) (μ·0 (Row.get 1 (T4 .locals) (m3 (c .before .before .before .before
           .before) (c .before .before .before .before .shared-slice-known .given)) .now) (Row.get 2 (T4 .locals) (m3 (c .before .before .before .before .before) (c .before .before
           .before .before .shared-slice-known .given))) (Row.get 3 (T4 .locals) (m3 (c .before .before .before .before .before) (c .before .before .before .before
           .shared-slice-known .given))) (Row.get 4 (T4 .locals) (m3 (c .before .before .before .before .before) (c .before .before .before .before .shared-slice-known .given))
@@ -1232,39 +1111,39 @@ module _ (claims· : Claims) where
           .before .loop .at) (c .before .before .before .loop .i))
 
       abbrev pub Need-loop-again : Type 0
-      Need-loop-again = (c : After-end-of) → Inv·0 (Row.get 1 (T4 .locals) (m3 (c .before .before .before .before .before) (c .before .before .before .before .shared-slice-known
+      Need-loop-again = (c : After-next-at) → Inv·0 (Row.get 1 (T4 .locals) (m3 (c .before .before .before .before .before) (c .before .before .before .before .shared-slice-known
           .given)) .now) (Row.get 2 (T4 .locals) (m3 (c .before .before .before .before .before) (c .before .before .before .before .shared-slice-known .given))) (Row.get 3 (T4
           .locals) (m3 (c .before .before .before .before .before) (c .before .before .before .before .shared-slice-known .given))) (Row.get 4 (T4 .locals) (m3 (c .before .before
           .before .before .before) (c .before .before .before .before .shared-slice-known .given)) .now) (Row.get 5 (T4 .locals) (m3 (c .before .before .before .before .before) (c
           .before .before .before .before .shared-slice-known .given))) (Row.get 6 (T4 .locals) (m3 (c .before .before .before .before .before) (c .before .before .before .before
-          .shared-slice-known .given))) (Row.get 4 (T4 .locals) (m20 (c .before) (After-end-of·gave c)) .now) (Row.get 5 (T4 .locals) (m20 (c .before) (After-end-of·gave c)))
-          (Row.get 6 (T4 .locals) (m20 (c .before) (After-end-of·gave c)))
+          .shared-slice-known .given))) (Row.get 4 (T4 .locals) (m17 (c .before) (After-next-at·gave c)) .now) (Row.get 5 (T4 .locals) (m17 (c .before) (After-next-at·gave c)))
+          (Row.get 6 (T4 .locals) (m17 (c .before) (After-next-at·gave c)))
+
+      abbrev pub m18 : (before : At-loop) → Typed.Mo T20
+      m18 = λ before. s16 (m8 before)
+
+      abbrev pub m19 : (before : At-loop) → Typed.Mo T21
+      m19 = λ before. s17 (m18 before)
+
+      abbrev pub m20 : (before : At-loop) → Typed.Mo T22
+      m20 = λ before. s18 (m19 before)
 
       abbrev pub m21 : (before : At-loop) → Typed.Mo T23
-      m21 = λ before. s19 (m8 before)
-
-      abbrev pub m22 : (before : At-loop) → Typed.Mo T24
-      m22 = λ before. s20 (m21 before)
-
-      abbrev pub m23 : (before : At-loop) → Typed.Mo T25
-      m23 = λ before. s21 (m22 before)
-
-      abbrev pub m24 : (before : At-loop) → Typed.Mo T26
-      m24 = λ before. s22 (m23 before)
+      m21 = λ before. s19 (m20 before)
 
       abbrev pub Need-same-length : Type 0
-      Need-same-length = (c : After-loop) → MutSlice.SameLen (Row.get 4 (T26 .locals) (m24 (c .before))) (dens (c .before .before .before .κs) (c .before .before .before .args) .1
+      Need-same-length = (c : After-loop) → MutSlice.SameLen (Row.get 4 (T23 .locals) (m21 (c .before))) (dens (c .before .before .before .κs) (c .before .before .before .args) .1
           .1 .1 .0)
 
       abbrev pub Need-returns : Type 0
       Need-returns = (c : After-loop) → Post· (c .before .before .before .κs) (dens (c .before .before .before .κs) (c .before .before .before .args)) (Function.resV r (c .before
-          .before .before .κs) (m24 (c .before) .0)) (Clauses.atExit (Kinds.endedOf 2 ps r) (c .before .before .before .κs) (dens (c .before .before .before .κs) (c .before .before
-          .before .args)) (Enter.lastsP (c .before .before .before .κs) 1 ps xs (dens (c .before .before .before .κs) (c .before .before .before .args)) (m24 (c .before) .1)))
+          .before .before .κs) (m21 (c .before) .0)) (Clauses.atExit (Kinds.endedOf 2 ps r) (c .before .before .before .κs) (dens (c .before .before .before .κs) (c .before .before
+          .before .args)) (Enter.lastsP (c .before .before .before .κs) 1 ps xs (dens (c .before .before .before .κs) (c .before .before .before .args)) (m21 (c .before) .1)))
 
       module _ (loop-holds : Need-loop-holds) (part-at-requires : Need-part-at-requires) (mul-entry : Need-mul-entry) (slice-set-from-entry : Need-slice-set-from-entry)
-          (end-of-requires : Need-end-of-requires) (add-i : Need-add-i) (loop-less : Need-loop-less) (loop-again : Need-loop-again) (same-length : Need-same-length) (returns :
+          (next-at-requires : Need-next-at-requires) (add-i : Need-add-i) (loop-less : Need-loop-less) (loop-again : Need-loop-again) (same-length : Need-same-length) (returns :
           Need-returns) where
-        lay6 : (c : After-loop) → at26 (W0 (c .before .before .before .κs) (c .before .before .before .args)) (m8 (c .before))
+        lay6 : (c : After-loop) → at23 (W0 (c .before .before .before .κs) (c .before .before .before .args)) (m8 (c .before))
         lay6 = λ c. (
           (
             Path'.refl,
@@ -1273,8 +1152,8 @@ module _ (claims· : Claims) where
               (
                 tt,
                 (
-                  MutSlice.fix-len (Row.get 4 (T26 .locals) (m24 (c .before)) .ptr) (Row.get 4 (T26 .locals) (m24 (c .before)) .name) (Row.get 4 (T26
-                      .locals) (m24 (c .before)) .now) (dens (c .before .before .before .κs) (c .before .before .before .args) .1 .1 .1 .0 .now) (same-length record {
+                  MutSlice.fix-len (Row.get 4 (T23 .locals) (m21 (c .before)) .ptr) (Row.get 4 (T23 .locals) (m21 (c .before)) .name) (Row.get 4 (T23
+                      .locals) (m21 (c .before)) .now) (dens (c .before .before .before .κs) (c .before .before .before .args) .1 .1 .1 .0 .now) (same-length record {
                         before = c .before;
                         loop-test = c .loop-test;
                       }),
@@ -1286,44 +1165,48 @@ module _ (claims· : Claims) where
           returns record { before = c .before; loop-test = c .loop-test },
         )
 
-        lay5 : (c : After-end-of) → at9 (W3 (c .before .before .before .before) (c .before .before .before .loop .table) (c .before .before .before .loop .at) (c .before .before
-            .before .loop .i)) (m16 (c .before) (After-end-of·gave c))
+        lay5 : (c : After-next-at) → at6 (W3 (c .before .before .before .before) (c .before .before .before .loop .table) (c .before .before .before .loop .at) (c .before .before
+            .before .loop .i)) (m16 (c .before) (After-next-at·gave c))
         lay5 = λ c. (
-          add-i record { before = c .before; end-of = c .end-of },
+          add-i record { before = c .before; next-at = c .next-at },
           (
             μ·0 (Row.get 1 (T4 .locals) (m3 (c .before .before .before .before .before) (c .before .before
                 .before .before .shared-slice-known .given)) .now) (Row.get 2 (T4 .locals) (m3 (c .before .before .before .before .before) (c .before .before .before .before
                 .shared-slice-known .given))) (Row.get 3 (T4 .locals) (m3 (c .before .before .before .before .before) (c .before .before .before .before .shared-slice-known .given)))
                 (Row.get 4 (T4 .locals) (m3 (c .before .before .before .before .before) (c .before .before .before .before .shared-slice-known .given)) .now) (Row.get 5 (T4 .locals)
                 (m3 (c .before .before .before .before .before) (c .before .before .before .before .shared-slice-known .given))) (Row.get 6 (T4 .locals) (m3 (c .before .before .before
-                .before .before) (c .before .before .before .before .shared-slice-known .given))) (Row.get 4 (T4 .locals) (m20 (c .before) (After-end-of·gave c)) .now) (Row.get 5 (T4
-                .locals) (m20 (c .before) (After-end-of·gave c))) (Row.get 6 (T4 .locals) (m20 (c .before) (After-end-of·gave c))),
+                .before .before) (c .before .before .before .before .shared-slice-known .given))) (Row.get 4 (T4 .locals) (m17 (c .before) (After-next-at·gave c)) .now) (Row.get 5 (T4
+                .locals) (m17 (c .before) (After-next-at·gave c))) (Row.get 6 (T4 .locals) (m17 (c .before) (After-next-at·gave c))),
             loop-less record {
               before = c .before;
-              end-of = c
-                  .end-of;
+              next-at = c
+                  .next-at;
             },
             (
               (
-                Row.get 4 (T4 .locals) (m20 (c .before) (After-end-of·gave c)) .now,
-                Row.get 5 (T4 .locals) (m20 (c .before) (After-end-of·gave c)),
-                Row.get 6 (T4 .locals)
-                    (m20 (c .before) (After-end-of·gave c)),
+                Row.get 4 (T4 .locals) (m17 (c .before) (After-next-at·gave c)) .now,
+                Row.get 5 (T4 .locals) (m17 (c .before) (After-next-at·gave c)),
+                Row.get 6 (T4
+                    .locals) (m17 (c .before) (After-next-at·gave c)),
               ),
-              Path'.refl {a = m20 (c .before) (After-end-of·gave c)},
-              loop-again record { before = c .before; end-of = c .end-of },
-              Path'.refl {a = μ·0 (Row.get 1 (T4 .locals) (m3 (c .before .before .before .before .before) (c .before .before .before .before .shared-slice-known .given)) .now)
-                  (Row.get 2 (T4 .locals) (m3 (c .before .before .before .before .before) (c .before .before .before .before .shared-slice-known .given))) (Row.get 3 (T4 .locals) (m3 (c
-                  .before .before .before .before .before) (c .before .before .before .before .shared-slice-known .given))) (Row.get 4 (T4 .locals) (m3 (c .before .before .before .before
-                  .before) (c .before .before .before .before .shared-slice-known .given)) .now) (Row.get 5 (T4 .locals) (m3 (c .before .before .before .before .before) (c .before
-                  .before .before .before .shared-slice-known .given))) (Row.get 6 (T4 .locals) (m3 (c .before .before .before .before .before) (c .before .before .before .before
-                  .shared-slice-known .given))) (Row.get 4 (T4 .locals) (m20 (c .before) (After-end-of·gave c)) .now) (Row.get 5 (T4 .locals) (m20 (c .before) (After-end-of·gave c)))
-                  (Row.get 6 (T4 .locals) (m20 (c .before) (After-end-of·gave c)))},
+              Path'.refl {a = m17 (c .before) (After-next-at·gave c)},
+              loop-again record {
+                before = c .before;
+                next-at = c
+                    .next-at;
+              },
+              Path'.refl {a = μ·0 (Row.get 1 (T4 .locals) (m3 (c .before .before .before .before .before) (c .before .before .before .before .shared-slice-known .given))
+                  .now) (Row.get 2 (T4 .locals) (m3 (c .before .before .before .before .before) (c .before .before .before .before .shared-slice-known .given))) (Row.get 3 (T4 .locals)
+                  (m3 (c .before .before .before .before .before) (c .before .before .before .before .shared-slice-known .given))) (Row.get 4 (T4 .locals) (m3 (c .before .before .before
+                  .before .before) (c .before .before .before .before .shared-slice-known .given)) .now) (Row.get 5 (T4 .locals) (m3 (c .before .before .before .before .before) (c
+                  .before .before .before .before .shared-slice-known .given))) (Row.get 6 (T4 .locals) (m3 (c .before .before .before .before .before) (c .before .before .before .before
+                  .shared-slice-known .given))) (Row.get 4 (T4 .locals) (m17 (c .before) (After-next-at·gave c)) .now) (Row.get 5 (T4 .locals) (m17 (c .before) (After-next-at·gave c)))
+                  (Row.get 6 (T4 .locals) (m17 (c .before) (After-next-at·gave c)))},
             ),
           ),
         )
 
-        lay4 : (c : After-part-at) → at16 (W3 (c .before .before .before) (c .before .before .loop .table) (c .before .before .loop .at) (c .before .before .loop .i)) (m9 (c
+        lay4 : (c : After-part-at) → at13 (W3 (c .before .before .before) (c .before .before .loop .table) (c .before .before .loop .at) (c .before .before .loop .i)) (m9 (c
             .before) (After-part-at·gave c))
         lay4 = λ c. (
           mul-entry record { before = c .before; part-at = c .part-at },
@@ -1340,17 +1223,24 @@ module _ (claims· : Claims) where
                 },
               ),
               (
-                end-of-requires record { before = c .before; part-at = c .part-at },
+                next-at-requires record { before = c .before; part-at = c .part-at },
                 λ g. lay5 record {
                   before = record { before = c .before; part-at = c .part-at };
-                  end-of = Called.called ps·1 r·1 (claims· .3) T17 (record { pos = 7; st = List.[]; d = 0; at = λ x. x }, tt) (m15 (c .before) (After-part-at·gave c)) g;
+                  next-at = Called.called ps·1 r·1 (claims· .3) T17 (
+                    record { pos = 1; ty = Syntax.tyRef (Syntax.named 0) Syntax.imm (Syntax.tyInt Syntax.w8); ref = λ x. x },
+                    (
+                      Num.vAt 5
+                          λ x. x,
+                      tt,
+                    ),
+                  ) (m15 (c .before) (After-part-at·gave c)) g;
                 },
               ),
             ),
           ),
         )
 
-        lay3 : (c : In-loop) → at17 (W3 (c .before .before) (c .before .loop .table) (c .before .loop .at) (c .before .loop .i)) (m6 (c .before))
+        lay3 : (c : In-loop) → at14 (W3 (c .before .before) (c .before .loop .table) (c .before .loop .at) (c .before .loop .i)) (m6 (c .before))
         lay3 = λ c. (
           part-at-requires record { before = c .before; loop-test = c .loop-test },
           λ g. lay4 record {
@@ -1374,7 +1264,7 @@ module _ (claims· : Claims) where
             .before .loop .at) (c .before .loop .i))
         lay1 = λ c. lay3 record { before = c .before; loop-test = c .loop-test }
 
-        pub laid : (c : Start) → at30 (W0 (c .κs) (c .args)) (m0 (c .κs) (c .args))
+        pub laid : (c : Start) → at27 (W0 (c .κs) (c .args)) (m0 (c .κs) (c .args))
         laid = λ c. λ g. (
           (
             (Row.get 4 (T4 .locals) (m3 c g) .now, Row.get 5 (T4 .locals) (m3 c g), Row.get 6 (T4 .locals) (m3 c g)),
@@ -1438,6 +1328,6 @@ module _ (claims· : Claims) where
           }
 
         module _ {M : Type 1} (𝓤 : URA.URA M) (H : Wp.Heap 𝓤) (A : Atoms.Atoms 𝓤) (W : Kit.Given 𝓤 H A) (𝓣 : Wp.Tables 𝓤 H) (known0 : Plain.Known 𝓤 H A W 𝓣 1 ps·0 r·0 (claims· .0)
-            (claims· .1) "parts::scan::part_at") (known1 : Plain.Known 𝓤 H A W 𝓣 0 ps·1 r·1 (claims· .2) (claims· .3) "types::end_of") where
+            (claims· .1) "parts::scan::part_at") (known1 : Plain.Known 𝓤 H A W 𝓣 1 ps·1 r·1 (claims· .2) (claims· .3) "parts::scan::next_at") where
           pub spec : Statement.Triple 𝓤 (Wp.WpFn 𝓤 H (𝓣 .C) (𝓣 .Λ) (Function.fnOf 2 ps r xs m hs body)) (Function.plainOf 𝓤 H A 2 ps r Pre· Post·)
           spec = Plain.t-fn-plain 𝓤 H A W 𝓣 2 ps r xs m hs body (λ κs qs bs. Φ) (λ κs qs bs bd. typed κs qs 𝓤 H A W 𝓣 (known0, known1) bs bd) Pre· Post· asked
