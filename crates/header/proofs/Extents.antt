@@ -7,7 +7,7 @@ use lib.ListN.{length}
 use borrow.Author.Tests.{le-leb, lt-leb, eq-eqb, ne-eqb}
 use Rattle.numbers.specs.Bytes.{be}
 use Rattle.types.specs.Markers.{SOC}
-use Rattle.chain.specs.Chain.{end, on, Rises, also, chain}
+use Rattle.chain.specs.Chain.{end, on, Rises, also}
 use Rattle.chain.proofs.Laws.{end-on, chain-end, chain-on}
 use Rattle.header.specs.Step.{stepAt, HeaderEnd, sot, cut, moveOf, moveAt, stepsFrom}
 use Rattle.header.specs.Extent.{endedAs, extentEnd, extentOf}

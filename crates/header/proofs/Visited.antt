@@ -10,11 +10,11 @@ use lib.ListN.{length, take, drop, length-take, length-drop}
 use borrow.Author.Tests.{eq-eqb, ne-eqb}
 use Rattle.numbers.specs.Bytes.{be}
 use Rattle.types.specs.Markers.{TLM}
-use Rattle.chain.specs.Chain.{Chain, also, step}
+use Rattle.chain.specs.Chain.{Chain, also}
 use Rattle.header.specs.Step.{segmentEnd}
 use Rattle.header.specs.Tlm.{Entry, ltlm, stlm, entrySize, entryCount, entriesIn}
 use Rattle.header.specs.Walk.{WalkEnd, walkStepAt, walkFrom}
-use Rattle.header.specs.Strip.{kept, tlmEntries, visited}
+use Rattle.header.specs.Strip.{kept, tlmEntries}
 use Rattle.header.specs.declared.walk.Passed.{Passed as Passing}
 use Rattle.header.specs.declared.walk.WalkStep.the-variants.{Passed}
 use Rattle.header.proofs.Walks.{TlmPassed, passed-is, walk-on}

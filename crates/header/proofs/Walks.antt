@@ -12,7 +12,7 @@ use denote.Enum.Declared.{tagOf}
 use types.Run.{OneOf}
 use Rattle.numbers.specs.Bytes.{be}
 use Rattle.types.specs.Markers.{TLM}
-use Rattle.chain.specs.Chain.{on, Chain, Rises, also, chain}
+use Rattle.chain.specs.Chain.{on, Chain, Rises, also}
 use Rattle.chain.proofs.Laws.{chain-end, chain-on, end-on}
 use Rattle.header.specs.Step.{delimits, segmentEnd, stepAt}
 use Rattle.header.specs.Tlm.{ltlm, stlm, indexSize, entryCount, Accepted, tlmAt}

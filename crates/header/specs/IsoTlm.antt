@@ -1,6 +1,6 @@
 -- The length table of ISO/IEC 15444-1, A.7.1: TLM segments in the order of Ztlm, their entries one after the other, and entries without an index
 -- numbered on from segment to segment. `proofs/StandardTlm.antt` says where document 01's table agrees.
-use Prim.Native.Nat.{ℕ, zero, suc, _+_, _≤_}
+use Prim.Native.Nat.{ℕ, zero, suc, _+_}
 use mathlib.Core.Bool.{Bool, cond}
 use mathlib.Core.List.{List, [], _∷_, _++_}
 use lib.ListN.{getD}

@@ -7,7 +7,7 @@ use native.Mathlib.Omega.{arith}
 use mathlib.Core.Path.{_≡_, refl, sym, ap, ap₂, _∙_}
 use mathlib.Core.List.{List, [], _∷_, _++_, append-assoc, append-nil}
 use lib.ListN.{take-append-drop, length, getD, set, take, drop, length-append, length-take, length-drop, List·getD-append, drop-of-length-le}
-use lib.Seq.{take-length, take-all, length-take-le, getD-append-add, getD-append-seam, getD-take, getD-drop, set-split, sets, sets-eq, take-at, drop-drop, drop-append-add}
+use lib.Seq.{take-length, take-all, length-take-le, getD-append-add, getD-append-seam, getD-take, getD-drop, set-split, sets, sets-eq, take-at, drop-at, drop-drop, take-append-le, drop-append-le, take-append-add, drop-append-add}
 use lib.Arith.{mod-mul, digits-div, digits-mod, digits-lt}
 use lib.Dec.{lit<}
 use Rattle.numbers.specs.Bytes.{be, bytesOf, put}
@@ -95,6 +95,35 @@ pub put-halves : (k v : ℕ) (s : List ℕ) (at : ℕ) → at + (k + k) ≤ leng
 put-halves k v s at h =
     let high : List ℕ = bytesOf k (v / 256 ^ k) in
     rw (bytes-mod, bytes-join) (put-put s at high (bytesOf k v) k (length-bytes k (v / 256 ^ k)) (omega (arith, length-bytes k v)))
+
+-- what stands before it stays
+pub take-put : {A : Type 0} (s : List A) (at : ℕ) (bs : List A) → at ≤ length s → take at (put s at bs) ≡ take at s
+unfolding put
+take-put s at bs h = take-at (take at s) _ at (length-take-le at s h)
+
+-- and what stands after it
+pub drop-put : {A : Type 0} (s : List A) (at : ℕ) (bs : List A) (n : ℕ) → length bs ≡ n → at ≤ length s → drop (at + n) (put s at bs) ≡ drop (at + n) s
+unfolding put
+drop-put s at bs n e h =
+    let front : length (take at s ++ bs) ≡ at + n = simp length-append (omega (arith, length-take-le at s h)) in
+    rw (← append-assoc (take at s) bs (drop (at + length bs) s)) (drop-at (take at s ++ bs) _ (at + n) front ∙ ap (λ (k : ℕ). drop (at + k) s) e)
+
+inside : {A : Type 0} (front xs rest : List A) (i : ℕ) (ys : List A) → i + length ys ≤ length xs → put (front ++ (xs ++ rest)) (length front + i) ys ≡ front ++ (put xs i ys ++ rest)
+unfolding put
+inside front xs rest i ys h =
+    let before : i ≤ length xs = omega arith in
+    rw (take-append-add front (xs ++ rest) i, take-append-le i xs rest, add-assoc (length front) i (length ys), drop-append-add front (xs ++ rest) (i + length ys), drop-append-le (i + length ys) xs rest)
+    (simp append-assoc)
+
+-- a replacement inside what was written is one before it is written
+pub put-inside : {A : Type 0} (s : List A) (at : ℕ) (xs : List A) (i : ℕ) (ys : List A) → i + length ys ≤ length xs → at + length xs ≤ length s
+    → put (put s at xs) (at + i) ys ≡ put s at (put xs i ys)
+unfolding put
+put-inside {A} s at xs i ys within room =
+    let rest : List A = drop (at + length xs) s in
+    ap (λ (n : ℕ). put (take at s ++ (xs ++ rest)) (n + i) ys) (sym (length-take-le at s (omega arith)))
+    ∙ inside (take at s) xs rest i ys within
+    ∙ ap (λ (n : ℕ). take at s ++ (put xs i ys ++ drop (at + n) s)) (sym (length-put xs i ys within))
 
 -- ---- what is read
 

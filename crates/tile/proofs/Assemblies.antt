@@ -9,7 +9,7 @@ use lib.ListN.{length, take, drop, length-append}
 use lib.Dec.{leb, eqb}
 use borrow.Author.Tests.{leb-true, leb-false, lt-leb}
 use Rattle.numbers.specs.Bytes.{be, bytesOf, put}
-use Rattle.numbers.proofs.Laws.{length-bytes, length-put, be-put, be-bytesOf}
+use Rattle.numbers.proofs.Laws.{length-bytes, length-put, be-put, be-bytesOf, take-put, drop-put}
 use Rattle.types.specs.Markers.{SOT, EOC}
 use Rattle.tile.specs.Rewrite.{tileSize, cutTo, Room, rewritten, withRoom, judged}
 use Rattle.types.specs.Row.{entryAt}
@@ -18,7 +18,6 @@ use Rattle.tile.specs.declared.rewrite.TileSize.{TileSize}
 use Rattle.tile.specs.declared.assembly.Range.the-variants.{Kept}
 use Rattle.numbers.proofs.Choice.{by-test}
 use Rattle.tile.proofs.Ranges.{kept-inside, length-part, partsFrom, parts-kept}
-use Rattle.tile.proofs.Puts.{take-put, drop-put}
 use Rattle.tile.proofs.Headers.{size-room, length-cut}
 use Rattle.tile.specs.declared.rewrite.TileSize.the-variants as size
 

@@ -11,7 +11,7 @@ use borrow.Author.Tests.{leb-true}
 use denote.Enum.Declared.{tagOf}
 use types.Run.{OneOf}
 use Rattle.numbers.specs.Bytes.{be, put}
-use Rattle.numbers.proofs.Laws.{length-bytes, length-put, put-put, put-start}
+use Rattle.numbers.proofs.Laws.{length-bytes, length-put, put-put, put-start, take-put, drop-put, put-inside}
 use Rattle.types.specs.Markers.{SIZ}
 use Rattle.types.specs.declared.Refusal.{Refusal}
 use Rattle.tile.specs.Siz.{pair, oneTile}
@@ -21,7 +21,6 @@ use Rattle.tile.specs.declared.rewrite.Written.{Written}
 use Rattle.tile.specs.declared.rewrite.Written.the-variants.{Bytes, Refused}
 use Rattle.tile.proofs.rewrite.TileSize.{the-type}
 use Rattle.numbers.proofs.Choice.{by-test}
-use Rattle.tile.proofs.Puts.{take-put, drop-put, put-inside}
 use Rattle.tile.specs.declared.rewrite.TileSize.the-variants as size
 
 -- ---- the eight fields

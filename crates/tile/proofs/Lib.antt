@@ -1,4 +1,3 @@
-pub mod Puts
 pub mod Rewrites
 pub mod Headers
 pub mod Ranges

@@ -154,7 +154,7 @@ pub fn write_header(header: &[u8], size: TileSize, out: &mut [u8])
     requires { ⌜ length (now header) ≤ length (now out) ⌝ }
     ensures { λ _. ⌜ now (out .exit) ≡ put (now (out .entry)) 0 (cutTo size (now (header .entry))) ⌝ }
 {
-    bytes::copy(header, out);
+    numbers::copy_at(header, out, 0);
     if let TileSize::Cut { width, height } = size {
         write_one_tile(out, width, height);
     }

@@ -1,5 +1,5 @@
 -- The two kinds of offset, and how one becomes the other: only with the codestream's start, a file offset.
-use Prim.Native.Nat.{ℕ, _+_, _-_, _^_}
+use Prim.Native.Nat.{_+_, _-_, _^_}
 use mathlib.Core.Bool.{cond}
 use lib.Dec.{leb, ltb}
 use Rattle.types.specs.declared.FileOffset.{FileOffset}

@@ -1,7 +1,6 @@
 -- The rows that are left, put where the next row goes, make the table that all rows make of the one lent; a turn puts one.
-use Prim.Native.Nat.{_+_, _-_}
+use Prim.Native.Nat.{_-_}
 use native.Mathlib.Omega.{arith}
-use borrow.Author.Needs.{needs}
 use Rattle.types.proofs.Laws.{length-rows}
 use Rattle.types.proofs.Standing.{rows}
 use Rattle.parts.specs.Scan.{entriesFrom}

@@ -1,7 +1,6 @@
 -- A refusal writes nothing; where a header is decided there is room, and what is then written is what the definition says.
 mod Lts
 mod Tie
-use Prim.Native.Nat.{_/_}
 use native.Mathlib.Omega.{arith}
 use mathlib.Core.Path.{_≡_, refl, sym, _∙_}
 use lib.ListN.{length}

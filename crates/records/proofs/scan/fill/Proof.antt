@@ -1,7 +1,7 @@
 -- The records that are left, put where the next record goes, make the table that all records make of the one lent; a turn stores one.
 mod Lts
 mod Tie
-use Prim.Native.Nat.{_+_, _-_}
+use Prim.Native.Nat.{_-_}
 use native.Mathlib.Omega.{arith}
 use borrow.Author.Needs.{needs}
 use Rattle.numbers.proofs.Laws.{put-one}

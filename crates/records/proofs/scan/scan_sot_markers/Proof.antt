@@ -1,7 +1,6 @@
 -- The answer stands before a record is written: a refusal leaves the table, and a table's count is that of the records, which fit.
 mod Lts
 mod Tie
-use native.Mathlib.Omega.{arith}
 use mathlib.Core.Path.{_≡_, sym, _∙_}
 use lib.ListN.{length}
 use borrow.Author.Needs.{needs}

@@ -1,39 +1,17 @@
 -- The part is copied; where it has an Isot that is replaced in the copy.
-use Prim.Native.Nat.{ℕ, _+_, _-_}
+use Prim.Native.Nat.{ℕ, _+_}
 use native.Mathlib.Omega.{arith}
-use mathlib.Core.List.{List, _++_}
-use mathlib.Core.Path.{_≡_, sym, ap, _∙_}
-use lib.ListN.{length, take, drop}
+use mathlib.Core.List.{List}
+use mathlib.Core.Path.{sym, ap, _∙_}
 use borrow.Author.Needs.{needs}
 use Rattle.tile.proofs.Assemblies.{sot-long, patched-sot, patched-other}
-use Rattle.tile.proofs.Puts.{put-part, put-inside}
 use Rattle.numbers.specs.Bytes.{bytesOf, put}
-use Rattle.numbers.proofs.Laws.{length-bytes}
+use Rattle.numbers.proofs.Laws.{length-bytes, put-inside}
 use Rattle.tile.proofs.assembly.write_part.Statement.{statement}
 use Rattle.tile.proofs.assembly.write_part.Tie as tie
 
-abbrev start : tie.After-copy → tie.Start
-start c = c .before .before .before .before
-
--- the output with what was copied in it
-abbrev after : List ℕ → ℕ → List ℕ → List ℕ
-after out at part = take at out ++ (part ++ drop (length out - at) (drop at out))
-
-copied : (c : tie.After-copy)
-    → after (start c .args .out .now) (start c .args .at) (c .copy .last .1 .0) ≡ put (start c .args .out .now) (start c .args .at) (start c .args .part .now)
-copied c = put-part _ _ _ _ (c .copy .ensures .1)
-
-sub-copy : tie.Need-sub-copy
-sub-copy c = search needs
-
-part-copy-start : tie.Need-part-copy-start
-part-copy-start c = search needs
-
-part-copy-end : tie.Need-part-copy-end
-part-copy-end c = search needs
-
-copy-requires : tie.Need-copy-requires
-copy-requires c κs = search needs
+copy-at-requires : tie.Need-copy-at-requires
+copy-at-requires c κs = search needs
 
 is-sot-requires : tie.Need-is-sot-requires
 is-sot-requires c κs = search needs
@@ -54,9 +32,9 @@ returns c =
     let w = c .before .before in
     let t = w .before .before in
     let k = t .before .before .before .before in
-    let a = start k .args in
+    let a = k .before .before .before .before .args in
     let sot = sym (t .before .is-sot .ensures) ∙ t .if1 .taken in
-    w .write-u16 .ensures ∙ ap (λ (s : List ℕ). put s (a .at + 4) (bytesOf 2 0)) (copied k)
+    w .write-u16 .ensures ∙ ap (λ (s : List ℕ). put s (a .at + 4) (bytesOf 2 0)) (k .copy-at .ensures .1)
     ∙ put-inside (a .out .now) (a .at) (a .part .now) 4 (bytesOf 2 0) (omega (arith, length-bytes 2 0, sot-long _ sot)) (search needs)
     ∙ ap (put (a .out .now) (a .at)) (sym (patched-sot _ sot))
 
@@ -66,17 +44,14 @@ same-length-2 c = search needs
 returns-2 : tie.Need-returns-2
 returns-2 c =
     let k = c .before .before .before .before in
-    let a = start k .args in
-    copied k ∙ ap (put (a .out .now) (a .at)) (sym (patched-other _ (sym (c .before .is-sot .ensures) ∙ c .if1 .left)))
+    let a = k .before .before .before .before .args in
+    k .copy-at .ensures .1 ∙ ap (put (a .out .now) (a .at)) (sym (patched-other _ (sym (c .before .is-sot .ensures) ∙ c .if1 .left)))
 
 pub write-part-spec : {M : Type 1} → statement M
 write-part-spec =
     tie.close
     (tie.spec
-    sub-copy
-    part-copy-start
-    part-copy-end
-    copy-requires
+    copy-at-requires
     is-sot-requires
     add-write-u16
     write-u16-requires

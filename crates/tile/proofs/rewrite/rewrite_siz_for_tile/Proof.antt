@@ -5,7 +5,7 @@ use borrow.Author.Needs.{needs}
 use Rattle.numbers.specs.Bytes.{put}
 use Rattle.tile.proofs.Headers.{size-room, judged-bytes, over-refused, over-bytes, length-rewritten}
 use Rattle.tile.specs.declared.rewrite.TileSize.{TileSize}
-use Rattle.tile.specs.Rewrite.{judged, cutTo, rewriteAnswer, rewritten, rewriteOut}
+use Rattle.tile.specs.Rewrite.{cutTo, rewriteAnswer, rewritten, rewriteOut}
 use Rattle.tile.proofs.rewrite.rewrite_siz_for_tile.Statement.{statement}
 use Rattle.tile.proofs.rewrite.rewrite_siz_for_tile.Tie as tie
 

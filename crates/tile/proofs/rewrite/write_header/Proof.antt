@@ -2,12 +2,11 @@
 use native.Mathlib.Omega.{arith}
 use borrow.Author.Needs.{needs}
 use Rattle.tile.proofs.Headers.{cut-room, cut-kept, put-cut}
-use Rattle.tile.proofs.Puts.{put-copy}
 use Rattle.tile.proofs.rewrite.write_header.Statement.{statement}
 use Rattle.tile.proofs.rewrite.write_header.Tie as tie
 
-copy-requires : tie.Need-copy-requires
-copy-requires c κs = search needs
+copy-at-requires : tie.Need-copy-at-requires
+copy-at-requires c κs = search needs
 
 enum-known-size : tie.Need-enum-known-size
 enum-known-size c = search needs
@@ -16,7 +15,7 @@ write-one-tile-requires : tie.Need-write-one-tile-requires
 write-one-tile-requires c κs =
     let k = c .before .before .before .before .before .before in
     let s = k .before .before .before .before in
-    omega (arith, k .copy .kept, s .pre, cut-room _ _ _ _ (c .before .before .size .given .1) (s .pre .0))
+    omega (arith, k .copy-at .kept, s .pre, cut-room _ _ _ _ (c .before .before .size .given .1) (s .pre .0))
 
 same-length : tie.Need-same-length
 same-length c = search needs
@@ -25,7 +24,7 @@ returns : tie.Need-returns
 returns c =
     let k = c .before .before .before .before .before .before .before .before .before in
     let s = k .before .before .before .before in
-    cc (put-copy (s .args .out .now) (s .args .header .now), put-cut (s .args .size) _ _ (s .args .header .now) (s .args .out .now) (c .before .before .before .before .before .size .given .1) (s .pre .0) (s .pre .1))
+    cc (put-cut (s .args .size) _ _ (s .args .header .now) (s .args .out .now) (c .before .before .before .before .before .size .given .1) (s .pre .0) (s .pre .1))
 
 same-length-2 : tie.Need-same-length-2
 same-length-2 c = search needs
@@ -34,13 +33,13 @@ returns-2 : tie.Need-returns-2
 returns-2 c =
     let k = c .before .before .before in
     let s = k .before .before .before .before in
-    cc (put-copy (s .args .out .now) (s .args .header .now), cut-kept (s .args .size) (s .args .header .now) (c .match .keys2))
+    cc (cut-kept (s .args .size) (s .args .header .now) (c .match .keys2))
 
 pub write-header-spec : {M : Type 1} → statement M
 write-header-spec =
     tie.close
     (tie.spec
-    copy-requires
+    copy-at-requires
     enum-known-size
     write-one-tile-requires
     same-length
