@@ -10,49 +10,23 @@ use lib.Seq.{take-at, drop-at}
 use lib.Dec.{leb}
 use borrow.Author.Tests.{le-leb, lt-leb}
 use Rattle.numbers.specs.Bytes.{be, bytesOf}
-use Rattle.numbers.proofs.Laws.{length-bytes, be-front, be-rest, be-bytesOf}
+use Rattle.numbers.specs.Rows.{Row, row, bytesOfRows, widths}
+use Rattle.numbers.proofs.Laws.{be-rest}
+use Rattle.numbers.proofs.Rows.{length-rows, be-row, be-behind, be-one}
 use Rattle.types.specs.Markers.{SIZ}
+use Rattle.types.specs.IsoSiz.{ssizOf, Size, Csiz, componentRows, sizRows, Ranges}
 use Rattle.chain.specs.Chain.{on}
 use Rattle.reader.proofs.Sizes.{siz-info, move-siz, read-end}
 use Rattle.reader.proofs.Boxes.{box-extended, box-to-end, box-plain, content-part, passed-on, move-jp2c, move-past, found-end, found-on, found-jp2, content-found}
 use Rattle.reader.specs.Siz.{infoAt, sizRead}
 use Rattle.reader.specs.Search.{JP2C, boxAt, moveAt, isJp2, foundFrom, foundIn, contentOf}
-use Rattle.reader.specs.Iso.{Row, row, bytesOfRows, Form, plain, extended, last, IsoBox, boxRows, headerSize, boxBytes, Stands, boxesBytes, signature, jp2File, Others, ssizOf, Size, Csiz, componentRows, sizRows, Ranges}
+use Rattle.reader.specs.Iso.{Form, plain, extended, last, IsoBox, boxRows, headerSize, boxBytes, Stands, boxesBytes, signature, jp2File, Others}
 use Rattle.reader.specs.declared.search.BoxHeader.{BoxHeader}
 use Rattle.reader.specs.declared.search.Found.the-variants.{Codestream}
 use Rattle.reader.specs.declared.search.BoxRead.the-variants.{Box}
 use Rattle.reader.specs.declared.siz.SizRead.the-variants.{Siz}
 
--- ---- rows
-
--- the bytes of some rows
-widths : List Row → ℕ
-widths [] = 0
-widths (r ∷ rows) = r .width + widths rows
-
-length-rows : (rows : List Row) → length (bytesOfRows rows) ≡ widths rows
-unfolding bytesOfRows widths
-length-rows [] = refl
-length-rows (r ∷ rows) = rw (length-append, length-bytes, length-rows rows)
-
--- a row is read where the rows before it end
-be-row : (before : List Row) (width value : ℕ) (after : List Row) (rest : List ℕ) → value < 256 ^ width
-    → be width (bytesOfRows (before ++ (row width value ∷ after)) ++ rest) (widths before) ≡ value
-unfolding bytesOfRows widths
-be-row [] width value after rest h =
-    rw append-assoc (be-front width (bytesOf width value) _ 0 (omega (arith, length-bytes width value)) ∙ be-bytesOf width value h)
-be-row (r ∷ before) width value after rest h =
-    let tail : List ℕ = bytesOfRows (before ++ (row width value ∷ after)) ++ rest in
-    rw append-assoc
-    (ap (λ (n : ℕ). be width (bytesOf (r .width) (r .value) ++ tail) (n + widths before)) (sym (length-bytes (r .width) (r .value)))
-    ∙ be-rest width (bytesOf (r .width) (r .value)) tail (widths before)
-    ∙ be-row before width value after rest h)
-
 -- ---- a box
-
--- a read at a box that stands behind others
-be-behind : (k : ℕ) (front s : List ℕ) → be k (front ++ s) (length front) ≡ be k s 0
-be-behind k front s = ap (be k (front ++ s)) (sym (add-zero (length front))) ∙ be-rest k front s 0
 
 header-size : (form : Form) (T n : ℕ) → widths (boxRows form T n) ≡ headerSize form
 unfolding widths boxRows headerSize
@@ -197,10 +171,6 @@ module _ (boxes : List IsoBox) (c : IsoBox) (rest : List ℕ) (others : Others b
       ∙ rw (split, drop-at (front ++ rows) (c .DBox ++ rest) _ at) (take-at (c .DBox) rest (length (c .DBox)) refl)
 
 -- ---- SIZ
-
-be-one : (s : List ℕ) (at : ℕ) → be 1 s at ≡ getD s at 0
-unfolding be
-be-one s at = rw add-zero (omega arith)
 
 -- Ssiz, taken apart again
 ssiz-bits : (signed : Bool) (depth : ℕ) → (1 ≤ depth) × (depth ≤ 38) → (cond signed 128 0 + (depth - 1)) % 128 + 1 ≡ depth

@@ -1,3 +1,4 @@
 pub mod Markers
 pub mod Offsets
 pub mod Row
+pub mod IsoSiz

@@ -20,3 +20,25 @@ SOT = 0xff90
 -- end of codestream
 abbrev pub EOC : ℕ
 EOC = 0xffd9
+
+-- ---- markers that only the standard's own definitions name
+
+-- start of data
+abbrev pub SOD : ℕ
+SOD = 0xff93
+
+-- packet lengths of a tile-part
+abbrev pub PLT : ℕ
+PLT = 0xff58
+
+-- packed packet headers of a tile-part
+abbrev pub PPT : ℕ
+PPT = 0xff61
+
+-- start of packet
+abbrev pub SOP : ℕ
+SOP = 0xff91
+
+-- end of packet header
+abbrev pub EPH : ℕ
+EPH = 0xff92
