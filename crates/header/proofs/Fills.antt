@@ -61,12 +61,12 @@ module _ (s : List ℕ) (at : ℕ) where
   -- what is read at an entry's place is its record
   pub entry-read : (i offset : ℕ) {narrow wide index bytes : ℕ} → narrow ≡ indexSize (stlm s at) → wide ≡ lengthSize (stlm s at)
       → index ≡ cond (eqb narrow 0) i (be narrow s (at + 6 + i * (narrow + wide))) → bytes ≡ be wide s (at + 6 + i * (narrow + wide) + narrow)
-      → record { «tile_index» = index; offset = offset; length = bytes } ≡ recordOf offset (entryIn s at i)
+      → record { «tile_index» = index; offset = record { 0 = offset }; length = bytes } ≡ recordOf offset (entryIn s at i)
   unfolding entryIn
   entry-read i offset {narrow} {wide} {index} {bytes} n w x b =
       let x' : index ≡ entryIn s at i .index = x ∙ rw (n, w) in
       let b' : bytes ≡ entryIn s at i .bytes = b ∙ rw (n, w) in
-      λ j. record { «tile_index» = x' j; offset = offset; length = b' j }
+      λ j. record { «tile_index» = x' j; offset = record { 0 = offset }; length = b' j }
 
 module _ {B : Type 0} (L : Layout B) where
   -- the entries before the i-th are written: those that are left make the table that all make of the one lent
@@ -125,10 +125,10 @@ module _ {B : Type 0} (L : Layout B) where
 
         -- one more
         pub turn : {e : TilePartEntry} {next : List B} {to′ : ℕ} → ((k : ℕ) → getD s k 0 < 256) → e ≡ recordOf offset (entryIn s at i)
-            → next ≡ put table to (L .one e) → to′ ≡ to + L .width → Filled s at count from lent row next (e .offset + e .length) to′ (i + 1)
+            → next ≡ put table to (L .one e) → to′ ≡ to + L .width → Filled s at count from lent row next (e .offset .0 + e .length) to′ (i + 1)
         unfolding total x rest
         turn {e} {next} {to′} bytes found new place =
-            let ends : e .offset + e .length ≡ offset + x .bytes = ap (λ (r : TilePartEntry). r .offset + r .length) found in
+            let ends : e .offset .0 + e .length ≡ offset + x .bytes = ap (λ (r : TilePartEntry). r .offset .0 + r .length) found in
             let later : List TilePartEntry = placed (offset + x .bytes) rest in
             let kept =
             stored L later (new ∙ ap (λ (r : TilePartEntry). put table to (L .one r)) found) (omega (arith, fits, length-more L (recordOf offset x) later)) in

@@ -78,7 +78,7 @@ entriesIn s at i (suc n) = entryIn s at i ∷ entriesIn s at (i + 1) n
 
 -- an entry's record, whose tile-part starts at a place
 abbrev pub recordOf : ℕ → Entry → TilePartEntry
-recordOf from e = record { «tile_index» = e .index; offset = from; length = e .bytes }
+recordOf from e = record { «tile_index» = e .index; offset = record { 0 = from }; length = e .bytes }
 
 -- entries as records: the first starts at a place, each next where the one before ends
 unfoldable pub placed : ℕ → List Entry → List TilePartEntry

@@ -25,7 +25,7 @@ pub fn main_header_extent(prefix: &[u8]) -> MainHeaderExtent
         let step = crate::step::header_step(prefix, at);
         let (HeaderStep::Segment(next) | HeaderStep::Delimiter(next)) = step else {
             if let HeaderStep::Sot = step {
-                return MainHeaderExtent::Complete(CodestreamOffset(at as u64));
+                return MainHeaderExtent::Complete(CodestreamOffset::at(at));
             }
             return MainHeaderExtent::Truncated;
         };

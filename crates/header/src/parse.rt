@@ -43,7 +43,7 @@ fn walk(codestream: &[u8]) -> MainHeader
                 return MainHeader::Refused(refusal);
             }
             return MainHeader::Header(MainHeaderInfo {
-                first_sot_offset: CodestreamOffset(at as u64),
+                first_sot_offset: CodestreamOffset::at(at),
                 decode_header_length: (at - stripped) as u64,
                 tlm_entries: entries as u64,
             });
@@ -111,11 +111,11 @@ pub fn decide(codestream: &[u8], rows: u64, room: u64) -> MainHeader
 }
 
 // Writes the rows of all TLM entries, the first of which starts at `first_sot`.
-fn fill_table(codestream: &[u8], first_sot: u64, table: &mut [u8])
+fn fill_table(codestream: &[u8], first_sot: CodestreamOffset, table: &mut [u8])
     requires { ⌜ 2 ≤ length (now codestream) ⌝ }
     requires { ⌜ 18 * length (tlmEntries (now codestream) (walkFrom (now codestream) 2 .visits)) ≤ length (now table) ⌝ }
-    requires { ⌜ «first_sot» + length (tlmEntries (now codestream) (walkFrom (now codestream) 2 .visits)) * 2 ^ 32 < 2 ^ 64 ⌝ }
-    ensures { λ _. ⌜ now (table .exit) ≡ put (now (table .entry)) 0 (rowsOf (placed «first_sot» (tlmEntries (now (codestream .entry)) (walkFrom (now (codestream .entry)) 2 .visits)))) ⌝ }
+    requires { ⌜ «first_sot» .0 + length (tlmEntries (now codestream) (walkFrom (now codestream) 2 .visits)) * 2 ^ 32 < 2 ^ 64 ⌝ }
+    ensures { λ _. ⌜ now (table .exit) ≡ put (now (table .entry)) 0 (rowsOf (placed («first_sot» .0) (tlmEntries (now (codestream .entry)) (walkFrom (now (codestream .entry)) 2 .visits)))) ⌝ }
 {
     let mut at: usize = 2;
     let mut row: usize = 0;
@@ -144,7 +144,7 @@ pub fn parse_main_header(codestream: &[u8], table: &mut [u8], out: &mut [u8]) ->
         return answer;
     };
     let first_sot = info.first_sot_offset;
-    fill_table(codestream, first_sot.0, table);
+    fill_table(codestream, first_sot, table);
     crate::strip::strip(codestream, out);
     answer
 }

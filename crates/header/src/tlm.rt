@@ -10,6 +10,7 @@ ghost use Rattle.numbers.specs.Bytes.{be, put};
 ghost use Rattle.types.specs.Row.{rowsOf};
 ghost use Rattle.header.specs.Tlm.{indexSize, lengthSize, Within, tlmAt, Accepted, entryCount};
 ghost use Rattle.header.specs.Tlm.{recordOf, entryIn, entriesIn, placed, total};
+use types::CodestreamOffset;
 use types::ROW;
 use types::Refusal;
 use types::TilePartEntry;
@@ -78,10 +79,10 @@ fn entry_length(codestream: &[u8], place: usize, size: usize) -> u64
 }
 
 // The record of a segment's i-th entry, whose tile-part starts at `offset`.
-pub fn tlm_entry(codestream: &[u8], at: usize, i: usize, offset: u64) -> TilePartEntry
+pub fn tlm_entry(codestream: &[u8], at: usize, i: usize, offset: CodestreamOffset) -> TilePartEntry
     requires { ⌜ Accepted (now codestream) at ⌝ }
     requires { ⌜ i < entryCount (now codestream) at ⌝ }
-    ensures { λ r. ⌜ r ≡ recordOf offset (entryIn (now (codestream .entry)) at i) ⌝ }
+    ensures { λ r. ⌜ r ≡ recordOf (offset .0) (entryIn (now (codestream .entry)) at i) ⌝ }
 {
     let stlm = codestream[at + 5];
     let index_bytes = index_size(stlm);
@@ -102,16 +103,16 @@ pub fn fill_segment(
     codestream: &[u8],
     at: usize,
     count: usize,
-    from: u64,
+    from: CodestreamOffset,
     table: &mut [u8],
     row: usize,
-) -> u64
+) -> CodestreamOffset
     requires { ⌜ Accepted (now codestream) at ⌝ }
     requires { ⌜ count ≡ entryCount (now codestream) at ⌝ }
     requires { ⌜ row + 18 * count ≤ length (now table) ⌝ }
-    requires { ⌜ from + count * 2 ^ 32 < 2 ^ 64 ⌝ }
-    ensures { λ r. ⌜ r ≡ from + total (entriesIn (now (codestream .entry)) at 0 count) ⌝ }
-    ensures { λ _. ⌜ now (table .exit) ≡ put (now (table .entry)) row (rowsOf (placed from (entriesIn (now (codestream .entry)) at 0 count))) ⌝ }
+    requires { ⌜ from .0 + count * 2 ^ 32 < 2 ^ 64 ⌝ }
+    ensures { λ r. ⌜ r .0 ≡ from .0 + total (entriesIn (now (codestream .entry)) at 0 count) ⌝ }
+    ensures { λ _. ⌜ now (table .exit) ≡ put (now (table .entry)) row (rowsOf (placed (from .0) (entriesIn (now (codestream .entry)) at 0 count))) ⌝ }
 {
     let mut offset = from;
     let mut to = row;

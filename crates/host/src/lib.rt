@@ -10,6 +10,7 @@ ghost use Rattle.tile.specs.Assembly.{assemblyAnswer, assemblyOut};
 ghost use Rattle.host.specs.Answers.{extentNumber, extentValue, writtenNumber, writtenValue};
 use header::extent::MainHeaderExtent;
 use tile::rewrite::Written;
+use types::CodestreamOffset;
 
 #[no_mangle]
 pub extern "C" fn winterhasp_main_header_extent(prefix: &[u8], value: &mut u64) -> u32
@@ -37,7 +38,11 @@ pub extern "C" fn winterhasp_scan_sot_markers(
     ensures { λ _. ⌜ now (value .exit) ≡ scanValue (scanned (now (codestream .entry)) «first_sot_offset» (length (now (table .entry)) / 18)) ⌝ }
     ensures { λ _. ⌜ now (table .exit) ≡ scannedTable (now (codestream .entry)) «first_sot_offset» (now (table .entry)) ⌝ }
 {
-    let answer = parts::scan::scan_sot_markers(codestream, first_sot_offset, table);
+    let answer = parts::scan::scan_sot_markers(
+        codestream,
+        CodestreamOffset(first_sot_offset),
+        table,
+    );
     parts::scan::tell(answer, value)
 }
 

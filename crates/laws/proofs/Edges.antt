@@ -48,7 +48,7 @@ abbrev accepted : ℕ → ℕ → ℕ → MainHeader
 accepted first long entries = Header (record { «first_sot_offset» = record { 0 = first }; «decode_header_length» = long; «tlm_entries» = entries })
 
 abbrev entry : ℕ → ℕ → ℕ → TilePartEntry
-entry index offset long = record { «tile_index» = index; offset = offset; length = long }
+entry index offset long = record { «tile_index» = index; offset = record { 0 = offset }; length = long }
 
 pub A-header : judged A ≡ accepted 57 45 2
 unfolding walks

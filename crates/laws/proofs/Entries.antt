@@ -31,9 +31,9 @@ use Rattle.laws.specs.Demand3.{AllBytes}
 -- ---- a scan's entries
 
 pub record OfTile (s : List ℕ) (tile : ℕ) (e : TilePartEntry) : Type 0 where
-  pub stands : Stands s (e .offset) e
-  pub lsot : lsot s (e .offset) ≡ 10
-  pub isot : isot s (e .offset) ≡ tile
+  pub stands : Stands s (e .offset .0) e
+  pub lsot : lsot s (e .offset .0) ≡ 10
+  pub isot : isot s (e .offset .0) ≡ tile
 
 pub data All (P : TilePartEntry → Type 0) : List TilePartEntry → Type 0 where
   none : All P []
@@ -88,9 +88,9 @@ entries-of-tile s p tile = run-entries s tile (chain-run ended (moveAt s) (lengt
 entry-fits : (s : List ℕ) (tile : ℕ) → AllBytes s → length s ≤ 0xffff_ffff → (e : TilePartEntry) → OfTile s tile e → Fits e
 entry-fits s tile bytes short e o =
     let inside = o .stands .inside in
-    let index : e .«tile_index» ≡ isot s (e .offset) = ap (λ (x : TilePartEntry). x .«tile_index») (o .stands .entry) in
+    let index : e .«tile_index» ≡ isot s (e .offset .0) = ap (λ (x : TilePartEntry). x .«tile_index») (o .stands .entry) in
     record {
-      index = omega (arith, be-bound 2 s (e .offset + 4) bytes);
+      index = omega (arith, be-bound 2 s (e .offset .0 + 4) bytes);
       offset = omega arith;
       length = omega arith;
     }
@@ -104,7 +104,7 @@ row-here e rest f =
 entry-past : (front s : List ℕ) → entryAt (front ++ s) (length front) ≡ entryAt s 0
 entry-past front s =
     let first : be 2 (front ++ s) (length front) ≡ be 2 s 0 = ap (be 2 (front ++ s)) (sym (add-zero (length front))) ∙ be-rest 2 front s 0 in
-    λ i. record { «tile_index» = first i; offset = be-rest 8 front s 2 i; length = be-rest 8 front s 10 i }
+    λ i. record { «tile_index» = first i; offset = record { 0 = be-rest 8 front s 2 i }; length = be-rest 8 front s 10 i }
 
 row-ends : (front : List ℕ) (e : TilePartEntry) → length front + 18 ≡ length (front ++ rowOf e)
 row-ends front e = simp length-append (omega (arith, length-row e))
@@ -132,6 +132,6 @@ pub parts-in : (s : List ℕ) (tile : ℕ) {es : List TilePartEntry} → All (Of
 unfolding partsIn andPart bytesAt
 parts-in s tile none = refl
 parts-in s tile (more {e = e} {rest = rest} o all) =
-    let long : e .offset + e .length - e .offset ≡ e .length = omega arith in
+    let long : e .offset .0 + e .length - e .offset .0 ≡ e .length = omega arith in
     ap (λ (r : Range). andPart r s (partsIn s rest)) (range-kept s e (o .stands .inside))
-    ∙ ap₂ (λ (n : ℕ) (ps : List (List ℕ)). take n (drop (e .offset) s) ∷ ps) long (parts-in s tile all)
+    ∙ ap₂ (λ (n : ℕ) (ps : List (List ℕ)). take n (drop (e .offset .0) s) ∷ ps) long (parts-in s tile all)

@@ -52,7 +52,7 @@ all-bytes (x ∷ rest) e zero = ltb-true x 256 (both (ltb x 256) (allBelow rest)
 all-bytes (x ∷ rest) e (suc i) = all-bytes rest (both (ltb x 256) (allBelow rest) e .1) i
 
 abbrev entry : ℕ → ℕ → ℕ → TilePartEntry
-entry index offset long = record { «tile_index» = index; offset = offset; length = long }
+entry index offset long = record { «tile_index» = index; offset = record { 0 = offset }; length = long }
 
 A-bytes : allBelow A ≡ true
 unfolding walks allBelow

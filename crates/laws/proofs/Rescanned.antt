@@ -32,12 +32,12 @@ module _ (s : List ℕ) (tile : ℕ) (e : TilePartEntry) (o : OfTile s tile e) (
   unfolding bytesAt
   length-bytesAt = simp (length-take, length-drop) (omega (arith, o .stands .inside))
 
-  read-part : (k i : ℕ) → i + k ≤ e .length → be k (bytesAt s e) i ≡ be k s (e .offset + i)
+  read-part : (k i : ℕ) → i + k ≤ e .length → be k (bytesAt s e) i ≡ be k s (e .offset .0 + i)
   unfolding bytesAt
-  read-part k i h = be-part k s (e .offset) (e .length) i h
+  read-part k i h = be-part k s (e .offset .0) (e .length) i h
 
   part-begins : be 2 (bytesAt s e) 0 ≡ SOT
-  part-begins = read-part 2 0 (omega arith) ∙ ap (be 2 s) (add-zero (e .offset)) ∙ o .stands .marker
+  part-begins = read-part 2 0 (omega arith) ∙ ap (be 2 s) (add-zero (e .offset .0)) ∙ o .stands .marker
 
   pub part-tile : be 2 (bytesAt s e) 4 ≡ tile
   part-tile = read-part 2 4 (omega arith) ∙ o .isot
@@ -63,24 +63,24 @@ module _ (s : List ℕ) (tile : ℕ) (e : TilePartEntry) (o : OfTile s tile e) (
   patched-isot =
       rw patched-is (be-put 2 (bytesAt s e) 4 (bytesOf 2 0) 0 (omega (arith, length-bytesAt)) (omega (arith, length-bytes 2 0)) ∙ be-bytesOf 2 0 (omega arith))
 
-  patched-psot : be 4 (patched (bytesAt s e)) 6 ≡ psot s (e .offset)
+  patched-psot : be 4 (patched (bytesAt s e)) 6 ≡ psot s (e .offset .0)
   unfolding bytesOf
   patched-psot =
       rw patched-is (be-put-after 4 (bytesAt s e) 4 (bytesOf 2 0) 0 (omega (arith, length-bytesAt)) ∙ read-part 4 6 (omega arith))
 
   -- ---- behind any front, and with anything after it
 
-  module _ (some : psot s (e .offset) ≡ 0 → ⊥) (front y : List ℕ) where
+  module _ (some : psot s (e .offset .0) ≡ 0 → ⊥) (front y : List ℕ) where
     read-at : (k i : ℕ) → i + k ≤ e .length → be k (front ++ (patched (bytesAt s e) ++ y)) (length front + i) ≡ be k (patched (bytesAt s e)) i
     read-at k i h = be-rest k front (patched (bytesAt s e) ++ y) i ∙ be-front k (patched (bytesAt s e)) y i (omega (arith, patched-long))
 
-    step-there : scanStepAt (front ++ (patched (bytesAt s e) ++ y)) (length front) ≡ Part (record { «tile_index» = 0; offset = length front; length = e .length })
+    step-there : scanStepAt (front ++ (patched (bytesAt s e) ++ y)) (length front) ≡ Part (record { «tile_index» = 0; offset = record { 0 = length front }; length = e .length })
     step-there =
         let a : List ℕ = front ++ (patched (bytesAt s e) ++ y) in
         let marker : be 2 a (length front) ≡ SOT = ap (be 2 a) (sym (add-zero (length front))) ∙ read-at 2 0 (omega arith) ∙ patched-marker in
         let zero : isot a (length front) ≡ 0 = read-at 2 4 (omega arith) ∙ patched-isot in
-        let kept : psot a (length front) ≡ psot s (e .offset) = read-at 4 6 (omega arith) ∙ patched-psot in
-        let size : psot s (e .offset) ≡ e .length = ⊎-elim (λ l. l) (λ z. absurd (some (z .0))) (o .stands .long) in
+        let kept : psot a (length front) ≡ psot s (e .offset .0) = read-at 4 6 (omega arith) ∙ patched-psot in
+        let size : psot s (e .offset .0) ≡ e .length = ⊎-elim (λ l. l) (λ z. absurd (some (z .0))) (o .stands .long) in
         let whole : length a ≡ length front + (e .length + length y) = simp length-append (omega (arith, patched-long)) in
         step-sot a (length front) (omega arith) (sot-no-eoc a (length front) marker) (omega arith) marker
         ∙ sot-part a (length front) (read-at 2 2 (omega arith) ∙ patched-lsot) (λ z. some (sym kept ∙ z)) (omega arith)
@@ -110,10 +110,10 @@ unfolding underZero
 scans-end a at e = record { stops = ap (λ (c : Chain ScanEnd). c .ended) (scan-ended a at e); entries = entries-ended a at e }
 
 scans-part : (a : List ℕ) (at : ℕ) (e : TilePartEntry) (es : List TilePartEntry)
-    → scanStepAt a at ≡ Part (record { «tile_index» = 0; offset = at; length = e .length }) → Scans a (at + e .length) es → Scans a at (e ∷ es)
+    → scanStepAt a at ≡ Part (record { «tile_index» = 0; offset = record { 0 = at }; length = e .length }) → Scans a (at + e .length) es → Scans a at (e ∷ es)
 unfolding underZero also
 scans-part a at e es found after =
-    let part : TilePartEntry = record { «tile_index» = 0; offset = at; length = e .length } in
+    let part : TilePartEntry = record { «tile_index» = 0; offset = record { 0 = at }; length = e .length } in
     record {
       stops = ap (λ (c : Chain ScanEnd). c .ended) (scan-part a at part found) ∙ after .stops;
       entries = entries-part a at part found ∙ ap (λ (l : List TilePartEntry). part ∷ l) (after .entries);

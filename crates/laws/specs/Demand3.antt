@@ -53,7 +53,7 @@ SplitAgain s es = partsOf (joined s es) ≡ map (bytesAt s) es
 
 unfoldable pub NoPsot0 : List ℕ → List TilePartEntry → Type 0
 NoPsot0 s [] = Unit {0}
-NoPsot0 s (e ∷ rest) = (psot s (e .offset) ≡ 0 → ⊥) × NoPsot0 s rest
+NoPsot0 s (e ∷ rest) = (psot s (e .offset .0) ≡ 0 → ⊥) × NoPsot0 s rest
 
 -- the length of the SIZ segment, whose marker stands at 2
 abbrev pub lsiz : List ℕ → ℕ
@@ -82,7 +82,7 @@ pub record Assembles (s : List ℕ) (tile : ℕ) (es : List TilePartEntry) (out 
 -- entries from a position on, each where the one before ends, with the same lengths in order and index 0
 unfoldable pub underZero : ℕ → List TilePartEntry → List TilePartEntry
 underZero at [] = []
-underZero at (e ∷ rest) = record { «tile_index» = 0; offset = at; length = e .length } ∷ underZero (at + e .length) rest
+underZero at (e ∷ rest) = record { «tile_index» = 0; offset = record { 0 = at }; length = e .length } ∷ underZero (at + e .length) rest
 
 -- a codestream with this header and the parts of these entries
 pub record Standing (header : List ℕ) (es : List TilePartEntry) (codestream : List ℕ) : Type 0 where

@@ -27,11 +27,11 @@ use Rattle.parts.proofs.Splits.{step-few, step-part, end-rest, end-psot
 
 -- Psot is the length, or it is 0 in the last
 Ends : List ℕ → TilePartEntry → List TilePartEntry → Type 0
-Ends s e rest = (psot s (e .offset) ≡ e .length) ⊎ ((psot s (e .offset) ≡ 0) × (rest ≡ []))
+Ends s e rest = (psot s (e .offset .0) ≡ e .length) ⊎ ((psot s (e .offset .0) ≡ 0) × (rest ≡ []))
 
 data Parts (s : List ℕ) : List TilePartEntry → Type 0 where
   none : Parts s []
-  more : {e : TilePartEntry} {rest : List TilePartEntry} → Stands s (e .offset) e → Ends s e rest → Parts s rest → Parts s (e ∷ rest)
+  more : {e : TilePartEntry} {rest : List TilePartEntry} → Stands s (e .offset .0) e → Ends s e rest → Parts s rest → Parts s (e ∷ rest)
 
 -- at the end of the codestream the scan goes no further
 at-end : (s : List ℕ) {at stop : ℕ} {visits : List Visit} → at ≡ length s → Run (moveAt s) at visits stop → visits ≡ []
@@ -56,7 +56,7 @@ run-parts s t (step {at = at} found past rest) = one-more s t at found rest (run
 
 -- ---- one part of the joined buffer, with what stands before and after it
 
-module _ (s : List ℕ) (e : TilePartEntry) (stands : Stands s (e .offset) e) (long : 12 ≤ e .length) (before after : List ℕ) where
+module _ (s : List ℕ) (e : TilePartEntry) (stands : Stands s (e .offset .0) e) (long : 12 ≤ e .length) (before after : List ℕ) where
   buffer : List ℕ
   buffer = before ++ (bytesAt s e ++ after)
 
@@ -68,23 +68,23 @@ module _ (s : List ℕ) (e : TilePartEntry) (stands : Stands s (e .offset) e) (l
   unfolding buffer
   length-buffer = simp (length-append, length-bytesAt)
 
-  read : (k i : ℕ) → i + k ≤ e .length → be k buffer (length before + i) ≡ be k s (e .offset + i)
+  read : (k i : ℕ) → i + k ≤ e .length → be k buffer (length before + i) ≡ be k s (e .offset .0 + i)
   unfolding buffer bytesAt
   read k i h =
       be-rest k before (bytesAt s e ++ after) i
       ∙ be-front k (bytesAt s e) after i (omega (arith, length-bytesAt))
-      ∙ be-part k s (e .offset) (e .length) i h
+      ∙ be-part k s (e .offset .0) (e .length) i h
 
   marker : be 2 buffer (length before) ≡ SOT
   marker =
       ap (be 2 buffer) (sym (add-zero (length before)))
       ∙ read 2 0 (omega arith)
-      ∙ ap (be 2 s) (add-zero (e .offset))
+      ∙ ap (be 2 s) (add-zero (e .offset .0))
       ∙ stands .marker
 
-  found : (psot s (e .offset) ≡ e .length) ⊎ ((psot s (e .offset) ≡ 0) × (after ≡ [])) → splitStepAt buffer (length before) ≡ Part (length before + e .length)
+  found : (psot s (e .offset .0) ≡ e .length) ⊎ ((psot s (e .offset .0) ≡ 0) × (after ≡ [])) → splitStepAt buffer (length before) ≡ Part (length before + e .length)
   found ends =
-      let p : psot buffer (length before) ≡ psot s (e .offset) = read 4 6 (omega arith) in
+      let p : psot buffer (length before) ≡ psot s (e .offset .0) = read 4 6 (omega arith) in
       let some = stands .some in
       let n = length-buffer in
       step-part buffer (length before) (omega arith) marker
@@ -102,7 +102,7 @@ module _ (s : List ℕ) (e : TilePartEntry) (stands : Stands s (e .offset) e) (l
       ∙ take-at (bytesAt s e) after (e .length) length-bytesAt
 
   -- a part, and the parts of what stands after it
-  part-out : (psot s (e .offset) ≡ e .length) ⊎ ((psot s (e .offset) ≡ 0) × (after ≡ []))
+  part-out : (psot s (e .offset .0) ≡ e .length) ⊎ ((psot s (e .offset .0) ≡ 0) × (after ≡ []))
       → partsFrom (before ++ (bytesAt s e ++ after)) (length before) ≡ bytesAt s e ∷ partsFrom ((before ++ bytesAt s e) ++ after) (length (before ++ bytesAt s e))
   unfolding buffer
   part-out ends =

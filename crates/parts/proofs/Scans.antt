@@ -104,8 +104,8 @@ step-told s at =
 pub part-stands : (s : List ℕ) (at : ℕ) (e : TilePartEntry) → scanStepAt s at ≡ Part e → Stands s at e
 part-stands s at e found = rw found at (step-told s at)
 
-pub part-offset : (s : List ℕ) (at : ℕ) (e : TilePartEntry) → scanStepAt s at ≡ Part e → e .offset ≡ at
-part-offset s at e found = ap (λ (x : TilePartEntry). x .offset) (part-stands s at e found .entry)
+pub part-offset : (s : List ℕ) (at : ℕ) (e : TilePartEntry) → scanStepAt s at ≡ Part e → e .offset .0 ≡ at
+part-offset s at e found = ap (λ (x : TilePartEntry). x .offset .0) (part-stands s at e found .entry)
 
 -- a tile-part is passed to where it ends
 pub part-on : (s : List ℕ) (at : ℕ) (e : TilePartEntry) → scanStepAt s at ≡ Part e → moveAt s at ≡ on (at + e .length)
@@ -122,8 +122,8 @@ pub record Passed (s : List ℕ) (at next : ℕ) : Type 0 where
 passed : (s : List ℕ) (at next : ℕ) (found : ScanStep) → Told s at found → moveOf found ≡ on next → Passed s at next
 unfolding moveOf
 passed s at next (Part e) told m =
-    let o : e .offset ≡ at = ap (λ (x : TilePartEntry). x .offset) (told .entry) in
-    let n : e .offset + e .length ≡ next = cc in
+    let o : e .offset .0 ≡ at = ap (λ (x : TilePartEntry). x .offset .0) (told .entry) in
+    let n : e .offset .0 + e .length ≡ next = cc in
     let l : e .length ≡ next - at = omega arith in
     let same : e ≡ entryOf s at (next - at) = told .entry ∙ ap (entryOf s at) l in
     record { past = omega arith; within = omega arith; stands = rw same at told }
@@ -214,9 +214,9 @@ leads-on s at n h =
 
 -- records, field by field
 pub same-entry : {i j at n m : ℕ} → i ≡ j → n ≡ m
-    → _≡_ {A = TilePartEntry} (record { «tile_index» = i; offset = at; length = n }) (record { «tile_index» = j; offset = at; length = m })
+    → _≡_ {A = TilePartEntry} (record { «tile_index» = i; offset = record { 0 = at }; length = n }) (record { «tile_index» = j; offset = record { 0 = at }; length = m })
 same-entry e f = cc
 
 pub same-part : {i j at n m : ℕ} → i ≡ j → n ≡ m
-    → _≡_ {A = ScanStep} (Part (record { «tile_index» = i; offset = at; length = n })) (Part (record { «tile_index» = j; offset = at; length = m }))
+    → _≡_ {A = ScanStep} (Part (record { «tile_index» = i; offset = record { 0 = at }; length = n })) (Part (record { «tile_index» = j; offset = record { 0 = at }; length = m }))
 same-part e f = ap Part (same-entry e f)

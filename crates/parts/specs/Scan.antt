@@ -21,7 +21,7 @@ refusal number place = record { number = number; place = place }
 
 -- the record of a tile-part of n bytes
 abbrev pub entryOf : List ℕ → ℕ → ℕ → TilePartEntry
-entryOf s at n = record { «tile_index» = isot s at; offset = at; length = n }
+entryOf s at n = record { «tile_index» = isot s at; offset = record { 0 = at }; length = n }
 
 -- EOC stands there, both bytes of it
 unfoldable pub eocAt : List ℕ → ℕ → Bool
@@ -56,7 +56,7 @@ pub data ScanEnd : Type 0 where
 
 -- a tile-part is passed
 unfoldable pub moveOf : ScanStep → Move ScanEnd
-moveOf (step.Part e) = on (e .offset + e .length)
+moveOf (step.Part e) = on (e .offset .0 + e .length)
 moveOf step.Ended = end ended
 moveOf (step.Refused r) = end (refused r)
 

@@ -11,7 +11,7 @@ use Rattle.types.specs.declared.TilePartEntry.{TilePartEntry}
 -- below the limit; where there is none the two positions are one
 pub data Adjoining (limit : ℕ) : ℕ → List TilePartEntry → ℕ → Type 0 where
   none : {at : ℕ} → Adjoining limit at [] at
-  more : {at to : ℕ} {e : TilePartEntry} {rest : List TilePartEntry} → e .offset ≡ at → 0 < e .length → at + e .length ≤ limit
+  more : {at to : ℕ} {e : TilePartEntry} {rest : List TilePartEntry} → e .offset .0 ≡ at → 0 < e .length → at + e .length ≤ limit
       → Adjoining limit (at + e .length) rest to → Adjoining limit at (e ∷ rest) to
 
 -- the entries of a tile, in order
@@ -21,7 +21,7 @@ ofTile t (e ∷ rest) = cond (eqb (e .«tile_index») t) (e ∷ ofTile t rest) (
 
 -- the bytes of an entry
 unfoldable pub bytesAt : List ℕ → TilePartEntry → List ℕ
-bytesAt s e = take (e .length) (drop (e .offset) s)
+bytesAt s e = take (e .length) (drop (e .offset .0) s)
 
 -- the bytes of entries, one after the other
 unfoldable pub joined : List ℕ → List TilePartEntry → List ℕ

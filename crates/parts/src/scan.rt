@@ -6,6 +6,7 @@ ghost use Rattle.numbers.specs.Bytes.{put};
 ghost use Rattle.types.specs.Row.{rowsOf};
 ghost use Rattle.parts.specs.Sot.{psot};
 ghost use Rattle.parts.specs.Scan.{entryOf, eocAt, partAt, sotStepAt, scanStepAt, scanFrom, judged, entriesFrom, scanned, scanNumber, scanValue, scannedTable};
+use types::CodestreamOffset;
 use types::ROW;
 use types::Refusal;
 use types::TilePartEntry;
@@ -41,7 +42,7 @@ fn entry_at(codestream: &[u8], at: usize, bytes: u64) -> TilePartEntry
     let tile_index = numbers::read_u16(codestream, at + 4);
     TilePartEntry {
         tile_index,
-        offset: at as u64,
+        offset: CodestreamOffset::at(at),
         length: bytes,
     }
 }
@@ -121,7 +122,7 @@ fn judge(codestream: &[u8], start: usize) -> Scanned
         match step {
             ScanStep::Part(entry) => {
                 count += 1;
-                at = types::end_of(entry) as usize;
+                at = types::end_of(entry).position();
             }
             ScanStep::Ended => return Scanned::Table(count),
             ScanStep::Refused(refusal) => return Scanned::Refused(refusal),
@@ -130,10 +131,10 @@ fn judge(codestream: &[u8], start: usize) -> Scanned
 }
 
 // What a scan into a table of so many rows answers; a start at or past the end gives no record.
-pub fn decide(codestream: &[u8], first_sot_offset: u64, rows: u64) -> Scanned
-    ensures { λ r. ⌜ r ≡ scanned (now (codestream .entry)) «first_sot_offset» rows ⌝ }
+pub fn decide(codestream: &[u8], first_sot_offset: CodestreamOffset, rows: u64) -> Scanned
+    ensures { λ r. ⌜ r ≡ scanned (now (codestream .entry)) («first_sot_offset» .0) rows ⌝ }
 {
-    let judgement = judge(codestream, first_sot_offset as usize);
+    let judgement = judge(codestream, first_sot_offset.position());
     let Scanned::Table(count) = judgement else {
         return judgement;
     };
@@ -182,14 +183,23 @@ fn fill(codestream: &[u8], start: usize, count: usize, table: &mut [u8])
 }
 
 // The table has as many rows as it has room for.
-pub fn scan_sot_markers(codestream: &[u8], first_sot_offset: u64, table: &mut [u8]) -> Scanned
-    ensures { λ r. ⌜ r ≡ scanned (now (codestream .entry)) «first_sot_offset» (length (now (table .entry)) / 18) ⌝ }
-    ensures { λ _. ⌜ now (table .exit) ≡ scannedTable (now (codestream .entry)) «first_sot_offset» (now (table .entry)) ⌝ }
+pub fn scan_sot_markers(
+    codestream: &[u8],
+    first_sot_offset: CodestreamOffset,
+    table: &mut [u8],
+) -> Scanned
+    ensures { λ r. ⌜ r ≡ scanned (now (codestream .entry)) («first_sot_offset» .0) (length (now (table .entry)) / 18) ⌝ }
+    ensures { λ _. ⌜ now (table .exit) ≡ scannedTable (now (codestream .entry)) («first_sot_offset» .0) (now (table .entry)) ⌝ }
 {
     let answer = decide(codestream, first_sot_offset, (table.len() / ROW) as u64);
     let Scanned::Table(count) = answer else {
         return answer;
     };
-    fill(codestream, first_sot_offset as usize, count as usize, table);
+    fill(
+        codestream,
+        first_sot_offset.position(),
+        count as usize,
+        table,
+    );
     answer
 }

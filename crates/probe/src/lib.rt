@@ -19,6 +19,7 @@ ghost use Rattle.probe.specs.Answers.{sizNumber, sizWidth, sizHeight, si
 use reader::search::Found;
 use reader::siz::SampleType;
 use reader::siz::SizRead;
+use types::CodestreamOffset;
 use types::TilePartEntry;
 
 // The scan into a table of records. `value`: entries.
@@ -33,7 +34,11 @@ pub extern "C" fn winterhasp_scan_records(
     ensures { λ _. ⌜ now (value .exit) ≡ scanValue (scanned (now (codestream .entry)) «first_sot_offset» (length (now (table .entry)))) ⌝ }
     ensures { λ _. ⌜ now (table .exit) ≡ scannedRecords (now (codestream .entry)) «first_sot_offset» (now (table .entry)) ⌝ }
 {
-    let answer = records::scan::scan_sot_markers(codestream, first_sot_offset, table);
+    let answer = records::scan::scan_sot_markers(
+        codestream,
+        CodestreamOffset(first_sot_offset),
+        table,
+    );
     parts::scan::tell(answer, value)
 }
 

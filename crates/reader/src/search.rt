@@ -4,7 +4,10 @@ ghost use mathlib.Core.Path.{_≡_};
 ghost use Prim.Native.Nat.{_+_, _≤_};
 ghost use lib.ListN.{length, take, drop};
 ghost use Rattle.reader.specs.Search.{refused, boxAt, isJp2, content, passed, moveOf, moveAt, foundFrom, foundIn, contentOf};
+use types::CodestreamOffset;
 use types::FileOffset;
+use types::InCodestream;
+use types::InFile;
 use types::Refusal;
 use types::markers::SOC;
 
@@ -107,9 +110,12 @@ fn content_of_box(size: u64, at: u64, found: BoxHeader) -> Found
     if 0xffff_ffff_ffff_ffff - at < found.length {
         return refuse(16, at);
     }
-    let from = at + found.header;
-    let to = numbers::minimum(at + found.length, size);
-    Found::Codestream(FileOffset(from), numbers::clamped_sub(to, from))
+    let start = FileOffset(at + found.header);
+    let end = FileOffset(numbers::minimum(at + found.length, size));
+    match end.in_codestream(start) {
+        InCodestream::At(length) => Found::Codestream(start, length.0),
+        InCodestream::Before => Found::Codestream(start, 0),
+    }
 }
 
 // Past a box of another type.
@@ -191,7 +197,11 @@ pub fn codestream_of(file: &[u8]) -> &[u8]
     let Found::Codestream(start, length) = found else {
         return &file[..0];
     };
-    let from = start.0 as usize;
-    let to = from + length as usize;
+    let end = CodestreamOffset(length).in_file(start);
+    let InFile::At(stop) = end else {
+        return &file[..0];
+    };
+    let from = start.position();
+    let to = stop.position();
     &file[from..to]
 }

@@ -5,7 +5,7 @@ use Rattle.types.specs.declared.TilePartEntry.{TilePartEntry}
 
 -- a record of nothing
 abbrev pub none : TilePartEntry
-none = record { «tile_index» = 0; offset = 0; length = 0 }
+none = record { «tile_index» = 0; offset = record { 0 = 0 }; length = 0 }
 
 unfoldable pub blank : List TilePartEntry
 blank = replicate 2048 none

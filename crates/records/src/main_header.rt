@@ -11,6 +11,7 @@ ghost use Rattle.header.specs.Parse.{parsed, outAfter};
 ghost use Rattle.records.specs.MainHeader.{recordsAfter};
 use header::parse::MainHeader;
 use header::walk::WalkStep;
+use types::CodestreamOffset;
 use types::TilePartEntry;
 
 // Writes the records of a segment's entries from `row` on, the first of which starts at `from`, and gives where the last
@@ -19,16 +20,16 @@ pub fn fill_segment(
     codestream: &[u8],
     at: usize,
     count: usize,
-    from: u64,
+    from: CodestreamOffset,
     table: &mut [TilePartEntry],
     row: usize,
-) -> u64
+) -> CodestreamOffset
     requires { ⌜ Accepted (now codestream) at ⌝ }
     requires { ⌜ count ≡ entryCount (now codestream) at ⌝ }
     requires { ⌜ row + count ≤ length (now table) ⌝ }
-    requires { ⌜ from + count * 2 ^ 32 < 2 ^ 64 ⌝ }
-    ensures { λ r. ⌜ r ≡ from + total (entriesIn (now (codestream .entry)) at 0 count) ⌝ }
-    ensures { λ _. ⌜ now (table .exit) ≡ put (now (table .entry)) row (placed from (entriesIn (now (codestream .entry)) at 0 count)) ⌝ }
+    requires { ⌜ from .0 + count * 2 ^ 32 < 2 ^ 64 ⌝ }
+    ensures { λ r. ⌜ r .0 ≡ from .0 + total (entriesIn (now (codestream .entry)) at 0 count) ⌝ }
+    ensures { λ _. ⌜ now (table .exit) ≡ put (now (table .entry)) row (placed (from .0) (entriesIn (now (codestream .entry)) at 0 count)) ⌝ }
 {
     let mut offset = from;
     for i in 0..count {
@@ -40,11 +41,11 @@ pub fn fill_segment(
 }
 
 // Writes the records of all TLM entries, the first of which starts at `first_sot`.
-pub fn fill_table(codestream: &[u8], first_sot: u64, table: &mut [TilePartEntry])
+pub fn fill_table(codestream: &[u8], first_sot: CodestreamOffset, table: &mut [TilePartEntry])
     requires { ⌜ 2 ≤ length (now codestream) ⌝ }
     requires { ⌜ length (tlmEntries (now codestream) (walkFrom (now codestream) 2 .visits)) ≤ length (now table) ⌝ }
-    requires { ⌜ «first_sot» + length (tlmEntries (now codestream) (walkFrom (now codestream) 2 .visits)) * 2 ^ 32 < 2 ^ 64 ⌝ }
-    ensures { λ _. ⌜ now (table .exit) ≡ put (now (table .entry)) 0 (placed «first_sot» (tlmEntries (now (codestream .entry)) (walkFrom (now (codestream .entry)) 2 .visits))) ⌝ }
+    requires { ⌜ «first_sot» .0 + length (tlmEntries (now codestream) (walkFrom (now codestream) 2 .visits)) * 2 ^ 32 < 2 ^ 64 ⌝ }
+    ensures { λ _. ⌜ now (table .exit) ≡ put (now (table .entry)) 0 (placed («first_sot» .0) (tlmEntries (now (codestream .entry)) (walkFrom (now (codestream .entry)) 2 .visits))) ⌝ }
 {
     let mut at: usize = 2;
     let mut row: usize = 0;
@@ -77,7 +78,7 @@ pub fn parse_main_header(
         return answer;
     };
     let first_sot = info.first_sot_offset;
-    fill_table(codestream, first_sot.0, table);
+    fill_table(codestream, first_sot, table);
     header::strip::strip(codestream, out);
     answer
 }

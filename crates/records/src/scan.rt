@@ -6,6 +6,7 @@ ghost use Rattle.numbers.specs.Bytes.{put};
 ghost use Rattle.parts.specs.Scan.{entriesFrom, scanned};
 ghost use Rattle.records.specs.Scan.{scannedRecords};
 use parts::scan::Scanned;
+use types::CodestreamOffset;
 use types::TilePartEntry;
 
 // Writes the records, one after the other.
@@ -25,16 +26,21 @@ pub fn fill(codestream: &[u8], start: usize, count: usize, table: &mut [TilePart
 // A start at or past the end gives no record.
 pub fn scan_sot_markers(
     codestream: &[u8],
-    first_sot_offset: u64,
+    first_sot_offset: CodestreamOffset,
     table: &mut [TilePartEntry],
 ) -> Scanned
-    ensures { λ r. ⌜ r ≡ scanned (now (codestream .entry)) «first_sot_offset» (length (now (table .entry))) ⌝ }
-    ensures { λ _. ⌜ now (table .exit) ≡ scannedRecords (now (codestream .entry)) «first_sot_offset» (now (table .entry)) ⌝ }
+    ensures { λ r. ⌜ r ≡ scanned (now (codestream .entry)) («first_sot_offset» .0) (length (now (table .entry))) ⌝ }
+    ensures { λ _. ⌜ now (table .exit) ≡ scannedRecords (now (codestream .entry)) («first_sot_offset» .0) (now (table .entry)) ⌝ }
 {
     let answer = parts::scan::decide(codestream, first_sot_offset, table.len() as u64);
     let Scanned::Table(count) = answer else {
         return answer;
     };
-    fill(codestream, first_sot_offset as usize, count as usize, table);
+    fill(
+        codestream,
+        first_sot_offset.position(),
+        count as usize,
+        table,
+    );
     answer
 }

@@ -8,6 +8,7 @@ ghost use Rattle.records.specs.Scan.{scannedRecords};
 ghost use Rattle.records.specs.Tables.{blank};
 use header::parse::MainHeader;
 use parts::scan::Scanned;
+use types::CodestreamOffset;
 use types::TilePartEntry;
 
 pub struct ScanTable {
@@ -25,7 +26,7 @@ fn new_table() -> [TilePartEntry; 2048]
 {
     let none = TilePartEntry {
         tile_index: 0,
-        offset: 0,
+        offset: CodestreamOffset(0),
         length: 0,
     };
     [none; 2048]
@@ -43,9 +44,9 @@ fn header_with(answer: MainHeader, table: [TilePartEntry; 2048]) -> HeaderTable
     HeaderTable { answer, table }
 }
 
-pub fn scan_table(codestream: &[u8], first_sot_offset: u64) -> ScanTable
-    ensures { λ r. ⌜ r .answer ≡ scanned (now (codestream .entry)) «first_sot_offset» 2048 ⌝ }
-    ensures { λ r. ⌜ r .table ≡ scannedRecords (now (codestream .entry)) «first_sot_offset» blank ⌝ }
+pub fn scan_table(codestream: &[u8], first_sot_offset: CodestreamOffset) -> ScanTable
+    ensures { λ r. ⌜ r .answer ≡ scanned (now (codestream .entry)) («first_sot_offset» .0) 2048 ⌝ }
+    ensures { λ r. ⌜ r .table ≡ scannedRecords (now (codestream .entry)) («first_sot_offset» .0) blank ⌝ }
 {
     let mut table = new_table();
     let answer = crate::scan::scan_sot_markers(codestream, first_sot_offset, &mut table);

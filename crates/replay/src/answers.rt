@@ -6,6 +6,7 @@ use header::extent::MainHeaderExtent;
 use reader::search::Found;
 use reader::siz::SampleType;
 use reader::siz::SizRead;
+use types::CodestreamOffset;
 use types::ROW;
 
 // The payload is the prefix.
@@ -43,7 +44,7 @@ pub(crate) fn scan(payload: &[u8]) {
     if payload.len() < 8 {
         return print::text(b"unknown kind");
     }
-    let start = numbers::read_u64(payload, 0);
+    let start = CodestreamOffset(numbers::read_u64(payload, 0));
     let mut table = new_table();
     let answer = parts::scan::scan_sot_markers(&payload[8..], start, &mut table);
     let entries = print::scan(answer);
@@ -55,7 +56,7 @@ pub(crate) fn scan_records(payload: &[u8]) {
     if payload.len() < 8 {
         return print::text(b"unknown kind");
     }
-    let start = numbers::read_u64(payload, 0);
+    let start = CodestreamOffset(numbers::read_u64(payload, 0));
     let scan = records::tables::scan_table(&payload[8..], start);
     let answer = scan.answer;
     let table = scan.table;

@@ -58,8 +58,9 @@ pub(crate) fn records(table: [TilePartEntry; 2048], count: u64) {
 }
 
 fn record(entry: TilePartEntry) {
+    let offset = entry.offset;
     number(entry.tile_index as u64);
-    number(entry.offset);
+    number(offset.0);
     number(entry.length);
 }
 

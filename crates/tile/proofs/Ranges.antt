@@ -16,11 +16,11 @@ use Rattle.numbers.proofs.Choice.{by-test}
 -- ---- a range
 
 module _ (s : List ℕ) (e : TilePartEntry) where
-  pub range-kept : e .offset + e .length ≤ length s → rangeOf s e ≡ Kept (e .offset) (e .offset + e .length)
+  pub range-kept : e .offset .0 + e .length ≤ length s → rangeOf s e ≡ Kept (e .offset .0) (e .offset .0 + e .length)
   unfolding rangeOf
   range-kept h = rw (le-leb _ _ h)
 
-  pub range-dropped : length s < e .offset + e .length → rangeOf s e ≡ Dropped
+  pub range-dropped : length s < e .offset .0 + e .length → rangeOf s e ≡ Dropped
   unfolding rangeOf
   range-dropped h = rw (lt-leb _ _ h)
 
@@ -30,7 +30,7 @@ Told s Dropped = Unit {0}
 
 range-told : (s : List ℕ) (e : TilePartEntry) → Told s (rangeOf s e)
 unfolding rangeOf
-range-told s e = by-test (Told s) (leb (e .offset + e .length) (length s)) (λ h. (omega arith, leb-true _ _ h)) (λ _. tt)
+range-told s e = by-test (Told s) (leb (e .offset .0 + e .length) (length s)) (λ h. (omega arith, leb-true _ _ h)) (λ _. tt)
 
 pub kept-inside : (s : List ℕ) (e : TilePartEntry) {from to : ℕ} → rangeOf s e ≡ Kept from to → (from ≤ to) × (to ≤ length s)
 kept-inside s e found = rw found at (range-told s e)

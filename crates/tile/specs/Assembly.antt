@@ -31,7 +31,7 @@ ranges s = rangesFrom s 0
 
 -- a range whose end passes the codestream's is dropped
 unfoldable pub rangeOf : List ℕ → TilePartEntry → Range
-rangeOf s e = cond (leb (e .offset + e .length) (length s)) (Kept (e .offset) (e .offset + e .length)) Dropped
+rangeOf s e = cond (leb (e .offset .0 + e .length) (length s)) (Kept (e .offset .0) (e .offset .0 + e .length)) Dropped
 
 unfoldable pub andPart : Range → List ℕ → List (List ℕ) → List (List ℕ)
 andPart (Kept from to) s rest = take (to - from) (drop from s) ∷ rest

@@ -26,17 +26,17 @@ fn range_at(tile_parts: &[u8], at: usize, codestream: &[u8]) -> Range
 {
     let entry = types::read_row(tile_parts, at);
     let whole = codestream.len() as u64;
-    let from = entry.offset;
+    let offset = entry.offset;
     let long = entry.length;
     if whole < long {
         return Range::Dropped;
     }
-    if whole - long < from {
+    if whole - long < offset.0 {
         return Range::Dropped;
     }
     Range::Kept {
-        from: from as usize,
-        to: (from + long) as usize,
+        from: offset.position(),
+        to: types::end_of(entry).position(),
     }
 }
 

@@ -7,6 +7,7 @@ use libc::STDIN_FILENO;
 use libc::STDOUT_FILENO;
 use parts::scan::Scanned;
 use reader::search::Found;
+use types::CodestreamOffset;
 use types::Refusal;
 use types::TilePartEntry;
 
@@ -52,13 +53,13 @@ fn list_header(codestream: &[u8]) {
             number(info.decode_header_length);
             text(b"\n");
             rows(b"tlm", table, info.tlm_entries);
-            list_parts(codestream, first_sot.0);
+            list_parts(codestream, first_sot);
         }
         MainHeader::Refused(refusal) => refuse(refusal),
     }
 }
 
-fn list_parts(codestream: &[u8], first_sot: u64) {
+fn list_parts(codestream: &[u8], first_sot: CodestreamOffset) {
     let scan = records::tables::scan_table(codestream, first_sot);
     let answer = scan.answer;
     let table = scan.table;
@@ -80,9 +81,10 @@ fn rows(word: &[u8], table: [TilePartEntry; 2048], count: u64) {
 }
 
 fn row(word: &[u8], entry: TilePartEntry) {
+    let offset = entry.offset;
     text(word);
     number(entry.tile_index as u64);
-    number(entry.offset);
+    number(offset.0);
     number(entry.length);
     text(b"\n");
 }

@@ -1,3 +1,4 @@
 pub mod Laws
+pub mod Offsets
 pub mod Standing
 pub mod lent

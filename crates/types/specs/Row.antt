@@ -6,11 +6,11 @@ use Rattle.types.specs.declared.TilePartEntry.{TilePartEntry}
 
 -- the record in the 18 bytes from at on
 abbrev pub entryAt : List ℕ → ℕ → TilePartEntry
-entryAt s at = record { «tile_index» = be 2 s at; offset = be 8 s (at + 2); length = be 8 s (at + 10) }
+entryAt s at = record { «tile_index» = be 2 s at; offset = record { 0 = be 8 s (at + 2) }; length = be 8 s (at + 10) }
 
 -- the 18 bytes that hold a record
 unfoldable pub rowOf : TilePartEntry → List ℕ
-rowOf e = bytesOf 2 (e .«tile_index») ++ (bytesOf 8 (e .offset) ++ bytesOf 8 (e .length))
+rowOf e = bytesOf 2 (e .«tile_index») ++ (bytesOf 8 (e .offset .0) ++ bytesOf 8 (e .length))
 
 -- the rows of records, one after the other
 unfoldable pub rowsOf : List TilePartEntry → List ℕ

@@ -20,6 +20,7 @@ pub struct Refusal {
 pub struct FileOffset(pub u64);
 
 // Counted from the start of the codestream.
+#[repr(C)]
 pub struct CodestreamOffset(pub u64);
 
 pub enum InFile {
@@ -35,6 +36,19 @@ pub enum InCodestream {
 }
 
 impl CodestreamOffset {
+    // A position in the codestream's bytes as an offset, and an offset as a position: here alone does one become the other.
+    pub fn at(position: usize) -> CodestreamOffset
+        ensures { λ r. ⌜ r .0 ≡ position ⌝ }
+    {
+        CodestreamOffset(position as u64)
+    }
+
+    pub fn position(self) -> usize
+        ensures { λ r. ⌜ r ≡ self .0 ⌝ }
+    {
+        self.0 as usize
+    }
+
     // Where a place of the codestream that starts at `start` lies in the file.
     pub fn in_file(self, start: FileOffset) -> InFile
         ensures { λ r. ⌜ r ≡ inFile self start ⌝ }
@@ -50,6 +64,19 @@ impl CodestreamOffset {
 }
 
 impl FileOffset {
+    // The same for the file's bytes.
+    pub fn at(position: usize) -> FileOffset
+        ensures { λ r. ⌜ r .0 ≡ position ⌝ }
+    {
+        FileOffset(position as u64)
+    }
+
+    pub fn position(self) -> usize
+        ensures { λ r. ⌜ r ≡ self .0 ⌝ }
+    {
+        self.0 as usize
+    }
+
     // Where a place of the file lies in the codestream that starts at `start`.
     pub fn in_codestream(self, start: FileOffset) -> InCodestream
         ensures { λ r. ⌜ r ≡ inCodestream self start ⌝ }
@@ -68,16 +95,17 @@ impl FileOffset {
 #[repr(C)]
 pub struct TilePartEntry {
     pub tile_index: u16,
-    pub offset: u64,
+    pub offset: CodestreamOffset,
     pub length: u64,
 }
 
 // Where a tile-part ends.
-pub fn end_of(entry: TilePartEntry) -> u64
-    requires { ⌜ entry .offset + entry .length < 2 ^ 64 ⌝ }
-    ensures { λ r. ⌜ r ≡ entry .offset + entry .length ⌝ }
+pub fn end_of(entry: TilePartEntry) -> CodestreamOffset
+    requires { ⌜ entry .offset .0 + entry .length < 2 ^ 64 ⌝ }
+    ensures { λ r. ⌜ r .0 ≡ entry .offset .0 + entry .length ⌝ }
 {
-    entry.offset + entry.length
+    let from = entry.offset;
+    CodestreamOffset(from.0 + entry.length)
 }
 
 // The bytes of a record in a lent table: index 2, offset 8, length 8.
@@ -88,7 +116,7 @@ pub fn read_row(table: &[u8], at: usize) -> TilePartEntry
     ensures { λ r. ⌜ r ≡ entryAt (now (table .entry)) at ⌝ }
 {
     let tile_index = numbers::read_u16(table, at);
-    let offset = numbers::read_u64(table, at + 2);
+    let offset = CodestreamOffset(numbers::read_u64(table, at + 2));
     let length = numbers::read_u64(table, at + 10);
     TilePartEntry {
         tile_index,
@@ -101,7 +129,8 @@ pub fn write_row(table: &mut [u8], at: usize, entry: TilePartEntry)
     requires { ⌜ at + 18 ≤ length (now table) ⌝ }
     ensures { λ _. ⌜ now (table .exit) ≡ put (now (table .entry)) at (rowOf entry) ⌝ }
 {
+    let offset = entry.offset;
     numbers::write_u16(table, at, entry.tile_index);
-    numbers::write_u64(table, at + 2, entry.offset);
+    numbers::write_u64(table, at + 2, offset.0);
     numbers::write_u64(table, at + 10, entry.length);
 }

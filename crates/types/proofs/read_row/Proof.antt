@@ -19,7 +19,7 @@ read-u64-requires-2 : tie.Need-read-u64-requires-2
 read-u64-requires-2 c κs = search needs
 
 returns : tie.Need-returns
-returns c = λ i. record { «tile_index» = c .before .before .read-u16 .ensures i; offset = c .before .read-u64 .ensures i; length = c .read-u642 .ensures i }
+returns c = λ i. record { «tile_index» = c .before .before .read-u16 .ensures i; offset = record { 0 = c .before .read-u64 .ensures i }; length = c .read-u642 .ensures i }
 
 pub read-row-spec : {M : Type 1} → statement M
 read-row-spec =

@@ -24,7 +24,7 @@ same-length c = search needs
 
 returns : tie.Need-returns
 returns c =
-    let a = c .before .before .before .before .before .before .before .before .before .before .before .before .before .args in
+    let a = c .before .before .before .before .before .before .before .before .before .before .before .before .before .before .args in
     cc (put-row (a .entry) (a .table .now) (a .at) (search needs))
 
 pub write-row-spec : {M : Type 1} → statement M

@@ -10,6 +10,7 @@ use Rattle.header.proofs.Extents.{extent-few, extent-no-soc, extent-ste
 use Rattle.header.specs.Step.{moveAt, stepsFrom}
 use Rattle.chain.specs.Chain.{on}
 use Rattle.header.specs.Extent.{extentOf, extentEnd}
+use Rattle.header.specs.declared.extent.MainHeaderExtent.the-variants.{Complete}
 use Rattle.header.proofs.extent.main_header_extent.Statement.{statement}
 use Rattle.header.proofs.extent.main_header_extent.Tie as tie
 
@@ -48,10 +49,15 @@ enum-known-step-2 c = search needs
 enum-told : tie.Need-enum-told Inv-loop μ-loop
 enum-told c = search needs
 
+at-requires : tie.Need-at-requires Inv-loop μ-loop
+at-requires c κs = search needs
+
 returns-3 : tie.Need-returns-3 Inv-loop μ-loop
 returns-3 c =
-    let l = c .before .before .before .before .loop in
-    sym (extent-sot _ (l .at) (sym (c .before .before .before .header-step .ensures) ∙ c .enum-told .given .1)) ∙ l .inv .1
+    let l = c .before .before .before .before .before .loop in
+    (λ i. Complete (record { 0 = c .at .ensures i }))
+    ∙ sym (extent-sot _ (l .at) (sym (c .before .before .before .before .header-step .ensures) ∙ c .before .enum-told .given .1))
+    ∙ l .inv .1
 
 returns-4 : tie.Need-returns-4 Inv-loop μ-loop
 returns-4 c =
@@ -96,6 +102,7 @@ main-header-extent-spec =
     enum-known-step
     enum-known-step-2
     enum-told
+    at-requires
     returns-3
     returns-4
     loop-less

@@ -14,10 +14,10 @@ use Rattle.header.proofs.parse.fill_table.Statement.{statement}
 use Rattle.header.proofs.parse.fill_table.Tie as tie
 
 abbrev Inv-loop : tie.InvT-loop
-Inv-loop codestream first-sot table₀ at₀ row₀ offset₀ table at row offset = Filling rows codestream table₀ first-sot table row offset at
+Inv-loop codestream table₀ at₀ row₀ offset₀ table at row offset = Filling rows codestream table₀ (offset₀ .0) table row (offset .0) at
 
 abbrev μ-loop : tie.MeasureT-loop
-μ-loop codestream first-sot table₀ at₀ row₀ offset₀ table at row offset = length codestream - at
+μ-loop codestream table₀ at₀ row₀ offset₀ table at row offset = length codestream - at
 
 -- what the step found, where it passed something
 found : (c : tie.After-known-told Inv-loop μ-loop)
@@ -30,7 +30,7 @@ ahead : (c : tie.Then1 Inv-loop μ-loop) → length (entriesFrom (c .before .bef
     + length (entriesFrom (c .before .before .before .before .before .before .before .before .args .codestream .now) (c .before .before .step .given .0 .0 .next))
 ahead c =
     let l = c .before .before .before .before .before .loop in
-    count-ahead rows _ _ _ _ (l .row) (l .offset) (l .at) (l .inv) _ (found (c .before)) (c .if1 .taken)
+    count-ahead rows _ _ _ _ (l .row) (l .offset .0) (l .at) (l .inv) _ (found (c .before)) (c .if1 .taken)
 
 loop-holds : tie.Need-loop-holds Inv-loop μ-loop
 loop-holds c =
@@ -50,7 +50,7 @@ returns : tie.Need-returns Inv-loop μ-loop
 returns c =
     let l = c .before .before .loop in
     let none = walk-none _ _ (rw (c .before .walk-step .ensures) at (c .match .keys2)) in
-    filling-done rows _ _ _ _ (l .row) (l .offset) (l .at) (l .inv) none
+    filling-done rows _ _ _ _ (l .row) (l .offset .0) (l .at) (l .inv) none
 
 fill-segment-requires : tie.Need-fill-segment-requires Inv-loop μ-loop
 fill-segment-requires c κs =
@@ -79,7 +79,7 @@ loop-again c =
     let c₁ = c .before .before .before .before in
     let l = c₁ .before .before .before .before .before in
     let e = c .before .before .fill-segment .ensures in
-    rw (e .0) (filling-tlm rows _ _ _ _ (l .loop .row) (l .loop .offset) (l .loop .at) (l .loop .inv) _ (found (c₁ .before)) (λ i. omega (arith, l .before .before .shared-slice-known .given i)) (c₁ .if1 .taken) _ (e .1) (omega arith))
+    rw (e .0) (filling-tlm rows _ _ _ _ (l .loop .row) (l .loop .offset .0) (l .loop .at) (l .loop .inv) _ (found (c₁ .before)) (λ i. omega (arith, l .before .before .shared-slice-known .given i)) (c₁ .if1 .taken) _ (e .1) (omega arith))
 
 loop-less-2 : tie.Need-loop-less-2 Inv-loop μ-loop
 loop-less-2 c =
@@ -89,7 +89,7 @@ loop-less-2 c =
 loop-again-2 : tie.Need-loop-again-2 Inv-loop μ-loop
 loop-again-2 c =
     let l = c .before .before .before .before .before .loop in
-    filling-plain rows _ _ _ _ (l .row) (l .offset) (l .at) (l .inv) _ (found (c .before)) (c .if1 .left)
+    filling-plain rows _ _ _ _ (l .row) (l .offset .0) (l .at) (l .inv) _ (found (c .before)) (c .if1 .left)
 
 pub fill-table-spec : {M : Type 1} → statement M
 fill-table-spec =

@@ -6,6 +6,7 @@ use lib.ListN.{length}
 use borrow.Author.Needs.{needs}
 use Rattle.header.proofs.Visited.{entries-few}
 use Rattle.header.proofs.Walks.{passed-is, only-found}
+use Rattle.header.specs.declared.parse.MainHeader.the-variants.{Header}
 use Rattle.header.specs.declared.walk.WalkStep.the-variants.{Passed}
 use Rattle.header.specs.Walk.{walkStepAt}
 use Rattle.header.proofs.Counting.{Counting, counting-start, counting-plain, counting-tlm, counted-found, counted-refused}
@@ -40,13 +41,21 @@ returns c =
     let l = c .before .before .before .before .before .loop in
     sym (counted-refused _ (l .at) (l .stripped) (l .entries) (l .inv) _ (sym (c .before .before .before .before .walk-step .ensures) ∙ c .before .step2 .given .1))
 
-sub-t10 : tie.Need-sub-t10 Inv-loop μ-loop
-sub-t10 c = search needs
+at-requires : tie.Need-at-requires Inv-loop μ-loop
+at-requires c κs = search needs
+
+sub-t9 : tie.Need-sub-t9 Inv-loop μ-loop
+sub-t9 c = search needs
 
 returns-2 : tie.Need-returns-2 Inv-loop μ-loop
 returns-2 c =
-    let l = c .before .before .before .loop in
-    sym (counted-found _ (l .at) (l .stripped) (l .entries) (l .inv) (sym (c .before .before .walk-step .ensures) ∙ only-found _ (c .before .match .keys2) (c .match2 .keys2)))
+    let l = c .before .before .before .before .loop in
+    (λ i. Header (record {
+      «first_sot_offset» = record { 0 = c .at .ensures i };
+      «decode_header_length» = l .at - l .stripped;
+      «tlm_entries» = l .entries;
+    }))
+    ∙ sym (counted-found _ (l .at) (l .stripped) (l .entries) (l .inv) (sym (c .before .before .before .walk-step .ensures) ∙ only-found _ (c .before .before .match .keys2) (c .before .match2 .keys2)))
 
 sub-stripped : tie.Need-sub-stripped Inv-loop μ-loop
 sub-stripped c =
@@ -98,7 +107,8 @@ walk-spec =
     enum-known-step
     enum-known-step-2
     returns
-    sub-t10
+    at-requires
+    sub-t9
     returns-2
     sub-stripped
     add-stripped

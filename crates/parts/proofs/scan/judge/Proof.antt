@@ -20,7 +20,7 @@ record Counted (s : List ℕ) (start at count : ℕ) : Type 0 where
   ends : scanFrom s at .ended ≡ scanFrom s start .ended
 
 module _ {s : List ℕ} {start at count : ℕ} where
-  turn : {e : TilePartEntry} {to : ℕ} → scanStepAt s at ≡ Part e → to ≡ e .offset + e .length → Counted s start at count
+  turn : {e : TilePartEntry} {to : ℕ} → scanStepAt s at ≡ Part e → to ≡ e .offset .0 + e .length → Counted s start at count
       → Counted s start to (count + 1)
   unfolding also
   turn {e} {to} found there i =
@@ -64,13 +64,19 @@ end-of-requires c κs =
     let h = part-stands _ _ _ (found (c .before)) in
     omega (arith, part-offset _ _ _ (found (c .before)))
 
+position-requires : tie.Need-position-requires Inv-loop μ-loop
+position-requires c κs = search needs
+
 loop-less : tie.Need-loop-less Inv-loop μ-loop
 loop-less c =
-    let h = part-stands _ _ _ (found (c .before .before)) in
-    omega (arith, part-offset _ _ _ (found (c .before .before)))
+    let f = found (c .before .before .before) in
+    let h = part-stands _ _ _ f in
+    omega (arith, part-offset _ _ _ f)
 
 loop-again : tie.Need-loop-again Inv-loop μ-loop
-loop-again c = turn (found (c .before .before)) (c .end-of .ensures) (c .before .before .before .before .before .loop .inv)
+loop-again c =
+    let f = c .before .before .before in
+    turn (found f) (c .position .ensures ∙ c .before .end-of .ensures) (f .before .before .before .loop .inv)
 
 enum-told : tie.Need-enum-told Inv-loop μ-loop
 enum-told c = search needs
@@ -97,6 +103,7 @@ judge-spec =
     enum-known-step
     add-count
     end-of-requires
+    position-requires
     loop-less
     loop-again
     enum-told

@@ -13,17 +13,17 @@ use Rattle.records.proofs.main_header.fill_segment.Statement.{statement
 use Rattle.records.proofs.main_header.fill_segment.Proof.Tie as tie
 
 abbrev Inv-loop : tie.InvT-loop
-Inv-loop codestream at count from table₀ row offset₀ i₀ table offset i = Filled records codestream at count from table₀ row table offset (row + i) i
+Inv-loop codestream at count table₀ row offset₀ i₀ table offset i = Filled records codestream at count (offset₀ .0) table₀ row table (offset .0) (row + i) i
 
 abbrev μ-loop : tie.MeasureT-loop
-μ-loop codestream at count from table₀ row offset₀ i₀ table offset i = count - i
+μ-loop codestream at count table₀ row offset₀ i₀ table offset i = count - i
 
 -- a byte is below 256
 bytes : (c : tie.In-loop Inv-loop μ-loop) → (i : ℕ) → getD (c .before .before .before .args .codestream .now) i 0 < 256
 bytes c i = omega (arith, c .before .before .shared-slice-known .given i)
 
 -- a record's length has at most four bytes, and there is room for as many as are left
-ends : (c : tie.After-tlm-entry Inv-loop μ-loop) → c .tlm-entry .result .offset + c .tlm-entry .result .length < 2 ^ 64
+ends : (c : tie.After-tlm-entry Inv-loop μ-loop) → c .tlm-entry .result .offset .0 + c .tlm-entry .result .length < 2 ^ 64
 ends c =
     let l = c .before .before in
     let a = l .before .before .args in

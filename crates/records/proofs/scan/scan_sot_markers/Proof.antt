@@ -13,7 +13,7 @@ use Rattle.records.proofs.scan.scan_sot_markers.Proof.Tie as tie
 
 -- past the answer, a table of so many records
 answered : (c : tie.After-answer)
-    → scanned (c .before .before .before .before .args .codestream .now) (c .before .before .before .before .args .first-sot-offset) (length (c .before .before .before .before .args .table .now))
+    → scanned (c .before .before .before .before .args .codestream .now) (c .before .before .before .before .args .first-sot-offset .0) (length (c .before .before .before .before .args .table .now))
     ≡ Table (c .answer .given .0 .0)
 answered c = sym (c .before .before .decide .ensures) ∙ c .answer .given .1
 
@@ -31,16 +31,21 @@ returns c =
     let a = c .before .before .decide .ensures in
     (a, sym (table-kept _ _ _ _ (sym a ∙ c .enum-told .given .1)))
 
+position-requires : tie.Need-position-requires
+position-requires c κs = search needs
+
 fill-requires : tie.Need-fill-requires
-fill-requires c κs = let n = answer-counts _ _ _ _ (answered (c .before .before)) in (n .0, n .1)
+fill-requires c κs =
+    let n = answer-counts _ _ _ _ (answered (c .before .before .before)) in
+    (rw (c .before .position .ensures) (n .0), n .1)
 
 same-length : tie.Need-same-length
 same-length c = search needs
 
 returns-2 : tie.Need-returns-2
 returns-2 c =
-    let a = answered (c .before .before .before .before) in
-    (sym a, c .before .fill .ensures ∙ sym (table-filled _ _ _ _ a))
+    let a = answered (c .before .before .before .before .before) in
+    (sym a, rw (c .before .before .before .position .ensures) at (c .before .fill .ensures) ∙ sym (table-filled _ _ _ _ a))
 
 pub scan-sot-markers-spec : {M : Type 1} → statement M
 scan-sot-markers-spec =
@@ -50,6 +55,7 @@ scan-sot-markers-spec =
     enum-known-answer
     enum-told
     returns
+    position-requires
     fill-requires
     same-length
     returns-2)

@@ -5,6 +5,8 @@ use Rattle.header.proofs.walk.Passed
 use Rattle.header.proofs.walk.Passed.Laws
 use Rattle.header.proofs.walk.WalkStep
 use Rattle.header.proofs.walk.WalkStep.Laws as Laws'
+use Rattle.types.proofs.CodestreamOffset
+use Rattle.types.proofs.CodestreamOffset.Laws as Laws''
 use borrow.Author.Called
 use borrow.Enum.Known
 use borrow.Enum.Match
@@ -24,15 +26,19 @@ use borrow.Kind.Value
 use borrow.Rule.Dead
 use borrow.Rule.Lifetime
 use borrow.Rule.Local
+use borrow.Rule.LocalCopy
 use borrow.Rule.Scalar
 use borrow.Rule.Slice.Know
 use borrow.Rule.Slice.Mut
 use borrow.Rule.Slice.Relend
 use borrow.Rule.Slice.Shared
 use borrow.Rule.Switch
+use borrow.Rule.Yields
 use borrow.Struct.CopyOut
 use borrow.Struct.Make
 use borrow.Struct.Reads
+use borrow.Table.Copies
+use borrow.Table.Own
 use borrow.Table.Reads as Reads'
 use borrow.Table.Referent
 use borrow.Table.Row
@@ -40,10 +46,10 @@ use borrow.Table.Rows
 use borrow.Table.Typed
 use contract.Lifetimes
 use denote.Enum.Declared
-use denote.Enum.Laws as Laws''
+use denote.Enum.Laws as Laws'3
 use denote.Exit
 use denote.Struct.Declared as Declared'
-use denote.Struct.Laws as Laws'3
+use denote.Struct.Laws as Laws'4
 use denote.Triple.Clauses
 use denote.Triple.Statement
 use ghost.Atoms
@@ -61,25 +67,46 @@ use types.Kit
 use types.Run
 
 abbrev pub ps : List.List (Kinds.PK 2)
-ps = List._∷_ (ShrSlice.pShrS (Referent.rtF (Referent.fInt Syntax.w8)) 0 tt) (List._∷_ (Num.pNum Syntax.w64) (List._∷_ (MutSlice.pMutS LentTilePartEntry.row 1 tt) List.[]))
+ps = List._∷_ (ShrSlice.pShrS (Referent.rtF (Referent.fInt Syntax.w8)) 0 tt) (List._∷_ (Value.pVal record {
+  ty = Declared'.row CodestreamOffset.the-type;
+  one = Path'.refl;
+  val =
+      Laws'4.val CodestreamOffset.the-type Laws''.the-laws;
+  tells = Laws'4.tells CodestreamOffset.the-type Laws''.the-laws;
+  still = Laws'4.still CodestreamOffset.the-type
+      Laws''.the-copy Exit.yes;
+  row = Rows.whole (Declared'.row CodestreamOffset.the-type);
+  rd = λ x. x;
+  mk = λ x. x;
+} λ M 𝓤 H A W. record {
+  copies = Laws'4.copy
+      CodestreamOffset.the-type Laws''.the-copy 𝓤 H A W;
+  lawful = Laws'4.lawful CodestreamOffset.the-type Laws''.the-laws 𝓤 H A W;
+  makes = Laws'4.makes CodestreamOffset.the-type
+      Laws''.the-plain 𝓤 H A;
+  in-mem = Local.mem-whole 𝓤 H A W (Declared'.row CodestreamOffset.the-type);
+  of-mem = Local.whole-mem 𝓤 H A W (Declared'.row CodestreamOffset.the-type);
+}) (List._∷_ (MutSlice.pMutS LentTilePartEntry.row 1 tt) List.[]))
 
 abbrev pub r : Kinds.RK 2
 r = Unit'.rUnit
 
 abbrev pub xs : List.List Syntax.Ty
-xs = List._∷_ (Syntax.tyInt Syntax.w64) (List._∷_ (Syntax.tyInt Syntax.w64) (List._∷_ (Syntax.tyInt Syntax.w64) (List._∷_ (Syntax.tyEnum (List._∷_ 104 (List._∷_ 101 (List._∷_ 97
-    (List._∷_ 100 (List._∷_ 101 (List._∷_ 114 (List._∷_ 58 (List._∷_ 58 (List._∷_ 119 (List._∷_ 97 (List._∷_ 108 (List._∷_ 107 (List._∷_ 58 (List._∷_ 58 (List._∷_ 87 (List._∷_ 97
-    (List._∷_ 108 (List._∷_ 107 (List._∷_ 83 (List._∷_ 116 (List._∷_ 101 (List._∷_ 112 List.[])))))))))))))))))))))) (Syntax.ttcons (Syntax.tcons (Syntax.tyStruct (List._∷_ 104
-    (List._∷_ 101 (List._∷_ 97 (List._∷_ 100 (List._∷_ 101 (List._∷_ 114 (List._∷_ 58 (List._∷_ 58 (List._∷_ 119 (List._∷_ 97 (List._∷_ 108 (List._∷_ 107 (List._∷_ 58 (List._∷_ 58
-    (List._∷_ 80 (List._∷_ 97 (List._∷_ 115 (List._∷_ 115 (List._∷_ 101 (List._∷_ 100 List.[])))))))))))))))))))) (Syntax.tcons (Syntax.tyInt Syntax.w64) (Syntax.tcons
-    Syntax.tyBool (Syntax.tcons (Syntax.tyInt Syntax.w64) Syntax.tnil)))) Syntax.tnil) (Syntax.ttcons Syntax.tnil (Syntax.ttcons (Syntax.tcons (Syntax.tyStruct (List._∷_ 116
-    (List._∷_ 121 (List._∷_ 112 (List._∷_ 101 (List._∷_ 115 (List._∷_ 58 (List._∷_ 58 (List._∷_ 82 (List._∷_ 101 (List._∷_ 102 (List._∷_ 117 (List._∷_ 115 (List._∷_ 97 (List._∷_
-    108 List.[])))))))))))))) (Syntax.tcons (Syntax.tyInt Syntax.w32) (Syntax.tcons (Syntax.tyInt Syntax.w64) Syntax.tnil))) Syntax.tnil) Syntax.ttnil)))) (List._∷_
-    (Syntax.tyStruct (List._∷_ 104 (List._∷_ 101 (List._∷_ 97 (List._∷_ 100 (List._∷_ 101 (List._∷_ 114 (List._∷_ 58 (List._∷_ 58 (List._∷_ 119 (List._∷_ 97 (List._∷_ 108 (List._∷_
-    107 (List._∷_ 58 (List._∷_ 58 (List._∷_ 80 (List._∷_ 97 (List._∷_ 115 (List._∷_ 115 (List._∷_ 101 (List._∷_ 100 List.[])))))))))))))))))))) (Syntax.tcons (Syntax.tyInt
-    Syntax.w64) (Syntax.tcons Syntax.tyBool (Syntax.tcons (Syntax.tyInt Syntax.w64) Syntax.tnil)))) (List._∷_ (Syntax.tyInt Syntax.w64) (List._∷_ Syntax.tyBool (List._∷_
-    (Syntax.tyRef Syntax.erased Syntax.mut LentTilePartEntry.pointee) (List._∷_ (Syntax.tyStruct (List._∷_ 38 (List._∷_ 91 (List._∷_ 93 List.[]))) (Syntax.tcons (Syntax.tyRef
-    Syntax.erased Syntax.mut LentTilePartEntry.pointee) (Syntax.tcons (Syntax.tyInt Syntax.w64) Syntax.tnil))) List.[]))))))))
+xs = List._∷_ (Syntax.tyInt Syntax.w64) (List._∷_ (Syntax.tyInt Syntax.w64) (List._∷_ (Syntax.tyStruct (List._∷_ 116 (List._∷_ 121 (List._∷_ 112 (List._∷_ 101 (List._∷_ 115
+    (List._∷_ 58 (List._∷_ 58 (List._∷_ 67 (List._∷_ 111 (List._∷_ 100 (List._∷_ 101 (List._∷_ 115 (List._∷_ 116 (List._∷_ 114 (List._∷_ 101 (List._∷_ 97 (List._∷_ 109 (List._∷_ 79
+    (List._∷_ 102 (List._∷_ 102 (List._∷_ 115 (List._∷_ 101 (List._∷_ 116 List.[]))))))))))))))))))))))) (Syntax.tcons (Syntax.tyInt Syntax.w64) Syntax.tnil)) (List._∷_
+    (Syntax.tyEnum (List._∷_ 104 (List._∷_ 101 (List._∷_ 97 (List._∷_ 100 (List._∷_ 101 (List._∷_ 114 (List._∷_ 58 (List._∷_ 58 (List._∷_ 119 (List._∷_ 97 (List._∷_ 108 (List._∷_
+    107 (List._∷_ 58 (List._∷_ 58 (List._∷_ 87 (List._∷_ 97 (List._∷_ 108 (List._∷_ 107 (List._∷_ 83 (List._∷_ 116 (List._∷_ 101 (List._∷_ 112 List.[]))))))))))))))))))))))
+    (Syntax.ttcons (Syntax.tcons (Syntax.tyStruct (List._∷_ 104 (List._∷_ 101 (List._∷_ 97 (List._∷_ 100 (List._∷_ 101 (List._∷_ 114 (List._∷_ 58 (List._∷_ 58 (List._∷_ 119
+    (List._∷_ 97 (List._∷_ 108 (List._∷_ 107 (List._∷_ 58 (List._∷_ 58 (List._∷_ 80 (List._∷_ 97 (List._∷_ 115 (List._∷_ 115 (List._∷_ 101 (List._∷_ 100 List.[]))))))))))))))))))))
+    (Syntax.tcons (Syntax.tyInt Syntax.w64) (Syntax.tcons Syntax.tyBool (Syntax.tcons (Syntax.tyInt Syntax.w64) Syntax.tnil)))) Syntax.tnil) (Syntax.ttcons Syntax.tnil
+    (Syntax.ttcons (Syntax.tcons (Syntax.tyStruct (List._∷_ 116 (List._∷_ 121 (List._∷_ 112 (List._∷_ 101 (List._∷_ 115 (List._∷_ 58 (List._∷_ 58 (List._∷_ 82 (List._∷_ 101
+    (List._∷_ 102 (List._∷_ 117 (List._∷_ 115 (List._∷_ 97 (List._∷_ 108 List.[])))))))))))))) (Syntax.tcons (Syntax.tyInt Syntax.w32) (Syntax.tcons (Syntax.tyInt Syntax.w64)
+    Syntax.tnil))) Syntax.tnil) Syntax.ttnil)))) (List._∷_ (Syntax.tyStruct (List._∷_ 104 (List._∷_ 101 (List._∷_ 97 (List._∷_ 100 (List._∷_ 101 (List._∷_ 114 (List._∷_ 58
+    (List._∷_ 58 (List._∷_ 119 (List._∷_ 97 (List._∷_ 108 (List._∷_ 107 (List._∷_ 58 (List._∷_ 58 (List._∷_ 80 (List._∷_ 97 (List._∷_ 115 (List._∷_ 115 (List._∷_ 101 (List._∷_ 100
+    List.[])))))))))))))))))))) (Syntax.tcons (Syntax.tyInt Syntax.w64) (Syntax.tcons Syntax.tyBool (Syntax.tcons (Syntax.tyInt Syntax.w64) Syntax.tnil)))) (List._∷_ (Syntax.tyInt
+    Syntax.w64) (List._∷_ Syntax.tyBool (List._∷_ (Syntax.tyRef Syntax.erased Syntax.mut LentTilePartEntry.pointee) (List._∷_ (Syntax.tyStruct (List._∷_ 38 (List._∷_ 91 (List._∷_
+    93 List.[]))) (Syntax.tcons (Syntax.tyRef Syntax.erased Syntax.mut LentTilePartEntry.pointee) (Syntax.tcons (Syntax.tyInt Syntax.w64) Syntax.tnil))) List.[]))))))))
 
 abbrev pub m : Nat.ℕ
 m = 1
@@ -91,29 +118,64 @@ abbrev pub r·0 : Kinds.RK 1
 r·0 = Value.rVal record {
   ty = Declared.row WalkStep.the-type;
   one = Path'.refl;
-  val = Laws''.val WalkStep.the-type Laws'.the-laws;
-  tells = Laws''.tells WalkStep.the-type
+  val = Laws'3.val WalkStep.the-type Laws'.the-laws;
+  tells = Laws'3.tells WalkStep.the-type
       Laws'.the-laws;
-  still = Laws''.still WalkStep.the-type Laws'.the-copy Exit.yes;
+  still = Laws'3.still WalkStep.the-type Laws'.the-copy Exit.yes;
   row = Rows.whole (Declared.row WalkStep.the-type);
   rd = λ x. x;
   mk = λ x. x;
 } λ M 𝓤 H A W.
     record {
-      copies = Laws''.copy WalkStep.the-type Laws'.the-copy 𝓤 H A W;
-      lawful = Laws''.lawful WalkStep.the-type Laws'.the-laws 𝓤 H A W tt;
-      makes = Laws''.makes
+      copies = Laws'3.copy WalkStep.the-type Laws'.the-copy 𝓤 H A W;
+      lawful = Laws'3.lawful WalkStep.the-type Laws'.the-laws 𝓤 H A W tt;
+      makes = Laws'3.makes
           WalkStep.the-type Laws'.the-plain 𝓤 H A;
       in-mem = Local.mem-whole 𝓤 H A W (Declared.row WalkStep.the-type);
       of-mem = Local.whole-mem 𝓤 H A W (Declared.row WalkStep.the-type);
     }
 
 abbrev pub ps·1 : List.List (Kinds.PK 2)
-ps·1 = List._∷_ (ShrSlice.pShrS (Referent.rtF (Referent.fInt Syntax.w8)) 0 tt) (List._∷_ (Num.pNum Syntax.w64) (List._∷_ (Num.pNum Syntax.w64) (List._∷_ (Num.pNum Syntax.w64)
-    (List._∷_ (MutSlice.pMutS LentTilePartEntry.row 1 tt) (List._∷_ (Num.pNum Syntax.w64) List.[])))))
+ps·1 = List._∷_ (ShrSlice.pShrS (Referent.rtF (Referent.fInt Syntax.w8)) 0 tt) (List._∷_ (Num.pNum Syntax.w64) (List._∷_ (Num.pNum Syntax.w64) (List._∷_ (Value.pVal record {
+  ty =
+      Declared'.row CodestreamOffset.the-type;
+  one = Path'.refl;
+  val = Laws'4.val CodestreamOffset.the-type Laws''.the-laws;
+  tells = Laws'4.tells CodestreamOffset.the-type
+      Laws''.the-laws;
+  still = Laws'4.still CodestreamOffset.the-type Laws''.the-copy Exit.yes;
+  row = Rows.whole (Declared'.row CodestreamOffset.the-type);
+  rd = λ x. x;
+  mk = λ x. x;
+} λ M 𝓤 H A W. record {
+  copies = Laws'4.copy CodestreamOffset.the-type Laws''.the-copy 𝓤 H A W;
+  lawful = Laws'4.lawful CodestreamOffset.the-type Laws''.the-laws 𝓤 H A W;
+  makes
+      = Laws'4.makes CodestreamOffset.the-type Laws''.the-plain 𝓤 H A;
+  in-mem = Local.mem-whole 𝓤 H A W (Declared'.row CodestreamOffset.the-type);
+  of-mem = Local.whole-mem 𝓤 H A W
+      (Declared'.row CodestreamOffset.the-type);
+}) (List._∷_ (MutSlice.pMutS LentTilePartEntry.row 1 tt) (List._∷_ (Num.pNum Syntax.w64) List.[])))))
 
 abbrev pub r·1 : Kinds.RK 2
-r·1 = Num.rNum Syntax.w64
+r·1 = Value.rVal record {
+  ty = Declared'.row CodestreamOffset.the-type;
+  one = Path'.refl;
+  val = Laws'4.val CodestreamOffset.the-type Laws''.the-laws;
+  tells = Laws'4.tells
+      CodestreamOffset.the-type Laws''.the-laws;
+  still = Laws'4.still CodestreamOffset.the-type Laws''.the-copy Exit.yes;
+  row = Rows.whole (Declared'.row CodestreamOffset.the-type);
+  rd = λ x. x;
+  mk = λ x. x;
+} λ M 𝓤 H A W. record {
+  copies = Laws'4.copy CodestreamOffset.the-type Laws''.the-copy 𝓤 H A W;
+  lawful = Laws'4.lawful CodestreamOffset.the-type
+      Laws''.the-laws 𝓤 H A W;
+  makes = Laws'4.makes CodestreamOffset.the-type Laws''.the-plain 𝓤 H A;
+  in-mem = Local.mem-whole 𝓤 H A W (Declared'.row CodestreamOffset.the-type);
+  of-mem = Local.whole-mem 𝓤 H A W (Declared'.row CodestreamOffset.the-type);
+}
 
 abbrev pub hs : List.List Syntax.Home
 hs = List._∷_ Syntax.valueLocal (List._∷_ Syntax.valueLocal (List._∷_ Syntax.valueLocal (List._∷_ Syntax.valueLocal (List._∷_ Syntax.valueLocal (List._∷_ Syntax.valueLocal
@@ -234,14 +296,169 @@ t0 = List._∷_ (0, Rows.any-gone Syntax.tyUnit) (List._∷_ (
   1,
   Rows.sslice (Referent.rtF (Referent.fInt Syntax.w8)) (Syntax.tyRef (Syntax.named 0) Syntax.imm (Syntax.tyInt
       Syntax.w8)) 0,
-) (List._∷_ (2, Rows.sc-here (Row.sInt Syntax.w64)) (List._∷_ (
+) (List._∷_ (2, Rows.whole (Declared'.row CodestreamOffset.the-type)) (List._∷_ (
   3,
   Mut.mslice LentTilePartEntry.row (Syntax.tyRef (Syntax.named 1) Syntax.mut
       LentTilePartEntry.pointee) 1,
 ) (List._∷_ (4, Rows.any-gone (Syntax.tyInt Syntax.w64)) (List._∷_ (5, Rows.any-gone (Syntax.tyInt Syntax.w64)) (List._∷_ (
   6,
   Rows.any-gone
-      (Syntax.tyInt Syntax.w64),
+      (Syntax.tyStruct (List._∷_ 116 (List._∷_ 121 (List._∷_ 112 (List._∷_ 101 (List._∷_ 115 (List._∷_ 58 (List._∷_ 58 (List._∷_ 67 (List._∷_ 111 (List._∷_ 100 (List._∷_ 101
+      (List._∷_ 115 (List._∷_ 116 (List._∷_ 114 (List._∷_ 101 (List._∷_ 97 (List._∷_ 109 (List._∷_ 79 (List._∷_ 102 (List._∷_ 102 (List._∷_ 115 (List._∷_ 101 (List._∷_ 116
+      List.[]))))))))))))))))))))))) (Syntax.tcons (Syntax.tyInt Syntax.w64) Syntax.tnil)),
+) (List._∷_ (
+  7,
+  Rows.any-gone (Syntax.tyEnum (List._∷_ 104 (List._∷_ 101 (List._∷_ 97
+      (List._∷_ 100 (List._∷_ 101 (List._∷_ 114 (List._∷_ 58 (List._∷_ 58 (List._∷_ 119 (List._∷_ 97 (List._∷_ 108 (List._∷_ 107 (List._∷_ 58 (List._∷_ 58 (List._∷_ 87 (List._∷_ 97
+      (List._∷_ 108 (List._∷_ 107 (List._∷_ 83 (List._∷_ 116 (List._∷_ 101 (List._∷_ 112 List.[])))))))))))))))))))))) (Syntax.ttcons (Syntax.tcons (Syntax.tyStruct (List._∷_ 104
+      (List._∷_ 101 (List._∷_ 97 (List._∷_ 100 (List._∷_ 101 (List._∷_ 114 (List._∷_ 58 (List._∷_ 58 (List._∷_ 119 (List._∷_ 97 (List._∷_ 108 (List._∷_ 107 (List._∷_ 58 (List._∷_ 58
+      (List._∷_ 80 (List._∷_ 97 (List._∷_ 115 (List._∷_ 115 (List._∷_ 101 (List._∷_ 100 List.[])))))))))))))))))))) (Syntax.tcons (Syntax.tyInt Syntax.w64) (Syntax.tcons
+      Syntax.tyBool (Syntax.tcons (Syntax.tyInt Syntax.w64) Syntax.tnil)))) Syntax.tnil) (Syntax.ttcons Syntax.tnil (Syntax.ttcons (Syntax.tcons (Syntax.tyStruct (List._∷_ 116
+      (List._∷_ 121 (List._∷_ 112 (List._∷_ 101 (List._∷_ 115 (List._∷_ 58 (List._∷_ 58 (List._∷_ 82 (List._∷_ 101 (List._∷_ 102 (List._∷_ 117 (List._∷_ 115 (List._∷_ 97 (List._∷_
+      108 List.[])))))))))))))) (Syntax.tcons (Syntax.tyInt Syntax.w32) (Syntax.tcons (Syntax.tyInt Syntax.w64) Syntax.tnil))) Syntax.tnil) Syntax.ttnil)))),
+) (List._∷_ (
+  8,
+  Rows.any-gone (Syntax.tyStruct (List._∷_ 104 (List._∷_ 101 (List._∷_ 97 (List._∷_ 100 (List._∷_ 101 (List._∷_ 114 (List._∷_ 58 (List._∷_ 58 (List._∷_ 119 (List._∷_ 97 (List._∷_
+      108 (List._∷_ 107 (List._∷_ 58 (List._∷_ 58 (List._∷_ 80 (List._∷_ 97 (List._∷_ 115 (List._∷_ 115 (List._∷_ 101 (List._∷_ 100 List.[])))))))))))))))))))) (Syntax.tcons
+      (Syntax.tyInt Syntax.w64) (Syntax.tcons Syntax.tyBool (Syntax.tcons (Syntax.tyInt Syntax.w64) Syntax.tnil)))),
+) (List._∷_ (9, Rows.any-gone (Syntax.tyInt Syntax.w64)) (List._∷_
+    (10, Rows.any-gone Syntax.tyBool) (List._∷_ (11, Rows.any-gone (Syntax.tyRef Syntax.erased Syntax.mut LentTilePartEntry.pointee)) (List._∷_ (
+      12,
+      Rows.any-gone (Syntax.tyStruct
+          (List._∷_ 38 (List._∷_ 91 (List._∷_ 93 List.[]))) (Syntax.tcons (Syntax.tyRef Syntax.erased Syntax.mut LentTilePartEntry.pointee) (Syntax.tcons (Syntax.tyInt Syntax.w64)
+          Syntax.tnil))),
+    ) List.[]))))))))))))
+
+abbrev pub t1 : List.List Row.Entry
+t1 = List._∷_ (0, Rows.sc-here Row.sUnit) (List._∷_ (1, Rows.sslice (Referent.rtF (Referent.fInt Syntax.w8)) (Syntax.tyRef (Syntax.named 0) Syntax.imm (Syntax.tyInt Syntax.w8)) 0)
+    (List._∷_ (
+      2,
+      Rows.any-gone (Syntax.tyStruct (List._∷_ 116 (List._∷_ 121 (List._∷_ 112 (List._∷_ 101 (List._∷_ 115 (List._∷_ 58 (List._∷_ 58 (List._∷_ 67 (List._∷_ 111
+          (List._∷_ 100 (List._∷_ 101 (List._∷_ 115 (List._∷_ 116 (List._∷_ 114 (List._∷_ 101 (List._∷_ 97 (List._∷_ 109 (List._∷_ 79 (List._∷_ 102 (List._∷_ 102 (List._∷_ 115 (List._∷_
+          101 (List._∷_ 116 List.[]))))))))))))))))))))))) (Syntax.tcons (Syntax.tyInt Syntax.w64) Syntax.tnil)),
+    ) (List._∷_ (
+      3,
+      Mut.mslice LentTilePartEntry.row (Syntax.tyRef
+          (Syntax.named 1) Syntax.mut LentTilePartEntry.pointee) 1,
+    ) (List._∷_ (4, Rows.any-gone (Syntax.tyInt Syntax.w64)) (List._∷_ (5, Rows.any-gone (Syntax.tyInt Syntax.w64))
+    (List._∷_ (
+      6,
+      Rows.any-gone (Syntax.tyStruct (List._∷_ 116 (List._∷_ 121 (List._∷_ 112 (List._∷_ 101 (List._∷_ 115 (List._∷_ 58 (List._∷_ 58 (List._∷_ 67 (List._∷_ 111
+          (List._∷_ 100 (List._∷_ 101 (List._∷_ 115 (List._∷_ 116 (List._∷_ 114 (List._∷_ 101 (List._∷_ 97 (List._∷_ 109 (List._∷_ 79 (List._∷_ 102 (List._∷_ 102 (List._∷_ 115 (List._∷_
+          101 (List._∷_ 116 List.[]))))))))))))))))))))))) (Syntax.tcons (Syntax.tyInt Syntax.w64) Syntax.tnil)),
+    ) (List._∷_ (
+      7,
+      Rows.any-gone (Syntax.tyEnum (List._∷_ 104 (List._∷_ 101
+          (List._∷_ 97 (List._∷_ 100 (List._∷_ 101 (List._∷_ 114 (List._∷_ 58 (List._∷_ 58 (List._∷_ 119 (List._∷_ 97 (List._∷_ 108 (List._∷_ 107 (List._∷_ 58 (List._∷_ 58 (List._∷_ 87
+          (List._∷_ 97 (List._∷_ 108 (List._∷_ 107 (List._∷_ 83 (List._∷_ 116 (List._∷_ 101 (List._∷_ 112 List.[])))))))))))))))))))))) (Syntax.ttcons (Syntax.tcons (Syntax.tyStruct
+          (List._∷_ 104 (List._∷_ 101 (List._∷_ 97 (List._∷_ 100 (List._∷_ 101 (List._∷_ 114 (List._∷_ 58 (List._∷_ 58 (List._∷_ 119 (List._∷_ 97 (List._∷_ 108 (List._∷_ 107 (List._∷_ 58
+          (List._∷_ 58 (List._∷_ 80 (List._∷_ 97 (List._∷_ 115 (List._∷_ 115 (List._∷_ 101 (List._∷_ 100 List.[])))))))))))))))))))) (Syntax.tcons (Syntax.tyInt Syntax.w64) (Syntax.tcons
+          Syntax.tyBool (Syntax.tcons (Syntax.tyInt Syntax.w64) Syntax.tnil)))) Syntax.tnil) (Syntax.ttcons Syntax.tnil (Syntax.ttcons (Syntax.tcons (Syntax.tyStruct (List._∷_ 116
+          (List._∷_ 121 (List._∷_ 112 (List._∷_ 101 (List._∷_ 115 (List._∷_ 58 (List._∷_ 58 (List._∷_ 82 (List._∷_ 101 (List._∷_ 102 (List._∷_ 117 (List._∷_ 115 (List._∷_ 97 (List._∷_
+          108 List.[])))))))))))))) (Syntax.tcons (Syntax.tyInt Syntax.w32) (Syntax.tcons (Syntax.tyInt Syntax.w64) Syntax.tnil))) Syntax.tnil) Syntax.ttnil)))),
+    ) (List._∷_ (
+      8,
+      Rows.any-gone (Syntax.tyStruct (List._∷_ 104 (List._∷_ 101 (List._∷_ 97 (List._∷_ 100 (List._∷_ 101 (List._∷_ 114 (List._∷_ 58 (List._∷_ 58 (List._∷_ 119 (List._∷_ 97 (List._∷_
+          108 (List._∷_ 107 (List._∷_ 58 (List._∷_ 58 (List._∷_ 80 (List._∷_ 97 (List._∷_ 115 (List._∷_ 115 (List._∷_ 101 (List._∷_ 100 List.[])))))))))))))))))))) (Syntax.tcons
+          (Syntax.tyInt Syntax.w64) (Syntax.tcons Syntax.tyBool (Syntax.tcons (Syntax.tyInt Syntax.w64) Syntax.tnil)))),
+    ) (List._∷_ (9, Rows.any-gone (Syntax.tyInt Syntax.w64)) (List._∷_
+    (10, Rows.any-gone Syntax.tyBool) (List._∷_ (11, Rows.any-gone (Syntax.tyRef Syntax.erased Syntax.mut LentTilePartEntry.pointee)) (List._∷_ (
+      12,
+      Rows.any-gone (Syntax.tyStruct
+          (List._∷_ 38 (List._∷_ 91 (List._∷_ 93 List.[]))) (Syntax.tcons (Syntax.tyRef Syntax.erased Syntax.mut LentTilePartEntry.pointee) (Syntax.tcons (Syntax.tyInt Syntax.w64)
+          Syntax.tnil))),
+    ) List.[]))))))))))))
+
+abbrev pub t2 : List.List Row.Entry
+t2 = List._∷_ (0, Rows.any-gone Syntax.tyUnit) (List._∷_ (
+  1,
+  Rows.sslice (Referent.rtF (Referent.fInt Syntax.w8)) (Syntax.tyRef (Syntax.named 0) Syntax.imm (Syntax.tyInt
+      Syntax.w8)) 0,
+) (List._∷_ (2, Rows.whole (Declared'.row CodestreamOffset.the-type)) (List._∷_ (
+  3,
+  Mut.mslice LentTilePartEntry.row (Syntax.tyRef (Syntax.named 1) Syntax.mut
+      LentTilePartEntry.pointee) 1,
+) (List._∷_ (4, Rows.sc-here (Row.sInt Syntax.w64)) (List._∷_ (5, Rows.any-gone (Syntax.tyInt Syntax.w64)) (List._∷_ (
+  6,
+  Rows.any-gone
+      (Syntax.tyStruct (List._∷_ 116 (List._∷_ 121 (List._∷_ 112 (List._∷_ 101 (List._∷_ 115 (List._∷_ 58 (List._∷_ 58 (List._∷_ 67 (List._∷_ 111 (List._∷_ 100 (List._∷_ 101
+      (List._∷_ 115 (List._∷_ 116 (List._∷_ 114 (List._∷_ 101 (List._∷_ 97 (List._∷_ 109 (List._∷_ 79 (List._∷_ 102 (List._∷_ 102 (List._∷_ 115 (List._∷_ 101 (List._∷_ 116
+      List.[]))))))))))))))))))))))) (Syntax.tcons (Syntax.tyInt Syntax.w64) Syntax.tnil)),
+) (List._∷_ (
+  7,
+  Rows.any-gone (Syntax.tyEnum (List._∷_ 104 (List._∷_ 101 (List._∷_ 97
+      (List._∷_ 100 (List._∷_ 101 (List._∷_ 114 (List._∷_ 58 (List._∷_ 58 (List._∷_ 119 (List._∷_ 97 (List._∷_ 108 (List._∷_ 107 (List._∷_ 58 (List._∷_ 58 (List._∷_ 87 (List._∷_ 97
+      (List._∷_ 108 (List._∷_ 107 (List._∷_ 83 (List._∷_ 116 (List._∷_ 101 (List._∷_ 112 List.[])))))))))))))))))))))) (Syntax.ttcons (Syntax.tcons (Syntax.tyStruct (List._∷_ 104
+      (List._∷_ 101 (List._∷_ 97 (List._∷_ 100 (List._∷_ 101 (List._∷_ 114 (List._∷_ 58 (List._∷_ 58 (List._∷_ 119 (List._∷_ 97 (List._∷_ 108 (List._∷_ 107 (List._∷_ 58 (List._∷_ 58
+      (List._∷_ 80 (List._∷_ 97 (List._∷_ 115 (List._∷_ 115 (List._∷_ 101 (List._∷_ 100 List.[])))))))))))))))))))) (Syntax.tcons (Syntax.tyInt Syntax.w64) (Syntax.tcons
+      Syntax.tyBool (Syntax.tcons (Syntax.tyInt Syntax.w64) Syntax.tnil)))) Syntax.tnil) (Syntax.ttcons Syntax.tnil (Syntax.ttcons (Syntax.tcons (Syntax.tyStruct (List._∷_ 116
+      (List._∷_ 121 (List._∷_ 112 (List._∷_ 101 (List._∷_ 115 (List._∷_ 58 (List._∷_ 58 (List._∷_ 82 (List._∷_ 101 (List._∷_ 102 (List._∷_ 117 (List._∷_ 115 (List._∷_ 97 (List._∷_
+      108 List.[])))))))))))))) (Syntax.tcons (Syntax.tyInt Syntax.w32) (Syntax.tcons (Syntax.tyInt Syntax.w64) Syntax.tnil))) Syntax.tnil) Syntax.ttnil)))),
+) (List._∷_ (
+  8,
+  Rows.any-gone (Syntax.tyStruct (List._∷_ 104 (List._∷_ 101 (List._∷_ 97 (List._∷_ 100 (List._∷_ 101 (List._∷_ 114 (List._∷_ 58 (List._∷_ 58 (List._∷_ 119 (List._∷_ 97 (List._∷_
+      108 (List._∷_ 107 (List._∷_ 58 (List._∷_ 58 (List._∷_ 80 (List._∷_ 97 (List._∷_ 115 (List._∷_ 115 (List._∷_ 101 (List._∷_ 100 List.[])))))))))))))))))))) (Syntax.tcons
+      (Syntax.tyInt Syntax.w64) (Syntax.tcons Syntax.tyBool (Syntax.tcons (Syntax.tyInt Syntax.w64) Syntax.tnil)))),
+) (List._∷_ (9, Rows.any-gone (Syntax.tyInt Syntax.w64)) (List._∷_
+    (10, Rows.any-gone Syntax.tyBool) (List._∷_ (11, Rows.any-gone (Syntax.tyRef Syntax.erased Syntax.mut LentTilePartEntry.pointee)) (List._∷_ (
+      12,
+      Rows.any-gone (Syntax.tyStruct
+          (List._∷_ 38 (List._∷_ 91 (List._∷_ 93 List.[]))) (Syntax.tcons (Syntax.tyRef Syntax.erased Syntax.mut LentTilePartEntry.pointee) (Syntax.tcons (Syntax.tyInt Syntax.w64)
+          Syntax.tnil))),
+    ) List.[]))))))))))))
+
+abbrev pub t3 : List.List Row.Entry
+t3 = List._∷_ (0, Rows.any-gone Syntax.tyUnit) (List._∷_ (
+  1,
+  Rows.sslice (Referent.rtF (Referent.fInt Syntax.w8)) (Syntax.tyRef (Syntax.named 0) Syntax.imm (Syntax.tyInt
+      Syntax.w8)) 0,
+) (List._∷_ (2, Rows.whole (Declared'.row CodestreamOffset.the-type)) (List._∷_ (
+  3,
+  Mut.mslice LentTilePartEntry.row (Syntax.tyRef (Syntax.named 1) Syntax.mut
+      LentTilePartEntry.pointee) 1,
+) (List._∷_ (4, Rows.sc-here (Row.sInt Syntax.w64)) (List._∷_ (5, Rows.sc-here (Row.sInt Syntax.w64)) (List._∷_ (
+  6,
+  Rows.any-gone (Syntax.tyStruct
+      (List._∷_ 116 (List._∷_ 121 (List._∷_ 112 (List._∷_ 101 (List._∷_ 115 (List._∷_ 58 (List._∷_ 58 (List._∷_ 67 (List._∷_ 111 (List._∷_ 100 (List._∷_ 101 (List._∷_ 115 (List._∷_
+      116 (List._∷_ 114 (List._∷_ 101 (List._∷_ 97 (List._∷_ 109 (List._∷_ 79 (List._∷_ 102 (List._∷_ 102 (List._∷_ 115 (List._∷_ 101 (List._∷_ 116 List.[])))))))))))))))))))))))
+      (Syntax.tcons (Syntax.tyInt Syntax.w64) Syntax.tnil)),
+) (List._∷_ (
+  7,
+  Rows.any-gone (Syntax.tyEnum (List._∷_ 104 (List._∷_ 101 (List._∷_ 97 (List._∷_ 100 (List._∷_ 101 (List._∷_
+      114 (List._∷_ 58 (List._∷_ 58 (List._∷_ 119 (List._∷_ 97 (List._∷_ 108 (List._∷_ 107 (List._∷_ 58 (List._∷_ 58 (List._∷_ 87 (List._∷_ 97 (List._∷_ 108 (List._∷_ 107 (List._∷_
+      83 (List._∷_ 116 (List._∷_ 101 (List._∷_ 112 List.[])))))))))))))))))))))) (Syntax.ttcons (Syntax.tcons (Syntax.tyStruct (List._∷_ 104 (List._∷_ 101 (List._∷_ 97 (List._∷_ 100
+      (List._∷_ 101 (List._∷_ 114 (List._∷_ 58 (List._∷_ 58 (List._∷_ 119 (List._∷_ 97 (List._∷_ 108 (List._∷_ 107 (List._∷_ 58 (List._∷_ 58 (List._∷_ 80 (List._∷_ 97 (List._∷_ 115
+      (List._∷_ 115 (List._∷_ 101 (List._∷_ 100 List.[])))))))))))))))))))) (Syntax.tcons (Syntax.tyInt Syntax.w64) (Syntax.tcons Syntax.tyBool (Syntax.tcons (Syntax.tyInt
+      Syntax.w64) Syntax.tnil)))) Syntax.tnil) (Syntax.ttcons Syntax.tnil (Syntax.ttcons (Syntax.tcons (Syntax.tyStruct (List._∷_ 116 (List._∷_ 121 (List._∷_ 112 (List._∷_ 101
+      (List._∷_ 115 (List._∷_ 58 (List._∷_ 58 (List._∷_ 82 (List._∷_ 101 (List._∷_ 102 (List._∷_ 117 (List._∷_ 115 (List._∷_ 97 (List._∷_ 108 List.[])))))))))))))) (Syntax.tcons
+      (Syntax.tyInt Syntax.w32) (Syntax.tcons (Syntax.tyInt Syntax.w64) Syntax.tnil))) Syntax.tnil) Syntax.ttnil)))),
+) (List._∷_ (
+  8,
+  Rows.any-gone (Syntax.tyStruct (List._∷_ 104
+      (List._∷_ 101 (List._∷_ 97 (List._∷_ 100 (List._∷_ 101 (List._∷_ 114 (List._∷_ 58 (List._∷_ 58 (List._∷_ 119 (List._∷_ 97 (List._∷_ 108 (List._∷_ 107 (List._∷_ 58 (List._∷_ 58
+      (List._∷_ 80 (List._∷_ 97 (List._∷_ 115 (List._∷_ 115 (List._∷_ 101 (List._∷_ 100 List.[])))))))))))))))))))) (Syntax.tcons (Syntax.tyInt Syntax.w64) (Syntax.tcons
+      Syntax.tyBool (Syntax.tcons (Syntax.tyInt Syntax.w64) Syntax.tnil)))),
+) (List._∷_ (9, Rows.any-gone (Syntax.tyInt Syntax.w64)) (List._∷_ (10, Rows.any-gone Syntax.tyBool)
+    (List._∷_ (11, Rows.any-gone (Syntax.tyRef Syntax.erased Syntax.mut LentTilePartEntry.pointee)) (List._∷_ (
+      12,
+      Rows.any-gone (Syntax.tyStruct (List._∷_ 38 (List._∷_ 91
+          (List._∷_ 93 List.[]))) (Syntax.tcons (Syntax.tyRef Syntax.erased Syntax.mut LentTilePartEntry.pointee) (Syntax.tcons (Syntax.tyInt Syntax.w64) Syntax.tnil))),
+    )
+    List.[]))))))))))))
+
+abbrev pub t4 : List.List Row.Entry
+t4 = List._∷_ (0, Rows.any-gone Syntax.tyUnit) (List._∷_ (
+  1,
+  Rows.sslice (Referent.rtF (Referent.fInt Syntax.w8)) (Syntax.tyRef (Syntax.named 0) Syntax.imm (Syntax.tyInt
+      Syntax.w8)) 0,
+) (List._∷_ (2, Rows.whole (Declared'.row CodestreamOffset.the-type)) (List._∷_ (
+  3,
+  Mut.mslice LentTilePartEntry.row (Syntax.tyRef (Syntax.named 1) Syntax.mut
+      LentTilePartEntry.pointee) 1,
+) (List._∷_ (4, Rows.sc-here (Row.sInt Syntax.w64)) (List._∷_ (5, Rows.sc-here (Row.sInt Syntax.w64)) (List._∷_ (
+  6,
+  Rows.whole (Declared'.row
+      CodestreamOffset.the-type),
 ) (List._∷_ (
   7,
   Rows.any-gone (Syntax.tyEnum (List._∷_ 104 (List._∷_ 101 (List._∷_ 97 (List._∷_ 100 (List._∷_ 101 (List._∷_ 114 (List._∷_ 58 (List._∷_
@@ -268,514 +485,440 @@ t0 = List._∷_ (0, Rows.any-gone Syntax.tyUnit) (List._∷_ (
       (Syntax.tyRef Syntax.erased Syntax.mut LentTilePartEntry.pointee) (Syntax.tcons (Syntax.tyInt Syntax.w64) Syntax.tnil))),
 ) List.[]))))))))))))
 
-abbrev pub t1 : List.List Row.Entry
-t1 = List._∷_ (0, Rows.sc-here Row.sUnit) (List._∷_ (1, Rows.sslice (Referent.rtF (Referent.fInt Syntax.w8)) (Syntax.tyRef (Syntax.named 0) Syntax.imm (Syntax.tyInt Syntax.w8)) 0)
-    (List._∷_ (2, Rows.any-gone (Syntax.tyInt Syntax.w64)) (List._∷_ (3, Mut.mslice LentTilePartEntry.row (Syntax.tyRef (Syntax.named 1) Syntax.mut LentTilePartEntry.pointee) 1)
-    (List._∷_ (4, Rows.any-gone (Syntax.tyInt Syntax.w64)) (List._∷_ (5, Rows.any-gone (Syntax.tyInt Syntax.w64)) (List._∷_ (6, Rows.any-gone (Syntax.tyInt Syntax.w64)) (List._∷_ (
-      7,
-      Rows.any-gone (Syntax.tyEnum (List._∷_ 104 (List._∷_ 101 (List._∷_ 97 (List._∷_ 100 (List._∷_ 101 (List._∷_ 114 (List._∷_ 58 (List._∷_ 58 (List._∷_ 119 (List._∷_ 97
-          (List._∷_ 108 (List._∷_ 107 (List._∷_ 58 (List._∷_ 58 (List._∷_ 87 (List._∷_ 97 (List._∷_ 108 (List._∷_ 107 (List._∷_ 83 (List._∷_ 116 (List._∷_ 101 (List._∷_ 112
-          List.[])))))))))))))))))))))) (Syntax.ttcons (Syntax.tcons (Syntax.tyStruct (List._∷_ 104 (List._∷_ 101 (List._∷_ 97 (List._∷_ 100 (List._∷_ 101 (List._∷_ 114 (List._∷_ 58
-          (List._∷_ 58 (List._∷_ 119 (List._∷_ 97 (List._∷_ 108 (List._∷_ 107 (List._∷_ 58 (List._∷_ 58 (List._∷_ 80 (List._∷_ 97 (List._∷_ 115 (List._∷_ 115 (List._∷_ 101 (List._∷_ 100
-          List.[])))))))))))))))))))) (Syntax.tcons (Syntax.tyInt Syntax.w64) (Syntax.tcons Syntax.tyBool (Syntax.tcons (Syntax.tyInt Syntax.w64) Syntax.tnil)))) Syntax.tnil)
-          (Syntax.ttcons Syntax.tnil (Syntax.ttcons (Syntax.tcons (Syntax.tyStruct (List._∷_ 116 (List._∷_ 121 (List._∷_ 112 (List._∷_ 101 (List._∷_ 115 (List._∷_ 58 (List._∷_ 58
-          (List._∷_ 82 (List._∷_ 101 (List._∷_ 102 (List._∷_ 117 (List._∷_ 115 (List._∷_ 97 (List._∷_ 108 List.[])))))))))))))) (Syntax.tcons (Syntax.tyInt Syntax.w32) (Syntax.tcons
-          (Syntax.tyInt Syntax.w64) Syntax.tnil))) Syntax.tnil) Syntax.ttnil)))),
-    ) (List._∷_ (
-      8,
-      Rows.any-gone (Syntax.tyStruct (List._∷_ 104 (List._∷_ 101 (List._∷_ 97 (List._∷_ 100
-          (List._∷_ 101 (List._∷_ 114 (List._∷_ 58 (List._∷_ 58 (List._∷_ 119 (List._∷_ 97 (List._∷_ 108 (List._∷_ 107 (List._∷_ 58 (List._∷_ 58 (List._∷_ 80 (List._∷_ 97 (List._∷_ 115
-          (List._∷_ 115 (List._∷_ 101 (List._∷_ 100 List.[])))))))))))))))))))) (Syntax.tcons (Syntax.tyInt Syntax.w64) (Syntax.tcons Syntax.tyBool (Syntax.tcons (Syntax.tyInt
-          Syntax.w64) Syntax.tnil)))),
-    ) (List._∷_ (9, Rows.any-gone (Syntax.tyInt Syntax.w64)) (List._∷_ (10, Rows.any-gone Syntax.tyBool) (List._∷_ (
-      11,
-      Rows.any-gone (Syntax.tyRef
-          Syntax.erased Syntax.mut LentTilePartEntry.pointee),
-    ) (List._∷_ (
-      12,
-      Rows.any-gone (Syntax.tyStruct (List._∷_ 38 (List._∷_ 91 (List._∷_ 93 List.[]))) (Syntax.tcons (Syntax.tyRef
-          Syntax.erased Syntax.mut LentTilePartEntry.pointee) (Syntax.tcons (Syntax.tyInt Syntax.w64) Syntax.tnil))),
-    ) List.[]))))))))))))
-
-abbrev pub t2 : List.List Row.Entry
-t2 = List._∷_ (0, Rows.any-gone Syntax.tyUnit) (List._∷_ (
-  1,
-  Rows.sslice (Referent.rtF (Referent.fInt Syntax.w8)) (Syntax.tyRef (Syntax.named 0) Syntax.imm (Syntax.tyInt
-      Syntax.w8)) 0,
-) (List._∷_ (2, Rows.sc-here (Row.sInt Syntax.w64)) (List._∷_ (
-  3,
-  Mut.mslice LentTilePartEntry.row (Syntax.tyRef (Syntax.named 1) Syntax.mut
-      LentTilePartEntry.pointee) 1,
-) (List._∷_ (4, Rows.sc-here (Row.sInt Syntax.w64)) (List._∷_ (5, Rows.any-gone (Syntax.tyInt Syntax.w64)) (List._∷_ (
-  6,
-  Rows.any-gone (Syntax.tyInt
-      Syntax.w64),
-) (List._∷_ (
-  7,
-  Rows.any-gone (Syntax.tyEnum (List._∷_ 104 (List._∷_ 101 (List._∷_ 97 (List._∷_ 100 (List._∷_ 101 (List._∷_ 114 (List._∷_ 58 (List._∷_ 58 (List._∷_
-      119 (List._∷_ 97 (List._∷_ 108 (List._∷_ 107 (List._∷_ 58 (List._∷_ 58 (List._∷_ 87 (List._∷_ 97 (List._∷_ 108 (List._∷_ 107 (List._∷_ 83 (List._∷_ 116 (List._∷_ 101 (List._∷_
-      112 List.[])))))))))))))))))))))) (Syntax.ttcons (Syntax.tcons (Syntax.tyStruct (List._∷_ 104 (List._∷_ 101 (List._∷_ 97 (List._∷_ 100 (List._∷_ 101 (List._∷_ 114 (List._∷_ 58
-      (List._∷_ 58 (List._∷_ 119 (List._∷_ 97 (List._∷_ 108 (List._∷_ 107 (List._∷_ 58 (List._∷_ 58 (List._∷_ 80 (List._∷_ 97 (List._∷_ 115 (List._∷_ 115 (List._∷_ 101 (List._∷_ 100
-      List.[])))))))))))))))))))) (Syntax.tcons (Syntax.tyInt Syntax.w64) (Syntax.tcons Syntax.tyBool (Syntax.tcons (Syntax.tyInt Syntax.w64) Syntax.tnil)))) Syntax.tnil)
-      (Syntax.ttcons Syntax.tnil (Syntax.ttcons (Syntax.tcons (Syntax.tyStruct (List._∷_ 116 (List._∷_ 121 (List._∷_ 112 (List._∷_ 101 (List._∷_ 115 (List._∷_ 58 (List._∷_ 58
-      (List._∷_ 82 (List._∷_ 101 (List._∷_ 102 (List._∷_ 117 (List._∷_ 115 (List._∷_ 97 (List._∷_ 108 List.[])))))))))))))) (Syntax.tcons (Syntax.tyInt Syntax.w32) (Syntax.tcons
-      (Syntax.tyInt Syntax.w64) Syntax.tnil))) Syntax.tnil) Syntax.ttnil)))),
-) (List._∷_ (
-  8,
-  Rows.any-gone (Syntax.tyStruct (List._∷_ 104 (List._∷_ 101 (List._∷_ 97 (List._∷_ 100
-      (List._∷_ 101 (List._∷_ 114 (List._∷_ 58 (List._∷_ 58 (List._∷_ 119 (List._∷_ 97 (List._∷_ 108 (List._∷_ 107 (List._∷_ 58 (List._∷_ 58 (List._∷_ 80 (List._∷_ 97 (List._∷_ 115
-      (List._∷_ 115 (List._∷_ 101 (List._∷_ 100 List.[])))))))))))))))))))) (Syntax.tcons (Syntax.tyInt Syntax.w64) (Syntax.tcons Syntax.tyBool (Syntax.tcons (Syntax.tyInt
-      Syntax.w64) Syntax.tnil)))),
-) (List._∷_ (9, Rows.any-gone (Syntax.tyInt Syntax.w64)) (List._∷_ (10, Rows.any-gone Syntax.tyBool) (List._∷_ (
-  11,
-  Rows.any-gone (Syntax.tyRef
-      Syntax.erased Syntax.mut LentTilePartEntry.pointee),
-) (List._∷_ (
-  12,
-  Rows.any-gone (Syntax.tyStruct (List._∷_ 38 (List._∷_ 91 (List._∷_ 93 List.[]))) (Syntax.tcons (Syntax.tyRef
-      Syntax.erased Syntax.mut LentTilePartEntry.pointee) (Syntax.tcons (Syntax.tyInt Syntax.w64) Syntax.tnil))),
-) List.[]))))))))))))
-
-abbrev pub t3 : List.List Row.Entry
-t3 = List._∷_ (0, Rows.any-gone Syntax.tyUnit) (List._∷_ (
-  1,
-  Rows.sslice (Referent.rtF (Referent.fInt Syntax.w8)) (Syntax.tyRef (Syntax.named 0) Syntax.imm (Syntax.tyInt
-      Syntax.w8)) 0,
-) (List._∷_ (2, Rows.sc-here (Row.sInt Syntax.w64)) (List._∷_ (
-  3,
-  Mut.mslice LentTilePartEntry.row (Syntax.tyRef (Syntax.named 1) Syntax.mut
-      LentTilePartEntry.pointee) 1,
-) (List._∷_ (4, Rows.sc-here (Row.sInt Syntax.w64)) (List._∷_ (5, Rows.sc-here (Row.sInt Syntax.w64)) (List._∷_ (
-  6,
-  Rows.any-gone (Syntax.tyInt
-      Syntax.w64),
-) (List._∷_ (
-  7,
-  Rows.any-gone (Syntax.tyEnum (List._∷_ 104 (List._∷_ 101 (List._∷_ 97 (List._∷_ 100 (List._∷_ 101 (List._∷_ 114 (List._∷_ 58 (List._∷_ 58 (List._∷_
-      119 (List._∷_ 97 (List._∷_ 108 (List._∷_ 107 (List._∷_ 58 (List._∷_ 58 (List._∷_ 87 (List._∷_ 97 (List._∷_ 108 (List._∷_ 107 (List._∷_ 83 (List._∷_ 116 (List._∷_ 101 (List._∷_
-      112 List.[])))))))))))))))))))))) (Syntax.ttcons (Syntax.tcons (Syntax.tyStruct (List._∷_ 104 (List._∷_ 101 (List._∷_ 97 (List._∷_ 100 (List._∷_ 101 (List._∷_ 114 (List._∷_ 58
-      (List._∷_ 58 (List._∷_ 119 (List._∷_ 97 (List._∷_ 108 (List._∷_ 107 (List._∷_ 58 (List._∷_ 58 (List._∷_ 80 (List._∷_ 97 (List._∷_ 115 (List._∷_ 115 (List._∷_ 101 (List._∷_ 100
-      List.[])))))))))))))))))))) (Syntax.tcons (Syntax.tyInt Syntax.w64) (Syntax.tcons Syntax.tyBool (Syntax.tcons (Syntax.tyInt Syntax.w64) Syntax.tnil)))) Syntax.tnil)
-      (Syntax.ttcons Syntax.tnil (Syntax.ttcons (Syntax.tcons (Syntax.tyStruct (List._∷_ 116 (List._∷_ 121 (List._∷_ 112 (List._∷_ 101 (List._∷_ 115 (List._∷_ 58 (List._∷_ 58
-      (List._∷_ 82 (List._∷_ 101 (List._∷_ 102 (List._∷_ 117 (List._∷_ 115 (List._∷_ 97 (List._∷_ 108 List.[])))))))))))))) (Syntax.tcons (Syntax.tyInt Syntax.w32) (Syntax.tcons
-      (Syntax.tyInt Syntax.w64) Syntax.tnil))) Syntax.tnil) Syntax.ttnil)))),
-) (List._∷_ (
-  8,
-  Rows.any-gone (Syntax.tyStruct (List._∷_ 104 (List._∷_ 101 (List._∷_ 97 (List._∷_ 100
-      (List._∷_ 101 (List._∷_ 114 (List._∷_ 58 (List._∷_ 58 (List._∷_ 119 (List._∷_ 97 (List._∷_ 108 (List._∷_ 107 (List._∷_ 58 (List._∷_ 58 (List._∷_ 80 (List._∷_ 97 (List._∷_ 115
-      (List._∷_ 115 (List._∷_ 101 (List._∷_ 100 List.[])))))))))))))))))))) (Syntax.tcons (Syntax.tyInt Syntax.w64) (Syntax.tcons Syntax.tyBool (Syntax.tcons (Syntax.tyInt
-      Syntax.w64) Syntax.tnil)))),
-) (List._∷_ (9, Rows.any-gone (Syntax.tyInt Syntax.w64)) (List._∷_ (10, Rows.any-gone Syntax.tyBool) (List._∷_ (
-  11,
-  Rows.any-gone (Syntax.tyRef
-      Syntax.erased Syntax.mut LentTilePartEntry.pointee),
-) (List._∷_ (
-  12,
-  Rows.any-gone (Syntax.tyStruct (List._∷_ 38 (List._∷_ 91 (List._∷_ 93 List.[]))) (Syntax.tcons (Syntax.tyRef
-      Syntax.erased Syntax.mut LentTilePartEntry.pointee) (Syntax.tcons (Syntax.tyInt Syntax.w64) Syntax.tnil))),
-) List.[]))))))))))))
-
-abbrev pub t4 : List.List Row.Entry
-t4 = List._∷_ (0, Rows.any-gone Syntax.tyUnit) (List._∷_ (
-  1,
-  Rows.sslice (Referent.rtF (Referent.fInt Syntax.w8)) (Syntax.tyRef (Syntax.named 0) Syntax.imm (Syntax.tyInt
-      Syntax.w8)) 0,
-) (List._∷_ (2, Rows.sc-here (Row.sInt Syntax.w64)) (List._∷_ (
-  3,
-  Mut.mslice LentTilePartEntry.row (Syntax.tyRef (Syntax.named 1) Syntax.mut
-      LentTilePartEntry.pointee) 1,
-) (List._∷_ (4, Rows.sc-here (Row.sInt Syntax.w64)) (List._∷_ (5, Rows.sc-here (Row.sInt Syntax.w64)) (List._∷_ (
-  6,
-  Rows.sc-here (Row.sInt
-      Syntax.w64),
-) (List._∷_ (
-  7,
-  Rows.any-gone (Syntax.tyEnum (List._∷_ 104 (List._∷_ 101 (List._∷_ 97 (List._∷_ 100 (List._∷_ 101 (List._∷_ 114 (List._∷_ 58 (List._∷_ 58 (List._∷_
-      119 (List._∷_ 97 (List._∷_ 108 (List._∷_ 107 (List._∷_ 58 (List._∷_ 58 (List._∷_ 87 (List._∷_ 97 (List._∷_ 108 (List._∷_ 107 (List._∷_ 83 (List._∷_ 116 (List._∷_ 101 (List._∷_
-      112 List.[])))))))))))))))))))))) (Syntax.ttcons (Syntax.tcons (Syntax.tyStruct (List._∷_ 104 (List._∷_ 101 (List._∷_ 97 (List._∷_ 100 (List._∷_ 101 (List._∷_ 114 (List._∷_ 58
-      (List._∷_ 58 (List._∷_ 119 (List._∷_ 97 (List._∷_ 108 (List._∷_ 107 (List._∷_ 58 (List._∷_ 58 (List._∷_ 80 (List._∷_ 97 (List._∷_ 115 (List._∷_ 115 (List._∷_ 101 (List._∷_ 100
-      List.[])))))))))))))))))))) (Syntax.tcons (Syntax.tyInt Syntax.w64) (Syntax.tcons Syntax.tyBool (Syntax.tcons (Syntax.tyInt Syntax.w64) Syntax.tnil)))) Syntax.tnil)
-      (Syntax.ttcons Syntax.tnil (Syntax.ttcons (Syntax.tcons (Syntax.tyStruct (List._∷_ 116 (List._∷_ 121 (List._∷_ 112 (List._∷_ 101 (List._∷_ 115 (List._∷_ 58 (List._∷_ 58
-      (List._∷_ 82 (List._∷_ 101 (List._∷_ 102 (List._∷_ 117 (List._∷_ 115 (List._∷_ 97 (List._∷_ 108 List.[])))))))))))))) (Syntax.tcons (Syntax.tyInt Syntax.w32) (Syntax.tcons
-      (Syntax.tyInt Syntax.w64) Syntax.tnil))) Syntax.tnil) Syntax.ttnil)))),
-) (List._∷_ (
-  8,
-  Rows.any-gone (Syntax.tyStruct (List._∷_ 104 (List._∷_ 101 (List._∷_ 97 (List._∷_ 100
-      (List._∷_ 101 (List._∷_ 114 (List._∷_ 58 (List._∷_ 58 (List._∷_ 119 (List._∷_ 97 (List._∷_ 108 (List._∷_ 107 (List._∷_ 58 (List._∷_ 58 (List._∷_ 80 (List._∷_ 97 (List._∷_ 115
-      (List._∷_ 115 (List._∷_ 101 (List._∷_ 100 List.[])))))))))))))))))))) (Syntax.tcons (Syntax.tyInt Syntax.w64) (Syntax.tcons Syntax.tyBool (Syntax.tcons (Syntax.tyInt
-      Syntax.w64) Syntax.tnil)))),
-) (List._∷_ (9, Rows.any-gone (Syntax.tyInt Syntax.w64)) (List._∷_ (10, Rows.any-gone Syntax.tyBool) (List._∷_ (
-  11,
-  Rows.any-gone (Syntax.tyRef
-      Syntax.erased Syntax.mut LentTilePartEntry.pointee),
-) (List._∷_ (
-  12,
-  Rows.any-gone (Syntax.tyStruct (List._∷_ 38 (List._∷_ 91 (List._∷_ 93 List.[]))) (Syntax.tcons (Syntax.tyRef
-      Syntax.erased Syntax.mut LentTilePartEntry.pointee) (Syntax.tcons (Syntax.tyInt Syntax.w64) Syntax.tnil))),
-) List.[]))))))))))))
-
 abbrev pub t5 : List.List Row.Entry
 t5 = List._∷_ (0, Rows.any-gone Syntax.tyUnit) (List._∷_ (
   1,
   Rows.sslice (Referent.rtF (Referent.fInt Syntax.w8)) (Syntax.tyRef (Syntax.named 0) Syntax.imm (Syntax.tyInt
       Syntax.w8)) 0,
-) (List._∷_ (2, Rows.sc-here (Row.sInt Syntax.w64)) (List._∷_ (
-  3,
-  Mut.mslice LentTilePartEntry.row (Syntax.tyRef (Syntax.named 1) Syntax.mut
-      LentTilePartEntry.pointee) 1,
-) (List._∷_ (4, Rows.sc-here (Row.sInt Syntax.w64)) (List._∷_ (5, Rows.sc-here (Row.sInt Syntax.w64)) (List._∷_ (
-  6,
-  Rows.sc-here (Row.sInt
-      Syntax.w64),
-) (List._∷_ (7, Rows.whole (Declared.row WalkStep.the-type)) (List._∷_ (
-  8,
-  Rows.any-gone (Syntax.tyStruct (List._∷_ 104 (List._∷_ 101 (List._∷_ 97 (List._∷_ 100
-      (List._∷_ 101 (List._∷_ 114 (List._∷_ 58 (List._∷_ 58 (List._∷_ 119 (List._∷_ 97 (List._∷_ 108 (List._∷_ 107 (List._∷_ 58 (List._∷_ 58 (List._∷_ 80 (List._∷_ 97 (List._∷_ 115
-      (List._∷_ 115 (List._∷_ 101 (List._∷_ 100 List.[])))))))))))))))))))) (Syntax.tcons (Syntax.tyInt Syntax.w64) (Syntax.tcons Syntax.tyBool (Syntax.tcons (Syntax.tyInt
-      Syntax.w64) Syntax.tnil)))),
-) (List._∷_ (9, Rows.any-gone (Syntax.tyInt Syntax.w64)) (List._∷_ (10, Rows.any-gone Syntax.tyBool) (List._∷_ (
-  11,
-  Rows.any-gone (Syntax.tyRef
-      Syntax.erased Syntax.mut LentTilePartEntry.pointee),
 ) (List._∷_ (
-  12,
-  Rows.any-gone (Syntax.tyStruct (List._∷_ 38 (List._∷_ 91 (List._∷_ 93 List.[]))) (Syntax.tcons (Syntax.tyRef
-      Syntax.erased Syntax.mut LentTilePartEntry.pointee) (Syntax.tcons (Syntax.tyInt Syntax.w64) Syntax.tnil))),
-) List.[]))))))))))))
+  2,
+  Rows.any-gone (Syntax.tyStruct (List._∷_ 116 (List._∷_ 121 (List._∷_ 112 (List._∷_ 101 (List._∷_ 115 (List._∷_ 58 (List._∷_ 58 (List._∷_ 67
+      (List._∷_ 111 (List._∷_ 100 (List._∷_ 101 (List._∷_ 115 (List._∷_ 116 (List._∷_ 114 (List._∷_ 101 (List._∷_ 97 (List._∷_ 109 (List._∷_ 79 (List._∷_ 102 (List._∷_ 102 (List._∷_
+      115 (List._∷_ 101 (List._∷_ 116 List.[]))))))))))))))))))))))) (Syntax.tcons (Syntax.tyInt Syntax.w64) Syntax.tnil)),
+) (List._∷_ (
+  3,
+  Mut.mslice LentTilePartEntry.row
+      (Syntax.tyRef (Syntax.named 1) Syntax.mut LentTilePartEntry.pointee) 1,
+) (List._∷_ (4, Rows.sc-here (Row.sInt Syntax.w64)) (List._∷_ (5, Rows.sc-here (Row.sInt Syntax.w64))
+    (List._∷_ (6, Rows.whole (Declared'.row CodestreamOffset.the-type)) (List._∷_ (
+      7,
+      Rows.any-gone (Syntax.tyEnum (List._∷_ 104 (List._∷_ 101 (List._∷_ 97 (List._∷_ 100 (List._∷_
+          101 (List._∷_ 114 (List._∷_ 58 (List._∷_ 58 (List._∷_ 119 (List._∷_ 97 (List._∷_ 108 (List._∷_ 107 (List._∷_ 58 (List._∷_ 58 (List._∷_ 87 (List._∷_ 97 (List._∷_ 108 (List._∷_
+          107 (List._∷_ 83 (List._∷_ 116 (List._∷_ 101 (List._∷_ 112 List.[])))))))))))))))))))))) (Syntax.ttcons (Syntax.tcons (Syntax.tyStruct (List._∷_ 104 (List._∷_ 101 (List._∷_ 97
+          (List._∷_ 100 (List._∷_ 101 (List._∷_ 114 (List._∷_ 58 (List._∷_ 58 (List._∷_ 119 (List._∷_ 97 (List._∷_ 108 (List._∷_ 107 (List._∷_ 58 (List._∷_ 58 (List._∷_ 80 (List._∷_ 97
+          (List._∷_ 115 (List._∷_ 115 (List._∷_ 101 (List._∷_ 100 List.[])))))))))))))))))))) (Syntax.tcons (Syntax.tyInt Syntax.w64) (Syntax.tcons Syntax.tyBool (Syntax.tcons
+          (Syntax.tyInt Syntax.w64) Syntax.tnil)))) Syntax.tnil) (Syntax.ttcons Syntax.tnil (Syntax.ttcons (Syntax.tcons (Syntax.tyStruct (List._∷_ 116 (List._∷_ 121 (List._∷_ 112
+          (List._∷_ 101 (List._∷_ 115 (List._∷_ 58 (List._∷_ 58 (List._∷_ 82 (List._∷_ 101 (List._∷_ 102 (List._∷_ 117 (List._∷_ 115 (List._∷_ 97 (List._∷_ 108 List.[]))))))))))))))
+          (Syntax.tcons (Syntax.tyInt Syntax.w32) (Syntax.tcons (Syntax.tyInt Syntax.w64) Syntax.tnil))) Syntax.tnil) Syntax.ttnil)))),
+    ) (List._∷_ (
+      8,
+      Rows.any-gone (Syntax.tyStruct
+          (List._∷_ 104 (List._∷_ 101 (List._∷_ 97 (List._∷_ 100 (List._∷_ 101 (List._∷_ 114 (List._∷_ 58 (List._∷_ 58 (List._∷_ 119 (List._∷_ 97 (List._∷_ 108 (List._∷_ 107 (List._∷_ 58
+          (List._∷_ 58 (List._∷_ 80 (List._∷_ 97 (List._∷_ 115 (List._∷_ 115 (List._∷_ 101 (List._∷_ 100 List.[])))))))))))))))))))) (Syntax.tcons (Syntax.tyInt Syntax.w64) (Syntax.tcons
+          Syntax.tyBool (Syntax.tcons (Syntax.tyInt Syntax.w64) Syntax.tnil)))),
+    ) (List._∷_ (9, Rows.any-gone (Syntax.tyInt Syntax.w64)) (List._∷_ (10, Rows.any-gone Syntax.tyBool)
+    (List._∷_ (11, Rows.any-gone (Syntax.tyRef Syntax.erased Syntax.mut LentTilePartEntry.pointee)) (List._∷_ (
+      12,
+      Rows.any-gone (Syntax.tyStruct (List._∷_ 38 (List._∷_ 91
+          (List._∷_ 93 List.[]))) (Syntax.tcons (Syntax.tyRef Syntax.erased Syntax.mut LentTilePartEntry.pointee) (Syntax.tcons (Syntax.tyInt Syntax.w64) Syntax.tnil))),
+    )
+    List.[]))))))))))))
 
 abbrev pub t6 : List.List Row.Entry
 t6 = List._∷_ (0, Rows.any-gone Syntax.tyUnit) (List._∷_ (
   1,
   Rows.sslice (Referent.rtF (Referent.fInt Syntax.w8)) (Syntax.tyRef (Syntax.named 0) Syntax.imm (Syntax.tyInt
       Syntax.w8)) 0,
-) (List._∷_ (2, Rows.sc-here (Row.sInt Syntax.w64)) (List._∷_ (
-  3,
-  Mut.mslice LentTilePartEntry.row (Syntax.tyRef (Syntax.named 1) Syntax.mut
-      LentTilePartEntry.pointee) 1,
-) (List._∷_ (4, Rows.sc-here (Row.sInt Syntax.w64)) (List._∷_ (5, Rows.sc-here (Row.sInt Syntax.w64)) (List._∷_ (
-  6,
-  Rows.sc-here (Row.sInt
-      Syntax.w64),
 ) (List._∷_ (
-  7,
-  Rows.any-gone (Syntax.tyEnum (List._∷_ 104 (List._∷_ 101 (List._∷_ 97 (List._∷_ 100 (List._∷_ 101 (List._∷_ 114 (List._∷_ 58 (List._∷_ 58 (List._∷_
-      119 (List._∷_ 97 (List._∷_ 108 (List._∷_ 107 (List._∷_ 58 (List._∷_ 58 (List._∷_ 87 (List._∷_ 97 (List._∷_ 108 (List._∷_ 107 (List._∷_ 83 (List._∷_ 116 (List._∷_ 101 (List._∷_
-      112 List.[])))))))))))))))))))))) (Syntax.ttcons (Syntax.tcons (Syntax.tyStruct (List._∷_ 104 (List._∷_ 101 (List._∷_ 97 (List._∷_ 100 (List._∷_ 101 (List._∷_ 114 (List._∷_ 58
-      (List._∷_ 58 (List._∷_ 119 (List._∷_ 97 (List._∷_ 108 (List._∷_ 107 (List._∷_ 58 (List._∷_ 58 (List._∷_ 80 (List._∷_ 97 (List._∷_ 115 (List._∷_ 115 (List._∷_ 101 (List._∷_ 100
-      List.[])))))))))))))))))))) (Syntax.tcons (Syntax.tyInt Syntax.w64) (Syntax.tcons Syntax.tyBool (Syntax.tcons (Syntax.tyInt Syntax.w64) Syntax.tnil)))) Syntax.tnil)
-      (Syntax.ttcons Syntax.tnil (Syntax.ttcons (Syntax.tcons (Syntax.tyStruct (List._∷_ 116 (List._∷_ 121 (List._∷_ 112 (List._∷_ 101 (List._∷_ 115 (List._∷_ 58 (List._∷_ 58
-      (List._∷_ 82 (List._∷_ 101 (List._∷_ 102 (List._∷_ 117 (List._∷_ 115 (List._∷_ 97 (List._∷_ 108 List.[])))))))))))))) (Syntax.tcons (Syntax.tyInt Syntax.w32) (Syntax.tcons
-      (Syntax.tyInt Syntax.w64) Syntax.tnil))) Syntax.tnil) Syntax.ttnil)))),
-) (List._∷_ (8, Rows.whole (Declared'.row Passed.the-type)) (List._∷_ (
-  9,
-  Rows.any-gone (Syntax.tyInt
-      Syntax.w64),
-) (List._∷_ (10, Rows.any-gone Syntax.tyBool) (List._∷_ (11, Rows.any-gone (Syntax.tyRef Syntax.erased Syntax.mut LentTilePartEntry.pointee)) (List._∷_ (
-  12,
-  Rows.any-gone (Syntax.tyStruct (List._∷_ 38 (List._∷_ 91 (List._∷_ 93 List.[]))) (Syntax.tcons (Syntax.tyRef Syntax.erased Syntax.mut LentTilePartEntry.pointee) (Syntax.tcons
-      (Syntax.tyInt Syntax.w64) Syntax.tnil))),
-) List.[]))))))))))))
+  2,
+  Rows.any-gone (Syntax.tyStruct (List._∷_ 116 (List._∷_ 121 (List._∷_ 112 (List._∷_ 101 (List._∷_ 115 (List._∷_ 58 (List._∷_ 58 (List._∷_ 67
+      (List._∷_ 111 (List._∷_ 100 (List._∷_ 101 (List._∷_ 115 (List._∷_ 116 (List._∷_ 114 (List._∷_ 101 (List._∷_ 97 (List._∷_ 109 (List._∷_ 79 (List._∷_ 102 (List._∷_ 102 (List._∷_
+      115 (List._∷_ 101 (List._∷_ 116 List.[]))))))))))))))))))))))) (Syntax.tcons (Syntax.tyInt Syntax.w64) Syntax.tnil)),
+) (List._∷_ (
+  3,
+  Mut.mslice LentTilePartEntry.row
+      (Syntax.tyRef (Syntax.named 1) Syntax.mut LentTilePartEntry.pointee) 1,
+) (List._∷_ (4, Rows.sc-here (Row.sInt Syntax.w64)) (List._∷_ (5, Rows.sc-here (Row.sInt Syntax.w64))
+    (List._∷_ (6, Rows.whole (Declared'.row CodestreamOffset.the-type)) (List._∷_ (7, Rows.whole (Declared.row WalkStep.the-type)) (List._∷_ (
+      8,
+      Rows.any-gone (Syntax.tyStruct
+          (List._∷_ 104 (List._∷_ 101 (List._∷_ 97 (List._∷_ 100 (List._∷_ 101 (List._∷_ 114 (List._∷_ 58 (List._∷_ 58 (List._∷_ 119 (List._∷_ 97 (List._∷_ 108 (List._∷_ 107 (List._∷_ 58
+          (List._∷_ 58 (List._∷_ 80 (List._∷_ 97 (List._∷_ 115 (List._∷_ 115 (List._∷_ 101 (List._∷_ 100 List.[])))))))))))))))))))) (Syntax.tcons (Syntax.tyInt Syntax.w64) (Syntax.tcons
+          Syntax.tyBool (Syntax.tcons (Syntax.tyInt Syntax.w64) Syntax.tnil)))),
+    ) (List._∷_ (9, Rows.any-gone (Syntax.tyInt Syntax.w64)) (List._∷_ (10, Rows.any-gone Syntax.tyBool)
+    (List._∷_ (11, Rows.any-gone (Syntax.tyRef Syntax.erased Syntax.mut LentTilePartEntry.pointee)) (List._∷_ (
+      12,
+      Rows.any-gone (Syntax.tyStruct (List._∷_ 38 (List._∷_ 91
+          (List._∷_ 93 List.[]))) (Syntax.tcons (Syntax.tyRef Syntax.erased Syntax.mut LentTilePartEntry.pointee) (Syntax.tcons (Syntax.tyInt Syntax.w64) Syntax.tnil))),
+    )
+    List.[]))))))))))))
 
 abbrev pub t7 : List.List Row.Entry
 t7 = List._∷_ (0, Rows.any-gone Syntax.tyUnit) (List._∷_ (
   1,
   Rows.sslice (Referent.rtF (Referent.fInt Syntax.w8)) (Syntax.tyRef (Syntax.named 0) Syntax.imm (Syntax.tyInt
       Syntax.w8)) 0,
-) (List._∷_ (2, Rows.sc-here (Row.sInt Syntax.w64)) (List._∷_ (
-  3,
-  Mut.mslice LentTilePartEntry.row (Syntax.tyRef (Syntax.named 1) Syntax.mut
-      LentTilePartEntry.pointee) 1,
-) (List._∷_ (4, Rows.sc-here (Row.sInt Syntax.w64)) (List._∷_ (5, Rows.sc-here (Row.sInt Syntax.w64)) (List._∷_ (
-  6,
-  Rows.sc-here (Row.sInt
-      Syntax.w64),
-) (List._∷_ (7, Rows.whole (Known.Known WalkStep.enum 0)) (List._∷_ (
-  8,
-  Rows.any-gone (Syntax.tyStruct (List._∷_ 104 (List._∷_ 101 (List._∷_ 97 (List._∷_ 100
-      (List._∷_ 101 (List._∷_ 114 (List._∷_ 58 (List._∷_ 58 (List._∷_ 119 (List._∷_ 97 (List._∷_ 108 (List._∷_ 107 (List._∷_ 58 (List._∷_ 58 (List._∷_ 80 (List._∷_ 97 (List._∷_ 115
-      (List._∷_ 115 (List._∷_ 101 (List._∷_ 100 List.[])))))))))))))))))))) (Syntax.tcons (Syntax.tyInt Syntax.w64) (Syntax.tcons Syntax.tyBool (Syntax.tcons (Syntax.tyInt
-      Syntax.w64) Syntax.tnil)))),
-) (List._∷_ (9, Rows.any-gone (Syntax.tyInt Syntax.w64)) (List._∷_ (10, Rows.any-gone Syntax.tyBool) (List._∷_ (
-  11,
-  Rows.any-gone (Syntax.tyRef
-      Syntax.erased Syntax.mut LentTilePartEntry.pointee),
 ) (List._∷_ (
-  12,
-  Rows.any-gone (Syntax.tyStruct (List._∷_ 38 (List._∷_ 91 (List._∷_ 93 List.[]))) (Syntax.tcons (Syntax.tyRef
-      Syntax.erased Syntax.mut LentTilePartEntry.pointee) (Syntax.tcons (Syntax.tyInt Syntax.w64) Syntax.tnil))),
-) List.[]))))))))))))
+  2,
+  Rows.any-gone (Syntax.tyStruct (List._∷_ 116 (List._∷_ 121 (List._∷_ 112 (List._∷_ 101 (List._∷_ 115 (List._∷_ 58 (List._∷_ 58 (List._∷_ 67
+      (List._∷_ 111 (List._∷_ 100 (List._∷_ 101 (List._∷_ 115 (List._∷_ 116 (List._∷_ 114 (List._∷_ 101 (List._∷_ 97 (List._∷_ 109 (List._∷_ 79 (List._∷_ 102 (List._∷_ 102 (List._∷_
+      115 (List._∷_ 101 (List._∷_ 116 List.[]))))))))))))))))))))))) (Syntax.tcons (Syntax.tyInt Syntax.w64) Syntax.tnil)),
+) (List._∷_ (
+  3,
+  Mut.mslice LentTilePartEntry.row
+      (Syntax.tyRef (Syntax.named 1) Syntax.mut LentTilePartEntry.pointee) 1,
+) (List._∷_ (4, Rows.sc-here (Row.sInt Syntax.w64)) (List._∷_ (5, Rows.sc-here (Row.sInt Syntax.w64))
+    (List._∷_ (6, Rows.whole (Declared'.row CodestreamOffset.the-type)) (List._∷_ (
+      7,
+      Rows.any-gone (Syntax.tyEnum (List._∷_ 104 (List._∷_ 101 (List._∷_ 97 (List._∷_ 100 (List._∷_
+          101 (List._∷_ 114 (List._∷_ 58 (List._∷_ 58 (List._∷_ 119 (List._∷_ 97 (List._∷_ 108 (List._∷_ 107 (List._∷_ 58 (List._∷_ 58 (List._∷_ 87 (List._∷_ 97 (List._∷_ 108 (List._∷_
+          107 (List._∷_ 83 (List._∷_ 116 (List._∷_ 101 (List._∷_ 112 List.[])))))))))))))))))))))) (Syntax.ttcons (Syntax.tcons (Syntax.tyStruct (List._∷_ 104 (List._∷_ 101 (List._∷_ 97
+          (List._∷_ 100 (List._∷_ 101 (List._∷_ 114 (List._∷_ 58 (List._∷_ 58 (List._∷_ 119 (List._∷_ 97 (List._∷_ 108 (List._∷_ 107 (List._∷_ 58 (List._∷_ 58 (List._∷_ 80 (List._∷_ 97
+          (List._∷_ 115 (List._∷_ 115 (List._∷_ 101 (List._∷_ 100 List.[])))))))))))))))))))) (Syntax.tcons (Syntax.tyInt Syntax.w64) (Syntax.tcons Syntax.tyBool (Syntax.tcons
+          (Syntax.tyInt Syntax.w64) Syntax.tnil)))) Syntax.tnil) (Syntax.ttcons Syntax.tnil (Syntax.ttcons (Syntax.tcons (Syntax.tyStruct (List._∷_ 116 (List._∷_ 121 (List._∷_ 112
+          (List._∷_ 101 (List._∷_ 115 (List._∷_ 58 (List._∷_ 58 (List._∷_ 82 (List._∷_ 101 (List._∷_ 102 (List._∷_ 117 (List._∷_ 115 (List._∷_ 97 (List._∷_ 108 List.[]))))))))))))))
+          (Syntax.tcons (Syntax.tyInt Syntax.w32) (Syntax.tcons (Syntax.tyInt Syntax.w64) Syntax.tnil))) Syntax.tnil) Syntax.ttnil)))),
+    ) (List._∷_ (
+      8,
+      Rows.whole (Declared'.row
+          Passed.the-type),
+    ) (List._∷_ (9, Rows.any-gone (Syntax.tyInt Syntax.w64)) (List._∷_ (10, Rows.any-gone Syntax.tyBool) (List._∷_ (
+      11,
+      Rows.any-gone (Syntax.tyRef Syntax.erased
+          Syntax.mut LentTilePartEntry.pointee),
+    ) (List._∷_ (
+      12,
+      Rows.any-gone (Syntax.tyStruct (List._∷_ 38 (List._∷_ 91 (List._∷_ 93 List.[]))) (Syntax.tcons (Syntax.tyRef Syntax.erased
+          Syntax.mut LentTilePartEntry.pointee) (Syntax.tcons (Syntax.tyInt Syntax.w64) Syntax.tnil))),
+    ) List.[]))))))))))))
 
 abbrev pub t8 : List.List Row.Entry
 t8 = List._∷_ (0, Rows.any-gone Syntax.tyUnit) (List._∷_ (
   1,
   Rows.sslice (Referent.rtF (Referent.fInt Syntax.w8)) (Syntax.tyRef (Syntax.named 0) Syntax.imm (Syntax.tyInt
       Syntax.w8)) 0,
-) (List._∷_ (2, Rows.sc-here (Row.sInt Syntax.w64)) (List._∷_ (
+) (List._∷_ (
+  2,
+  Rows.any-gone (Syntax.tyStruct (List._∷_ 116 (List._∷_ 121 (List._∷_ 112 (List._∷_ 101 (List._∷_ 115 (List._∷_ 58 (List._∷_ 58 (List._∷_ 67
+      (List._∷_ 111 (List._∷_ 100 (List._∷_ 101 (List._∷_ 115 (List._∷_ 116 (List._∷_ 114 (List._∷_ 101 (List._∷_ 97 (List._∷_ 109 (List._∷_ 79 (List._∷_ 102 (List._∷_ 102 (List._∷_
+      115 (List._∷_ 101 (List._∷_ 116 List.[]))))))))))))))))))))))) (Syntax.tcons (Syntax.tyInt Syntax.w64) Syntax.tnil)),
+) (List._∷_ (
   3,
-  Mut.mslice LentTilePartEntry.row (Syntax.tyRef (Syntax.named 1) Syntax.mut
-      LentTilePartEntry.pointee) 1,
-) (List._∷_ (4, Rows.sc-here (Row.sInt Syntax.w64)) (List._∷_ (5, Rows.sc-here (Row.sInt Syntax.w64)) (List._∷_ (
-  6,
-  Rows.sc-here (Row.sInt
-      Syntax.w64),
-) (List._∷_ (7, Rows.whole (Known.Known WalkStep.enum 0)) (List._∷_ (8, Rows.whole (Declared'.row Passed.the-type)) (List._∷_ (
-  9,
-  Rows.any-gone (Syntax.tyInt
-      Syntax.w64),
-) (List._∷_ (10, Rows.any-gone Syntax.tyBool) (List._∷_ (11, Rows.any-gone (Syntax.tyRef Syntax.erased Syntax.mut LentTilePartEntry.pointee)) (List._∷_ (
-  12,
-  Rows.any-gone (Syntax.tyStruct (List._∷_ 38 (List._∷_ 91 (List._∷_ 93 List.[]))) (Syntax.tcons (Syntax.tyRef Syntax.erased Syntax.mut LentTilePartEntry.pointee) (Syntax.tcons
-      (Syntax.tyInt Syntax.w64) Syntax.tnil))),
-) List.[]))))))))))))
+  Mut.mslice LentTilePartEntry.row
+      (Syntax.tyRef (Syntax.named 1) Syntax.mut LentTilePartEntry.pointee) 1,
+) (List._∷_ (4, Rows.sc-here (Row.sInt Syntax.w64)) (List._∷_ (5, Rows.sc-here (Row.sInt Syntax.w64))
+    (List._∷_ (6, Rows.whole (Declared'.row CodestreamOffset.the-type)) (List._∷_ (7, Rows.whole (Known.Known WalkStep.enum 0)) (List._∷_ (
+      8,
+      Rows.any-gone (Syntax.tyStruct
+          (List._∷_ 104 (List._∷_ 101 (List._∷_ 97 (List._∷_ 100 (List._∷_ 101 (List._∷_ 114 (List._∷_ 58 (List._∷_ 58 (List._∷_ 119 (List._∷_ 97 (List._∷_ 108 (List._∷_ 107 (List._∷_ 58
+          (List._∷_ 58 (List._∷_ 80 (List._∷_ 97 (List._∷_ 115 (List._∷_ 115 (List._∷_ 101 (List._∷_ 100 List.[])))))))))))))))))))) (Syntax.tcons (Syntax.tyInt Syntax.w64) (Syntax.tcons
+          Syntax.tyBool (Syntax.tcons (Syntax.tyInt Syntax.w64) Syntax.tnil)))),
+    ) (List._∷_ (9, Rows.any-gone (Syntax.tyInt Syntax.w64)) (List._∷_ (10, Rows.any-gone Syntax.tyBool)
+    (List._∷_ (11, Rows.any-gone (Syntax.tyRef Syntax.erased Syntax.mut LentTilePartEntry.pointee)) (List._∷_ (
+      12,
+      Rows.any-gone (Syntax.tyStruct (List._∷_ 38 (List._∷_ 91
+          (List._∷_ 93 List.[]))) (Syntax.tcons (Syntax.tyRef Syntax.erased Syntax.mut LentTilePartEntry.pointee) (Syntax.tcons (Syntax.tyInt Syntax.w64) Syntax.tnil))),
+    )
+    List.[]))))))))))))
 
 abbrev pub t9 : List.List Row.Entry
-t9 = List._∷_ (0, Rows.sc-here Row.sUnit) (List._∷_ (1, Rows.sslice (Referent.rtF (Referent.fInt Syntax.w8)) (Syntax.tyRef (Syntax.named 0) Syntax.imm (Syntax.tyInt Syntax.w8)) 0)
-    (List._∷_ (2, Rows.sc-here (Row.sInt Syntax.w64)) (List._∷_ (3, Mut.mslice LentTilePartEntry.row (Syntax.tyRef (Syntax.named 1) Syntax.mut LentTilePartEntry.pointee) 1)
-    (List._∷_ (4, Rows.sc-here (Row.sInt Syntax.w64)) (List._∷_ (5, Rows.sc-here (Row.sInt Syntax.w64)) (List._∷_ (6, Rows.sc-here (Row.sInt Syntax.w64)) (List._∷_ (
-      7,
-      Rows.any-gone (Syntax.tyEnum (List._∷_ 104 (List._∷_ 101 (List._∷_ 97 (List._∷_ 100 (List._∷_ 101 (List._∷_ 114 (List._∷_ 58 (List._∷_ 58 (List._∷_ 119 (List._∷_ 97 (List._∷_
-          108 (List._∷_ 107 (List._∷_ 58 (List._∷_ 58 (List._∷_ 87 (List._∷_ 97 (List._∷_ 108 (List._∷_ 107 (List._∷_ 83 (List._∷_ 116 (List._∷_ 101 (List._∷_ 112
-          List.[])))))))))))))))))))))) (Syntax.ttcons (Syntax.tcons (Syntax.tyStruct (List._∷_ 104 (List._∷_ 101 (List._∷_ 97 (List._∷_ 100 (List._∷_ 101 (List._∷_ 114 (List._∷_ 58
-          (List._∷_ 58 (List._∷_ 119 (List._∷_ 97 (List._∷_ 108 (List._∷_ 107 (List._∷_ 58 (List._∷_ 58 (List._∷_ 80 (List._∷_ 97 (List._∷_ 115 (List._∷_ 115 (List._∷_ 101 (List._∷_ 100
-          List.[])))))))))))))))))))) (Syntax.tcons (Syntax.tyInt Syntax.w64) (Syntax.tcons Syntax.tyBool (Syntax.tcons (Syntax.tyInt Syntax.w64) Syntax.tnil)))) Syntax.tnil)
-          (Syntax.ttcons Syntax.tnil (Syntax.ttcons (Syntax.tcons (Syntax.tyStruct (List._∷_ 116 (List._∷_ 121 (List._∷_ 112 (List._∷_ 101 (List._∷_ 115 (List._∷_ 58 (List._∷_ 58
-          (List._∷_ 82 (List._∷_ 101 (List._∷_ 102 (List._∷_ 117 (List._∷_ 115 (List._∷_ 97 (List._∷_ 108 List.[])))))))))))))) (Syntax.tcons (Syntax.tyInt Syntax.w32) (Syntax.tcons
-          (Syntax.tyInt Syntax.w64) Syntax.tnil))) Syntax.tnil) Syntax.ttnil)))),
-    ) (List._∷_ (
+t9 = List._∷_ (0, Rows.any-gone Syntax.tyUnit) (List._∷_ (
+  1,
+  Rows.sslice (Referent.rtF (Referent.fInt Syntax.w8)) (Syntax.tyRef (Syntax.named 0) Syntax.imm (Syntax.tyInt
+      Syntax.w8)) 0,
+) (List._∷_ (
+  2,
+  Rows.any-gone (Syntax.tyStruct (List._∷_ 116 (List._∷_ 121 (List._∷_ 112 (List._∷_ 101 (List._∷_ 115 (List._∷_ 58 (List._∷_ 58 (List._∷_ 67
+      (List._∷_ 111 (List._∷_ 100 (List._∷_ 101 (List._∷_ 115 (List._∷_ 116 (List._∷_ 114 (List._∷_ 101 (List._∷_ 97 (List._∷_ 109 (List._∷_ 79 (List._∷_ 102 (List._∷_ 102 (List._∷_
+      115 (List._∷_ 101 (List._∷_ 116 List.[]))))))))))))))))))))))) (Syntax.tcons (Syntax.tyInt Syntax.w64) Syntax.tnil)),
+) (List._∷_ (
+  3,
+  Mut.mslice LentTilePartEntry.row
+      (Syntax.tyRef (Syntax.named 1) Syntax.mut LentTilePartEntry.pointee) 1,
+) (List._∷_ (4, Rows.sc-here (Row.sInt Syntax.w64)) (List._∷_ (5, Rows.sc-here (Row.sInt Syntax.w64))
+    (List._∷_ (6, Rows.whole (Declared'.row CodestreamOffset.the-type)) (List._∷_ (7, Rows.whole (Known.Known WalkStep.enum 0)) (List._∷_ (
       8,
-      Rows.any-gone (Syntax.tyStruct (List._∷_ 104 (List._∷_ 101 (List._∷_ 97 (List._∷_ 100
-          (List._∷_ 101 (List._∷_ 114 (List._∷_ 58 (List._∷_ 58 (List._∷_ 119 (List._∷_ 97 (List._∷_ 108 (List._∷_ 107 (List._∷_ 58 (List._∷_ 58 (List._∷_ 80 (List._∷_ 97 (List._∷_ 115
-          (List._∷_ 115 (List._∷_ 101 (List._∷_ 100 List.[])))))))))))))))))))) (Syntax.tcons (Syntax.tyInt Syntax.w64) (Syntax.tcons Syntax.tyBool (Syntax.tcons (Syntax.tyInt
-          Syntax.w64) Syntax.tnil)))),
+      Rows.whole (Declared'.row
+          Passed.the-type),
     ) (List._∷_ (9, Rows.any-gone (Syntax.tyInt Syntax.w64)) (List._∷_ (10, Rows.any-gone Syntax.tyBool) (List._∷_ (
       11,
-      Rows.any-gone (Syntax.tyRef
-          Syntax.erased Syntax.mut LentTilePartEntry.pointee),
+      Rows.any-gone (Syntax.tyRef Syntax.erased
+          Syntax.mut LentTilePartEntry.pointee),
     ) (List._∷_ (
       12,
-      Rows.any-gone (Syntax.tyStruct (List._∷_ 38 (List._∷_ 91 (List._∷_ 93 List.[]))) (Syntax.tcons (Syntax.tyRef
-          Syntax.erased Syntax.mut LentTilePartEntry.pointee) (Syntax.tcons (Syntax.tyInt Syntax.w64) Syntax.tnil))),
+      Rows.any-gone (Syntax.tyStruct (List._∷_ 38 (List._∷_ 91 (List._∷_ 93 List.[]))) (Syntax.tcons (Syntax.tyRef Syntax.erased
+          Syntax.mut LentTilePartEntry.pointee) (Syntax.tcons (Syntax.tyInt Syntax.w64) Syntax.tnil))),
     ) List.[]))))))))))))
 
 abbrev pub t10 : List.List Row.Entry
-t10 = List._∷_ (0, Rows.sc-here Row.sUnit) (List._∷_ (1, Rows.sslice (Referent.rtF (Referent.fInt Syntax.w8)) (Syntax.tyRef (Syntax.named 0) Syntax.imm (Syntax.tyInt Syntax.w8)) 0)
-    (List._∷_ (2, Rows.any-gone (Syntax.tyInt Syntax.w64)) (List._∷_ (3, Mut.mslice LentTilePartEntry.row (Syntax.tyRef (Syntax.named 1) Syntax.mut LentTilePartEntry.pointee) 1)
-    (List._∷_ (4, Rows.sc-here (Row.sInt Syntax.w64)) (List._∷_ (5, Rows.sc-here (Row.sInt Syntax.w64)) (List._∷_ (6, Rows.sc-here (Row.sInt Syntax.w64)) (List._∷_ (
-      7,
-      Rows.any-gone (Syntax.tyEnum (List._∷_ 104 (List._∷_ 101 (List._∷_ 97 (List._∷_ 100 (List._∷_ 101 (List._∷_ 114 (List._∷_ 58 (List._∷_ 58 (List._∷_ 119 (List._∷_ 97 (List._∷_
-          108 (List._∷_ 107 (List._∷_ 58 (List._∷_ 58 (List._∷_ 87 (List._∷_ 97 (List._∷_ 108 (List._∷_ 107 (List._∷_ 83 (List._∷_ 116 (List._∷_ 101 (List._∷_ 112
-          List.[])))))))))))))))))))))) (Syntax.ttcons (Syntax.tcons (Syntax.tyStruct (List._∷_ 104 (List._∷_ 101 (List._∷_ 97 (List._∷_ 100 (List._∷_ 101 (List._∷_ 114 (List._∷_ 58
-          (List._∷_ 58 (List._∷_ 119 (List._∷_ 97 (List._∷_ 108 (List._∷_ 107 (List._∷_ 58 (List._∷_ 58 (List._∷_ 80 (List._∷_ 97 (List._∷_ 115 (List._∷_ 115 (List._∷_ 101 (List._∷_ 100
-          List.[])))))))))))))))))))) (Syntax.tcons (Syntax.tyInt Syntax.w64) (Syntax.tcons Syntax.tyBool (Syntax.tcons (Syntax.tyInt Syntax.w64) Syntax.tnil)))) Syntax.tnil)
-          (Syntax.ttcons Syntax.tnil (Syntax.ttcons (Syntax.tcons (Syntax.tyStruct (List._∷_ 116 (List._∷_ 121 (List._∷_ 112 (List._∷_ 101 (List._∷_ 115 (List._∷_ 58 (List._∷_ 58
-          (List._∷_ 82 (List._∷_ 101 (List._∷_ 102 (List._∷_ 117 (List._∷_ 115 (List._∷_ 97 (List._∷_ 108 List.[])))))))))))))) (Syntax.tcons (Syntax.tyInt Syntax.w32) (Syntax.tcons
-          (Syntax.tyInt Syntax.w64) Syntax.tnil))) Syntax.tnil) Syntax.ttnil)))),
-    ) (List._∷_ (
+t10 = List._∷_ (0, Rows.any-gone Syntax.tyUnit) (List._∷_ (
+  1,
+  Rows.sslice (Referent.rtF (Referent.fInt Syntax.w8)) (Syntax.tyRef (Syntax.named 0) Syntax.imm (Syntax.tyInt
+      Syntax.w8)) 0,
+) (List._∷_ (
+  2,
+  Rows.any-gone (Syntax.tyStruct (List._∷_ 116 (List._∷_ 121 (List._∷_ 112 (List._∷_ 101 (List._∷_ 115 (List._∷_ 58 (List._∷_ 58 (List._∷_ 67
+      (List._∷_ 111 (List._∷_ 100 (List._∷_ 101 (List._∷_ 115 (List._∷_ 116 (List._∷_ 114 (List._∷_ 101 (List._∷_ 97 (List._∷_ 109 (List._∷_ 79 (List._∷_ 102 (List._∷_ 102 (List._∷_
+      115 (List._∷_ 101 (List._∷_ 116 List.[]))))))))))))))))))))))) (Syntax.tcons (Syntax.tyInt Syntax.w64) Syntax.tnil)),
+) (List._∷_ (
+  3,
+  Mut.mslice LentTilePartEntry.row
+      (Syntax.tyRef (Syntax.named 1) Syntax.mut LentTilePartEntry.pointee) 1,
+) (List._∷_ (4, Rows.sc-here (Row.sInt Syntax.w64)) (List._∷_ (5, Rows.sc-here (Row.sInt Syntax.w64))
+    (List._∷_ (
+      6,
+      Rows.any-gone (Syntax.tyStruct (List._∷_ 116 (List._∷_ 121 (List._∷_ 112 (List._∷_ 101 (List._∷_ 115 (List._∷_ 58 (List._∷_ 58 (List._∷_ 67 (List._∷_ 111
+          (List._∷_ 100 (List._∷_ 101 (List._∷_ 115 (List._∷_ 116 (List._∷_ 114 (List._∷_ 101 (List._∷_ 97 (List._∷_ 109 (List._∷_ 79 (List._∷_ 102 (List._∷_ 102 (List._∷_ 115 (List._∷_
+          101 (List._∷_ 116 List.[]))))))))))))))))))))))) (Syntax.tcons (Syntax.tyInt Syntax.w64) Syntax.tnil)),
+    ) (List._∷_ (7, Rows.whole (Declared.row WalkStep.the-type)) (List._∷_ (
       8,
-      Rows.any-gone (Syntax.tyStruct (List._∷_ 104 (List._∷_ 101 (List._∷_ 97 (List._∷_ 100
-          (List._∷_ 101 (List._∷_ 114 (List._∷_ 58 (List._∷_ 58 (List._∷_ 119 (List._∷_ 97 (List._∷_ 108 (List._∷_ 107 (List._∷_ 58 (List._∷_ 58 (List._∷_ 80 (List._∷_ 97 (List._∷_ 115
-          (List._∷_ 115 (List._∷_ 101 (List._∷_ 100 List.[])))))))))))))))))))) (Syntax.tcons (Syntax.tyInt Syntax.w64) (Syntax.tcons Syntax.tyBool (Syntax.tcons (Syntax.tyInt
-          Syntax.w64) Syntax.tnil)))),
-    ) (List._∷_ (9, Rows.any-gone (Syntax.tyInt Syntax.w64)) (List._∷_ (10, Rows.any-gone Syntax.tyBool) (List._∷_ (
-      11,
-      Rows.any-gone (Syntax.tyRef
-          Syntax.erased Syntax.mut LentTilePartEntry.pointee),
-    ) (List._∷_ (
+      Rows.any-gone (Syntax.tyStruct (List._∷_ 104 (List._∷_ 101 (List._∷_ 97 (List._∷_ 100 (List._∷_ 101 (List._∷_ 114 (List._∷_ 58 (List._∷_ 58 (List._∷_ 119 (List._∷_ 97 (List._∷_
+          108 (List._∷_ 107 (List._∷_ 58 (List._∷_ 58 (List._∷_ 80 (List._∷_ 97 (List._∷_ 115 (List._∷_ 115 (List._∷_ 101 (List._∷_ 100 List.[])))))))))))))))))))) (Syntax.tcons
+          (Syntax.tyInt Syntax.w64) (Syntax.tcons Syntax.tyBool (Syntax.tcons (Syntax.tyInt Syntax.w64) Syntax.tnil)))),
+    ) (List._∷_ (9, Rows.any-gone (Syntax.tyInt Syntax.w64)) (List._∷_
+    (10, Rows.any-gone Syntax.tyBool) (List._∷_ (11, Rows.any-gone (Syntax.tyRef Syntax.erased Syntax.mut LentTilePartEntry.pointee)) (List._∷_ (
       12,
-      Rows.any-gone (Syntax.tyStruct (List._∷_ 38 (List._∷_ 91 (List._∷_ 93 List.[]))) (Syntax.tcons (Syntax.tyRef
-          Syntax.erased Syntax.mut LentTilePartEntry.pointee) (Syntax.tcons (Syntax.tyInt Syntax.w64) Syntax.tnil))),
+      Rows.any-gone (Syntax.tyStruct
+          (List._∷_ 38 (List._∷_ 91 (List._∷_ 93 List.[]))) (Syntax.tcons (Syntax.tyRef Syntax.erased Syntax.mut LentTilePartEntry.pointee) (Syntax.tcons (Syntax.tyInt Syntax.w64)
+          Syntax.tnil))),
     ) List.[]))))))))))))
 
 abbrev pub t11 : List.List Row.Entry
-t11 = List._∷_ (0, Rows.sc-here Row.sUnit) (List._∷_ (1, Rows.sslice (Referent.rtF (Referent.fInt Syntax.w8)) (Syntax.tyRef (Syntax.named 0) Syntax.imm (Syntax.tyInt Syntax.w8)) 0)
-    (List._∷_ (2, Rows.any-gone (Syntax.tyInt Syntax.w64)) (List._∷_ (3, Mut.mslice LentTilePartEntry.row (Syntax.tyRef (Syntax.named 1) Syntax.mut LentTilePartEntry.pointee) 1)
-    (List._∷_ (4, Rows.any-gone (Syntax.tyInt Syntax.w64)) (List._∷_ (5, Rows.sc-here (Row.sInt Syntax.w64)) (List._∷_ (6, Rows.sc-here (Row.sInt Syntax.w64)) (List._∷_ (
+t11 = List._∷_ (0, Rows.any-gone Syntax.tyUnit) (List._∷_ (
+  1,
+  Rows.sslice (Referent.rtF (Referent.fInt Syntax.w8)) (Syntax.tyRef (Syntax.named 0) Syntax.imm (Syntax.tyInt
+      Syntax.w8)) 0,
+) (List._∷_ (
+  2,
+  Rows.any-gone (Syntax.tyStruct (List._∷_ 116 (List._∷_ 121 (List._∷_ 112 (List._∷_ 101 (List._∷_ 115 (List._∷_ 58 (List._∷_ 58 (List._∷_ 67
+      (List._∷_ 111 (List._∷_ 100 (List._∷_ 101 (List._∷_ 115 (List._∷_ 116 (List._∷_ 114 (List._∷_ 101 (List._∷_ 97 (List._∷_ 109 (List._∷_ 79 (List._∷_ 102 (List._∷_ 102 (List._∷_
+      115 (List._∷_ 101 (List._∷_ 116 List.[]))))))))))))))))))))))) (Syntax.tcons (Syntax.tyInt Syntax.w64) Syntax.tnil)),
+) (List._∷_ (
+  3,
+  Mut.mslice LentTilePartEntry.row
+      (Syntax.tyRef (Syntax.named 1) Syntax.mut LentTilePartEntry.pointee) 1,
+) (List._∷_ (4, Rows.sc-here (Row.sInt Syntax.w64)) (List._∷_ (5, Rows.sc-here (Row.sInt Syntax.w64))
+    (List._∷_ (
+      6,
+      Rows.any-gone (Syntax.tyStruct (List._∷_ 116 (List._∷_ 121 (List._∷_ 112 (List._∷_ 101 (List._∷_ 115 (List._∷_ 58 (List._∷_ 58 (List._∷_ 67 (List._∷_ 111
+          (List._∷_ 100 (List._∷_ 101 (List._∷_ 115 (List._∷_ 116 (List._∷_ 114 (List._∷_ 101 (List._∷_ 97 (List._∷_ 109 (List._∷_ 79 (List._∷_ 102 (List._∷_ 102 (List._∷_ 115 (List._∷_
+          101 (List._∷_ 116 List.[]))))))))))))))))))))))) (Syntax.tcons (Syntax.tyInt Syntax.w64) Syntax.tnil)),
+    ) (List._∷_ (
       7,
-      Rows.any-gone (Syntax.tyEnum (List._∷_ 104 (List._∷_ 101 (List._∷_ 97 (List._∷_ 100 (List._∷_ 101 (List._∷_ 114 (List._∷_ 58 (List._∷_ 58 (List._∷_ 119 (List._∷_ 97 (List._∷_
-          108 (List._∷_ 107 (List._∷_ 58 (List._∷_ 58 (List._∷_ 87 (List._∷_ 97 (List._∷_ 108 (List._∷_ 107 (List._∷_ 83 (List._∷_ 116 (List._∷_ 101 (List._∷_ 112
-          List.[])))))))))))))))))))))) (Syntax.ttcons (Syntax.tcons (Syntax.tyStruct (List._∷_ 104 (List._∷_ 101 (List._∷_ 97 (List._∷_ 100 (List._∷_ 101 (List._∷_ 114 (List._∷_ 58
-          (List._∷_ 58 (List._∷_ 119 (List._∷_ 97 (List._∷_ 108 (List._∷_ 107 (List._∷_ 58 (List._∷_ 58 (List._∷_ 80 (List._∷_ 97 (List._∷_ 115 (List._∷_ 115 (List._∷_ 101 (List._∷_ 100
-          List.[])))))))))))))))))))) (Syntax.tcons (Syntax.tyInt Syntax.w64) (Syntax.tcons Syntax.tyBool (Syntax.tcons (Syntax.tyInt Syntax.w64) Syntax.tnil)))) Syntax.tnil)
-          (Syntax.ttcons Syntax.tnil (Syntax.ttcons (Syntax.tcons (Syntax.tyStruct (List._∷_ 116 (List._∷_ 121 (List._∷_ 112 (List._∷_ 101 (List._∷_ 115 (List._∷_ 58 (List._∷_ 58
-          (List._∷_ 82 (List._∷_ 101 (List._∷_ 102 (List._∷_ 117 (List._∷_ 115 (List._∷_ 97 (List._∷_ 108 List.[])))))))))))))) (Syntax.tcons (Syntax.tyInt Syntax.w32) (Syntax.tcons
-          (Syntax.tyInt Syntax.w64) Syntax.tnil))) Syntax.tnil) Syntax.ttnil)))),
+      Rows.any-gone (Syntax.tyEnum (List._∷_ 104 (List._∷_ 101
+          (List._∷_ 97 (List._∷_ 100 (List._∷_ 101 (List._∷_ 114 (List._∷_ 58 (List._∷_ 58 (List._∷_ 119 (List._∷_ 97 (List._∷_ 108 (List._∷_ 107 (List._∷_ 58 (List._∷_ 58 (List._∷_ 87
+          (List._∷_ 97 (List._∷_ 108 (List._∷_ 107 (List._∷_ 83 (List._∷_ 116 (List._∷_ 101 (List._∷_ 112 List.[])))))))))))))))))))))) (Syntax.ttcons (Syntax.tcons (Syntax.tyStruct
+          (List._∷_ 104 (List._∷_ 101 (List._∷_ 97 (List._∷_ 100 (List._∷_ 101 (List._∷_ 114 (List._∷_ 58 (List._∷_ 58 (List._∷_ 119 (List._∷_ 97 (List._∷_ 108 (List._∷_ 107 (List._∷_ 58
+          (List._∷_ 58 (List._∷_ 80 (List._∷_ 97 (List._∷_ 115 (List._∷_ 115 (List._∷_ 101 (List._∷_ 100 List.[])))))))))))))))))))) (Syntax.tcons (Syntax.tyInt Syntax.w64) (Syntax.tcons
+          Syntax.tyBool (Syntax.tcons (Syntax.tyInt Syntax.w64) Syntax.tnil)))) Syntax.tnil) (Syntax.ttcons Syntax.tnil (Syntax.ttcons (Syntax.tcons (Syntax.tyStruct (List._∷_ 116
+          (List._∷_ 121 (List._∷_ 112 (List._∷_ 101 (List._∷_ 115 (List._∷_ 58 (List._∷_ 58 (List._∷_ 82 (List._∷_ 101 (List._∷_ 102 (List._∷_ 117 (List._∷_ 115 (List._∷_ 97 (List._∷_
+          108 List.[])))))))))))))) (Syntax.tcons (Syntax.tyInt Syntax.w32) (Syntax.tcons (Syntax.tyInt Syntax.w64) Syntax.tnil))) Syntax.tnil) Syntax.ttnil)))),
     ) (List._∷_ (
       8,
-      Rows.any-gone (Syntax.tyStruct (List._∷_ 104 (List._∷_ 101 (List._∷_ 97 (List._∷_ 100
-          (List._∷_ 101 (List._∷_ 114 (List._∷_ 58 (List._∷_ 58 (List._∷_ 119 (List._∷_ 97 (List._∷_ 108 (List._∷_ 107 (List._∷_ 58 (List._∷_ 58 (List._∷_ 80 (List._∷_ 97 (List._∷_ 115
-          (List._∷_ 115 (List._∷_ 101 (List._∷_ 100 List.[])))))))))))))))))))) (Syntax.tcons (Syntax.tyInt Syntax.w64) (Syntax.tcons Syntax.tyBool (Syntax.tcons (Syntax.tyInt
-          Syntax.w64) Syntax.tnil)))),
-    ) (List._∷_ (9, Rows.any-gone (Syntax.tyInt Syntax.w64)) (List._∷_ (10, Rows.any-gone Syntax.tyBool) (List._∷_ (
-      11,
-      Rows.any-gone (Syntax.tyRef
-          Syntax.erased Syntax.mut LentTilePartEntry.pointee),
-    ) (List._∷_ (
+      Rows.any-gone (Syntax.tyStruct (List._∷_ 104 (List._∷_ 101 (List._∷_ 97 (List._∷_ 100 (List._∷_ 101 (List._∷_ 114 (List._∷_ 58 (List._∷_ 58 (List._∷_ 119 (List._∷_ 97 (List._∷_
+          108 (List._∷_ 107 (List._∷_ 58 (List._∷_ 58 (List._∷_ 80 (List._∷_ 97 (List._∷_ 115 (List._∷_ 115 (List._∷_ 101 (List._∷_ 100 List.[])))))))))))))))))))) (Syntax.tcons
+          (Syntax.tyInt Syntax.w64) (Syntax.tcons Syntax.tyBool (Syntax.tcons (Syntax.tyInt Syntax.w64) Syntax.tnil)))),
+    ) (List._∷_ (9, Rows.any-gone (Syntax.tyInt Syntax.w64)) (List._∷_
+    (10, Rows.any-gone Syntax.tyBool) (List._∷_ (11, Rows.any-gone (Syntax.tyRef Syntax.erased Syntax.mut LentTilePartEntry.pointee)) (List._∷_ (
       12,
-      Rows.any-gone (Syntax.tyStruct (List._∷_ 38 (List._∷_ 91 (List._∷_ 93 List.[]))) (Syntax.tcons (Syntax.tyRef
-          Syntax.erased Syntax.mut LentTilePartEntry.pointee) (Syntax.tcons (Syntax.tyInt Syntax.w64) Syntax.tnil))),
+      Rows.any-gone (Syntax.tyStruct
+          (List._∷_ 38 (List._∷_ 91 (List._∷_ 93 List.[]))) (Syntax.tcons (Syntax.tyRef Syntax.erased Syntax.mut LentTilePartEntry.pointee) (Syntax.tcons (Syntax.tyInt Syntax.w64)
+          Syntax.tnil))),
     ) List.[]))))))))))))
 
 abbrev pub t12 : List.List Row.Entry
 t12 = List._∷_ (0, Rows.sc-here Row.sUnit) (List._∷_ (1, Rows.sslice (Referent.rtF (Referent.fInt Syntax.w8)) (Syntax.tyRef (Syntax.named 0) Syntax.imm (Syntax.tyInt Syntax.w8)) 0)
-    (List._∷_ (2, Rows.any-gone (Syntax.tyInt Syntax.w64)) (List._∷_ (3, Mut.mslice LentTilePartEntry.row (Syntax.tyRef (Syntax.named 1) Syntax.mut LentTilePartEntry.pointee) 1)
-    (List._∷_ (4, Rows.any-gone (Syntax.tyInt Syntax.w64)) (List._∷_ (5, Rows.any-gone (Syntax.tyInt Syntax.w64)) (List._∷_ (6, Rows.sc-here (Row.sInt Syntax.w64)) (List._∷_ (
+    (List._∷_ (
+      2,
+      Rows.any-gone (Syntax.tyStruct (List._∷_ 116 (List._∷_ 121 (List._∷_ 112 (List._∷_ 101 (List._∷_ 115 (List._∷_ 58 (List._∷_ 58 (List._∷_ 67 (List._∷_ 111
+          (List._∷_ 100 (List._∷_ 101 (List._∷_ 115 (List._∷_ 116 (List._∷_ 114 (List._∷_ 101 (List._∷_ 97 (List._∷_ 109 (List._∷_ 79 (List._∷_ 102 (List._∷_ 102 (List._∷_ 115 (List._∷_
+          101 (List._∷_ 116 List.[]))))))))))))))))))))))) (Syntax.tcons (Syntax.tyInt Syntax.w64) Syntax.tnil)),
+    ) (List._∷_ (
+      3,
+      Mut.mslice LentTilePartEntry.row (Syntax.tyRef
+          (Syntax.named 1) Syntax.mut LentTilePartEntry.pointee) 1,
+    ) (List._∷_ (4, Rows.sc-here (Row.sInt Syntax.w64)) (List._∷_ (5, Rows.sc-here (Row.sInt Syntax.w64)) (List._∷_ (
+      6,
+      Rows.any-gone (Syntax.tyStruct (List._∷_ 116 (List._∷_ 121 (List._∷_ 112 (List._∷_ 101 (List._∷_ 115 (List._∷_ 58 (List._∷_ 58 (List._∷_ 67 (List._∷_ 111 (List._∷_ 100
+          (List._∷_ 101 (List._∷_ 115 (List._∷_ 116 (List._∷_ 114 (List._∷_ 101 (List._∷_ 97 (List._∷_ 109 (List._∷_ 79 (List._∷_ 102 (List._∷_ 102 (List._∷_ 115 (List._∷_ 101 (List._∷_
+          116 List.[]))))))))))))))))))))))) (Syntax.tcons (Syntax.tyInt Syntax.w64) Syntax.tnil)),
+    ) (List._∷_ (
       7,
-      Rows.any-gone (Syntax.tyEnum (List._∷_ 104 (List._∷_ 101 (List._∷_ 97 (List._∷_ 100 (List._∷_ 101 (List._∷_ 114 (List._∷_ 58 (List._∷_ 58 (List._∷_ 119 (List._∷_ 97 (List._∷_
-          108 (List._∷_ 107 (List._∷_ 58 (List._∷_ 58 (List._∷_ 87 (List._∷_ 97 (List._∷_ 108 (List._∷_ 107 (List._∷_ 83 (List._∷_ 116 (List._∷_ 101 (List._∷_ 112
-          List.[])))))))))))))))))))))) (Syntax.ttcons (Syntax.tcons (Syntax.tyStruct (List._∷_ 104 (List._∷_ 101 (List._∷_ 97 (List._∷_ 100 (List._∷_ 101 (List._∷_ 114 (List._∷_ 58
-          (List._∷_ 58 (List._∷_ 119 (List._∷_ 97 (List._∷_ 108 (List._∷_ 107 (List._∷_ 58 (List._∷_ 58 (List._∷_ 80 (List._∷_ 97 (List._∷_ 115 (List._∷_ 115 (List._∷_ 101 (List._∷_ 100
-          List.[])))))))))))))))))))) (Syntax.tcons (Syntax.tyInt Syntax.w64) (Syntax.tcons Syntax.tyBool (Syntax.tcons (Syntax.tyInt Syntax.w64) Syntax.tnil)))) Syntax.tnil)
-          (Syntax.ttcons Syntax.tnil (Syntax.ttcons (Syntax.tcons (Syntax.tyStruct (List._∷_ 116 (List._∷_ 121 (List._∷_ 112 (List._∷_ 101 (List._∷_ 115 (List._∷_ 58 (List._∷_ 58
-          (List._∷_ 82 (List._∷_ 101 (List._∷_ 102 (List._∷_ 117 (List._∷_ 115 (List._∷_ 97 (List._∷_ 108 List.[])))))))))))))) (Syntax.tcons (Syntax.tyInt Syntax.w32) (Syntax.tcons
-          (Syntax.tyInt Syntax.w64) Syntax.tnil))) Syntax.tnil) Syntax.ttnil)))),
+      Rows.any-gone (Syntax.tyEnum (List._∷_ 104 (List._∷_ 101 (List._∷_ 97
+          (List._∷_ 100 (List._∷_ 101 (List._∷_ 114 (List._∷_ 58 (List._∷_ 58 (List._∷_ 119 (List._∷_ 97 (List._∷_ 108 (List._∷_ 107 (List._∷_ 58 (List._∷_ 58 (List._∷_ 87 (List._∷_ 97
+          (List._∷_ 108 (List._∷_ 107 (List._∷_ 83 (List._∷_ 116 (List._∷_ 101 (List._∷_ 112 List.[])))))))))))))))))))))) (Syntax.ttcons (Syntax.tcons (Syntax.tyStruct (List._∷_ 104
+          (List._∷_ 101 (List._∷_ 97 (List._∷_ 100 (List._∷_ 101 (List._∷_ 114 (List._∷_ 58 (List._∷_ 58 (List._∷_ 119 (List._∷_ 97 (List._∷_ 108 (List._∷_ 107 (List._∷_ 58 (List._∷_ 58
+          (List._∷_ 80 (List._∷_ 97 (List._∷_ 115 (List._∷_ 115 (List._∷_ 101 (List._∷_ 100 List.[])))))))))))))))))))) (Syntax.tcons (Syntax.tyInt Syntax.w64) (Syntax.tcons
+          Syntax.tyBool (Syntax.tcons (Syntax.tyInt Syntax.w64) Syntax.tnil)))) Syntax.tnil) (Syntax.ttcons Syntax.tnil (Syntax.ttcons (Syntax.tcons (Syntax.tyStruct (List._∷_ 116
+          (List._∷_ 121 (List._∷_ 112 (List._∷_ 101 (List._∷_ 115 (List._∷_ 58 (List._∷_ 58 (List._∷_ 82 (List._∷_ 101 (List._∷_ 102 (List._∷_ 117 (List._∷_ 115 (List._∷_ 97 (List._∷_
+          108 List.[])))))))))))))) (Syntax.tcons (Syntax.tyInt Syntax.w32) (Syntax.tcons (Syntax.tyInt Syntax.w64) Syntax.tnil))) Syntax.tnil) Syntax.ttnil)))),
     ) (List._∷_ (
       8,
-      Rows.any-gone (Syntax.tyStruct (List._∷_ 104 (List._∷_ 101 (List._∷_ 97 (List._∷_ 100
-          (List._∷_ 101 (List._∷_ 114 (List._∷_ 58 (List._∷_ 58 (List._∷_ 119 (List._∷_ 97 (List._∷_ 108 (List._∷_ 107 (List._∷_ 58 (List._∷_ 58 (List._∷_ 80 (List._∷_ 97 (List._∷_ 115
-          (List._∷_ 115 (List._∷_ 101 (List._∷_ 100 List.[])))))))))))))))))))) (Syntax.tcons (Syntax.tyInt Syntax.w64) (Syntax.tcons Syntax.tyBool (Syntax.tcons (Syntax.tyInt
-          Syntax.w64) Syntax.tnil)))),
-    ) (List._∷_ (9, Rows.any-gone (Syntax.tyInt Syntax.w64)) (List._∷_ (10, Rows.any-gone Syntax.tyBool) (List._∷_ (
-      11,
-      Rows.any-gone (Syntax.tyRef
-          Syntax.erased Syntax.mut LentTilePartEntry.pointee),
-    ) (List._∷_ (
+      Rows.any-gone (Syntax.tyStruct (List._∷_ 104 (List._∷_ 101 (List._∷_ 97 (List._∷_ 100 (List._∷_ 101 (List._∷_ 114 (List._∷_ 58 (List._∷_ 58 (List._∷_ 119 (List._∷_ 97 (List._∷_
+          108 (List._∷_ 107 (List._∷_ 58 (List._∷_ 58 (List._∷_ 80 (List._∷_ 97 (List._∷_ 115 (List._∷_ 115 (List._∷_ 101 (List._∷_ 100 List.[])))))))))))))))))))) (Syntax.tcons
+          (Syntax.tyInt Syntax.w64) (Syntax.tcons Syntax.tyBool (Syntax.tcons (Syntax.tyInt Syntax.w64) Syntax.tnil)))),
+    ) (List._∷_ (9, Rows.any-gone (Syntax.tyInt Syntax.w64)) (List._∷_
+    (10, Rows.any-gone Syntax.tyBool) (List._∷_ (11, Rows.any-gone (Syntax.tyRef Syntax.erased Syntax.mut LentTilePartEntry.pointee)) (List._∷_ (
       12,
-      Rows.any-gone (Syntax.tyStruct (List._∷_ 38 (List._∷_ 91 (List._∷_ 93 List.[]))) (Syntax.tcons (Syntax.tyRef
-          Syntax.erased Syntax.mut LentTilePartEntry.pointee) (Syntax.tcons (Syntax.tyInt Syntax.w64) Syntax.tnil))),
+      Rows.any-gone (Syntax.tyStruct
+          (List._∷_ 38 (List._∷_ 91 (List._∷_ 93 List.[]))) (Syntax.tcons (Syntax.tyRef Syntax.erased Syntax.mut LentTilePartEntry.pointee) (Syntax.tcons (Syntax.tyInt Syntax.w64)
+          Syntax.tnil))),
     ) List.[]))))))))))))
 
 abbrev pub t13 : List.List Row.Entry
-t13 = List._∷_ (0, Rows.any-gone Syntax.tyUnit) (List._∷_ (
-  1,
-  Rows.sslice (Referent.rtF (Referent.fInt Syntax.w8)) (Syntax.tyRef (Syntax.named 0) Syntax.imm (Syntax.tyInt
-      Syntax.w8)) 0,
-) (List._∷_ (2, Rows.sc-here (Row.sInt Syntax.w64)) (List._∷_ (
-  3,
-  Mut.mslice LentTilePartEntry.row (Syntax.tyRef (Syntax.named 1) Syntax.mut
-      LentTilePartEntry.pointee) 1,
-) (List._∷_ (4, Rows.sc-here (Row.sInt Syntax.w64)) (List._∷_ (5, Rows.sc-here (Row.sInt Syntax.w64)) (List._∷_ (
-  6,
-  Rows.sc-here (Row.sInt
-      Syntax.w64),
-) (List._∷_ (
-  7,
-  Rows.any-gone (Syntax.tyEnum (List._∷_ 104 (List._∷_ 101 (List._∷_ 97 (List._∷_ 100 (List._∷_ 101 (List._∷_ 114 (List._∷_ 58 (List._∷_ 58 (List._∷_
-      119 (List._∷_ 97 (List._∷_ 108 (List._∷_ 107 (List._∷_ 58 (List._∷_ 58 (List._∷_ 87 (List._∷_ 97 (List._∷_ 108 (List._∷_ 107 (List._∷_ 83 (List._∷_ 116 (List._∷_ 101 (List._∷_
-      112 List.[])))))))))))))))))))))) (Syntax.ttcons (Syntax.tcons (Syntax.tyStruct (List._∷_ 104 (List._∷_ 101 (List._∷_ 97 (List._∷_ 100 (List._∷_ 101 (List._∷_ 114 (List._∷_ 58
-      (List._∷_ 58 (List._∷_ 119 (List._∷_ 97 (List._∷_ 108 (List._∷_ 107 (List._∷_ 58 (List._∷_ 58 (List._∷_ 80 (List._∷_ 97 (List._∷_ 115 (List._∷_ 115 (List._∷_ 101 (List._∷_ 100
-      List.[])))))))))))))))))))) (Syntax.tcons (Syntax.tyInt Syntax.w64) (Syntax.tcons Syntax.tyBool (Syntax.tcons (Syntax.tyInt Syntax.w64) Syntax.tnil)))) Syntax.tnil)
-      (Syntax.ttcons Syntax.tnil (Syntax.ttcons (Syntax.tcons (Syntax.tyStruct (List._∷_ 116 (List._∷_ 121 (List._∷_ 112 (List._∷_ 101 (List._∷_ 115 (List._∷_ 58 (List._∷_ 58
-      (List._∷_ 82 (List._∷_ 101 (List._∷_ 102 (List._∷_ 117 (List._∷_ 115 (List._∷_ 97 (List._∷_ 108 List.[])))))))))))))) (Syntax.tcons (Syntax.tyInt Syntax.w32) (Syntax.tcons
-      (Syntax.tyInt Syntax.w64) Syntax.tnil))) Syntax.tnil) Syntax.ttnil)))),
-) (List._∷_ (8, Rows.whole (Declared'.row Passed.the-type)) (List._∷_ (
-  9,
-  Rows.any-gone (Syntax.tyInt
-      Syntax.w64),
-) (List._∷_ (10, Rows.sc-here Row.sBool) (List._∷_ (11, Rows.any-gone (Syntax.tyRef Syntax.erased Syntax.mut LentTilePartEntry.pointee)) (List._∷_ (
-  12,
-  Rows.any-gone
-      (Syntax.tyStruct (List._∷_ 38 (List._∷_ 91 (List._∷_ 93 List.[]))) (Syntax.tcons (Syntax.tyRef Syntax.erased Syntax.mut LentTilePartEntry.pointee) (Syntax.tcons (Syntax.tyInt
-      Syntax.w64) Syntax.tnil))),
-) List.[]))))))))))))
+t13 = List._∷_ (0, Rows.sc-here Row.sUnit) (List._∷_ (1, Rows.sslice (Referent.rtF (Referent.fInt Syntax.w8)) (Syntax.tyRef (Syntax.named 0) Syntax.imm (Syntax.tyInt Syntax.w8)) 0)
+    (List._∷_ (
+      2,
+      Rows.any-gone (Syntax.tyStruct (List._∷_ 116 (List._∷_ 121 (List._∷_ 112 (List._∷_ 101 (List._∷_ 115 (List._∷_ 58 (List._∷_ 58 (List._∷_ 67 (List._∷_ 111
+          (List._∷_ 100 (List._∷_ 101 (List._∷_ 115 (List._∷_ 116 (List._∷_ 114 (List._∷_ 101 (List._∷_ 97 (List._∷_ 109 (List._∷_ 79 (List._∷_ 102 (List._∷_ 102 (List._∷_ 115 (List._∷_
+          101 (List._∷_ 116 List.[]))))))))))))))))))))))) (Syntax.tcons (Syntax.tyInt Syntax.w64) Syntax.tnil)),
+    ) (List._∷_ (
+      3,
+      Mut.mslice LentTilePartEntry.row (Syntax.tyRef
+          (Syntax.named 1) Syntax.mut LentTilePartEntry.pointee) 1,
+    ) (List._∷_ (4, Rows.any-gone (Syntax.tyInt Syntax.w64)) (List._∷_ (5, Rows.sc-here (Row.sInt Syntax.w64)) (List._∷_ (
+      6,
+      Rows.any-gone (Syntax.tyStruct (List._∷_ 116 (List._∷_ 121 (List._∷_ 112 (List._∷_ 101 (List._∷_ 115 (List._∷_ 58 (List._∷_ 58 (List._∷_ 67 (List._∷_ 111 (List._∷_ 100
+          (List._∷_ 101 (List._∷_ 115 (List._∷_ 116 (List._∷_ 114 (List._∷_ 101 (List._∷_ 97 (List._∷_ 109 (List._∷_ 79 (List._∷_ 102 (List._∷_ 102 (List._∷_ 115 (List._∷_ 101 (List._∷_
+          116 List.[]))))))))))))))))))))))) (Syntax.tcons (Syntax.tyInt Syntax.w64) Syntax.tnil)),
+    ) (List._∷_ (
+      7,
+      Rows.any-gone (Syntax.tyEnum (List._∷_ 104 (List._∷_ 101 (List._∷_ 97
+          (List._∷_ 100 (List._∷_ 101 (List._∷_ 114 (List._∷_ 58 (List._∷_ 58 (List._∷_ 119 (List._∷_ 97 (List._∷_ 108 (List._∷_ 107 (List._∷_ 58 (List._∷_ 58 (List._∷_ 87 (List._∷_ 97
+          (List._∷_ 108 (List._∷_ 107 (List._∷_ 83 (List._∷_ 116 (List._∷_ 101 (List._∷_ 112 List.[])))))))))))))))))))))) (Syntax.ttcons (Syntax.tcons (Syntax.tyStruct (List._∷_ 104
+          (List._∷_ 101 (List._∷_ 97 (List._∷_ 100 (List._∷_ 101 (List._∷_ 114 (List._∷_ 58 (List._∷_ 58 (List._∷_ 119 (List._∷_ 97 (List._∷_ 108 (List._∷_ 107 (List._∷_ 58 (List._∷_ 58
+          (List._∷_ 80 (List._∷_ 97 (List._∷_ 115 (List._∷_ 115 (List._∷_ 101 (List._∷_ 100 List.[])))))))))))))))))))) (Syntax.tcons (Syntax.tyInt Syntax.w64) (Syntax.tcons
+          Syntax.tyBool (Syntax.tcons (Syntax.tyInt Syntax.w64) Syntax.tnil)))) Syntax.tnil) (Syntax.ttcons Syntax.tnil (Syntax.ttcons (Syntax.tcons (Syntax.tyStruct (List._∷_ 116
+          (List._∷_ 121 (List._∷_ 112 (List._∷_ 101 (List._∷_ 115 (List._∷_ 58 (List._∷_ 58 (List._∷_ 82 (List._∷_ 101 (List._∷_ 102 (List._∷_ 117 (List._∷_ 115 (List._∷_ 97 (List._∷_
+          108 List.[])))))))))))))) (Syntax.tcons (Syntax.tyInt Syntax.w32) (Syntax.tcons (Syntax.tyInt Syntax.w64) Syntax.tnil))) Syntax.tnil) Syntax.ttnil)))),
+    ) (List._∷_ (
+      8,
+      Rows.any-gone (Syntax.tyStruct (List._∷_ 104 (List._∷_ 101 (List._∷_ 97 (List._∷_ 100 (List._∷_ 101 (List._∷_ 114 (List._∷_ 58 (List._∷_ 58 (List._∷_ 119 (List._∷_ 97 (List._∷_
+          108 (List._∷_ 107 (List._∷_ 58 (List._∷_ 58 (List._∷_ 80 (List._∷_ 97 (List._∷_ 115 (List._∷_ 115 (List._∷_ 101 (List._∷_ 100 List.[])))))))))))))))))))) (Syntax.tcons
+          (Syntax.tyInt Syntax.w64) (Syntax.tcons Syntax.tyBool (Syntax.tcons (Syntax.tyInt Syntax.w64) Syntax.tnil)))),
+    ) (List._∷_ (9, Rows.any-gone (Syntax.tyInt Syntax.w64)) (List._∷_
+    (10, Rows.any-gone Syntax.tyBool) (List._∷_ (11, Rows.any-gone (Syntax.tyRef Syntax.erased Syntax.mut LentTilePartEntry.pointee)) (List._∷_ (
+      12,
+      Rows.any-gone (Syntax.tyStruct
+          (List._∷_ 38 (List._∷_ 91 (List._∷_ 93 List.[]))) (Syntax.tcons (Syntax.tyRef Syntax.erased Syntax.mut LentTilePartEntry.pointee) (Syntax.tcons (Syntax.tyInt Syntax.w64)
+          Syntax.tnil))),
+    ) List.[]))))))))))))
 
 abbrev pub t14 : List.List Row.Entry
 t14 = List._∷_ (0, Rows.any-gone Syntax.tyUnit) (List._∷_ (
   1,
   Rows.sslice (Referent.rtF (Referent.fInt Syntax.w8)) (Syntax.tyRef (Syntax.named 0) Syntax.imm (Syntax.tyInt
       Syntax.w8)) 0,
-) (List._∷_ (2, Rows.sc-here (Row.sInt Syntax.w64)) (List._∷_ (
-  3,
-  Mut.mslice LentTilePartEntry.row (Syntax.tyRef (Syntax.named 1) Syntax.mut
-      LentTilePartEntry.pointee) 1,
-) (List._∷_ (4, Rows.any-gone (Syntax.tyInt Syntax.w64)) (List._∷_ (5, Rows.sc-here (Row.sInt Syntax.w64)) (List._∷_ (
-  6,
-  Rows.sc-here (Row.sInt
-      Syntax.w64),
 ) (List._∷_ (
-  7,
-  Rows.any-gone (Syntax.tyEnum (List._∷_ 104 (List._∷_ 101 (List._∷_ 97 (List._∷_ 100 (List._∷_ 101 (List._∷_ 114 (List._∷_ 58 (List._∷_ 58 (List._∷_
-      119 (List._∷_ 97 (List._∷_ 108 (List._∷_ 107 (List._∷_ 58 (List._∷_ 58 (List._∷_ 87 (List._∷_ 97 (List._∷_ 108 (List._∷_ 107 (List._∷_ 83 (List._∷_ 116 (List._∷_ 101 (List._∷_
-      112 List.[])))))))))))))))))))))) (Syntax.ttcons (Syntax.tcons (Syntax.tyStruct (List._∷_ 104 (List._∷_ 101 (List._∷_ 97 (List._∷_ 100 (List._∷_ 101 (List._∷_ 114 (List._∷_ 58
-      (List._∷_ 58 (List._∷_ 119 (List._∷_ 97 (List._∷_ 108 (List._∷_ 107 (List._∷_ 58 (List._∷_ 58 (List._∷_ 80 (List._∷_ 97 (List._∷_ 115 (List._∷_ 115 (List._∷_ 101 (List._∷_ 100
-      List.[])))))))))))))))))))) (Syntax.tcons (Syntax.tyInt Syntax.w64) (Syntax.tcons Syntax.tyBool (Syntax.tcons (Syntax.tyInt Syntax.w64) Syntax.tnil)))) Syntax.tnil)
-      (Syntax.ttcons Syntax.tnil (Syntax.ttcons (Syntax.tcons (Syntax.tyStruct (List._∷_ 116 (List._∷_ 121 (List._∷_ 112 (List._∷_ 101 (List._∷_ 115 (List._∷_ 58 (List._∷_ 58
-      (List._∷_ 82 (List._∷_ 101 (List._∷_ 102 (List._∷_ 117 (List._∷_ 115 (List._∷_ 97 (List._∷_ 108 List.[])))))))))))))) (Syntax.tcons (Syntax.tyInt Syntax.w32) (Syntax.tcons
-      (Syntax.tyInt Syntax.w64) Syntax.tnil))) Syntax.tnil) Syntax.ttnil)))),
-) (List._∷_ (8, Rows.whole (Declared'.row Passed.the-type)) (List._∷_ (
-  9,
-  Rows.any-gone (Syntax.tyInt
-      Syntax.w64),
-) (List._∷_ (10, Rows.any-gone Syntax.tyBool) (List._∷_ (11, Rows.any-gone (Syntax.tyRef Syntax.erased Syntax.mut LentTilePartEntry.pointee)) (List._∷_ (
-  12,
-  Rows.any-gone (Syntax.tyStruct (List._∷_ 38 (List._∷_ 91 (List._∷_ 93 List.[]))) (Syntax.tcons (Syntax.tyRef Syntax.erased Syntax.mut LentTilePartEntry.pointee) (Syntax.tcons
-      (Syntax.tyInt Syntax.w64) Syntax.tnil))),
-) List.[]))))))))))))
+  2,
+  Rows.any-gone (Syntax.tyStruct (List._∷_ 116 (List._∷_ 121 (List._∷_ 112 (List._∷_ 101 (List._∷_ 115 (List._∷_ 58 (List._∷_ 58 (List._∷_ 67
+      (List._∷_ 111 (List._∷_ 100 (List._∷_ 101 (List._∷_ 115 (List._∷_ 116 (List._∷_ 114 (List._∷_ 101 (List._∷_ 97 (List._∷_ 109 (List._∷_ 79 (List._∷_ 102 (List._∷_ 102 (List._∷_
+      115 (List._∷_ 101 (List._∷_ 116 List.[]))))))))))))))))))))))) (Syntax.tcons (Syntax.tyInt Syntax.w64) Syntax.tnil)),
+) (List._∷_ (
+  3,
+  Mut.mslice LentTilePartEntry.row
+      (Syntax.tyRef (Syntax.named 1) Syntax.mut LentTilePartEntry.pointee) 1,
+) (List._∷_ (4, Rows.sc-here (Row.sInt Syntax.w64)) (List._∷_ (5, Rows.sc-here (Row.sInt Syntax.w64))
+    (List._∷_ (6, Rows.whole (Declared'.row CodestreamOffset.the-type)) (List._∷_ (
+      7,
+      Rows.any-gone (Syntax.tyEnum (List._∷_ 104 (List._∷_ 101 (List._∷_ 97 (List._∷_ 100 (List._∷_
+          101 (List._∷_ 114 (List._∷_ 58 (List._∷_ 58 (List._∷_ 119 (List._∷_ 97 (List._∷_ 108 (List._∷_ 107 (List._∷_ 58 (List._∷_ 58 (List._∷_ 87 (List._∷_ 97 (List._∷_ 108 (List._∷_
+          107 (List._∷_ 83 (List._∷_ 116 (List._∷_ 101 (List._∷_ 112 List.[])))))))))))))))))))))) (Syntax.ttcons (Syntax.tcons (Syntax.tyStruct (List._∷_ 104 (List._∷_ 101 (List._∷_ 97
+          (List._∷_ 100 (List._∷_ 101 (List._∷_ 114 (List._∷_ 58 (List._∷_ 58 (List._∷_ 119 (List._∷_ 97 (List._∷_ 108 (List._∷_ 107 (List._∷_ 58 (List._∷_ 58 (List._∷_ 80 (List._∷_ 97
+          (List._∷_ 115 (List._∷_ 115 (List._∷_ 101 (List._∷_ 100 List.[])))))))))))))))))))) (Syntax.tcons (Syntax.tyInt Syntax.w64) (Syntax.tcons Syntax.tyBool (Syntax.tcons
+          (Syntax.tyInt Syntax.w64) Syntax.tnil)))) Syntax.tnil) (Syntax.ttcons Syntax.tnil (Syntax.ttcons (Syntax.tcons (Syntax.tyStruct (List._∷_ 116 (List._∷_ 121 (List._∷_ 112
+          (List._∷_ 101 (List._∷_ 115 (List._∷_ 58 (List._∷_ 58 (List._∷_ 82 (List._∷_ 101 (List._∷_ 102 (List._∷_ 117 (List._∷_ 115 (List._∷_ 97 (List._∷_ 108 List.[]))))))))))))))
+          (Syntax.tcons (Syntax.tyInt Syntax.w32) (Syntax.tcons (Syntax.tyInt Syntax.w64) Syntax.tnil))) Syntax.tnil) Syntax.ttnil)))),
+    ) (List._∷_ (
+      8,
+      Rows.whole (Declared'.row
+          Passed.the-type),
+    ) (List._∷_ (9, Rows.any-gone (Syntax.tyInt Syntax.w64)) (List._∷_ (10, Rows.sc-here Row.sBool) (List._∷_ (
+      11,
+      Rows.any-gone (Syntax.tyRef Syntax.erased
+          Syntax.mut LentTilePartEntry.pointee),
+    ) (List._∷_ (
+      12,
+      Rows.any-gone (Syntax.tyStruct (List._∷_ 38 (List._∷_ 91 (List._∷_ 93 List.[]))) (Syntax.tcons (Syntax.tyRef Syntax.erased
+          Syntax.mut LentTilePartEntry.pointee) (Syntax.tcons (Syntax.tyInt Syntax.w64) Syntax.tnil))),
+    ) List.[]))))))))))))
 
 abbrev pub t15 : List.List Row.Entry
 t15 = List._∷_ (0, Rows.any-gone Syntax.tyUnit) (List._∷_ (
   1,
   Rows.sslice (Referent.rtF (Referent.fInt Syntax.w8)) (Syntax.tyRef (Syntax.named 0) Syntax.imm (Syntax.tyInt
       Syntax.w8)) 0,
-) (List._∷_ (2, Rows.sc-here (Row.sInt Syntax.w64)) (List._∷_ (
-  3,
-  Mut.mslice LentTilePartEntry.row (Syntax.tyRef (Syntax.named 1) Syntax.mut
-      LentTilePartEntry.pointee) 1,
-) (List._∷_ (4, Rows.sc-here (Row.sInt Syntax.w64)) (List._∷_ (5, Rows.sc-here (Row.sInt Syntax.w64)) (List._∷_ (
-  6,
-  Rows.sc-here (Row.sInt
-      Syntax.w64),
 ) (List._∷_ (
-  7,
-  Rows.any-gone (Syntax.tyEnum (List._∷_ 104 (List._∷_ 101 (List._∷_ 97 (List._∷_ 100 (List._∷_ 101 (List._∷_ 114 (List._∷_ 58 (List._∷_ 58 (List._∷_
-      119 (List._∷_ 97 (List._∷_ 108 (List._∷_ 107 (List._∷_ 58 (List._∷_ 58 (List._∷_ 87 (List._∷_ 97 (List._∷_ 108 (List._∷_ 107 (List._∷_ 83 (List._∷_ 116 (List._∷_ 101 (List._∷_
-      112 List.[])))))))))))))))))))))) (Syntax.ttcons (Syntax.tcons (Syntax.tyStruct (List._∷_ 104 (List._∷_ 101 (List._∷_ 97 (List._∷_ 100 (List._∷_ 101 (List._∷_ 114 (List._∷_ 58
-      (List._∷_ 58 (List._∷_ 119 (List._∷_ 97 (List._∷_ 108 (List._∷_ 107 (List._∷_ 58 (List._∷_ 58 (List._∷_ 80 (List._∷_ 97 (List._∷_ 115 (List._∷_ 115 (List._∷_ 101 (List._∷_ 100
-      List.[])))))))))))))))))))) (Syntax.tcons (Syntax.tyInt Syntax.w64) (Syntax.tcons Syntax.tyBool (Syntax.tcons (Syntax.tyInt Syntax.w64) Syntax.tnil)))) Syntax.tnil)
-      (Syntax.ttcons Syntax.tnil (Syntax.ttcons (Syntax.tcons (Syntax.tyStruct (List._∷_ 116 (List._∷_ 121 (List._∷_ 112 (List._∷_ 101 (List._∷_ 115 (List._∷_ 58 (List._∷_ 58
-      (List._∷_ 82 (List._∷_ 101 (List._∷_ 102 (List._∷_ 117 (List._∷_ 115 (List._∷_ 97 (List._∷_ 108 List.[])))))))))))))) (Syntax.tcons (Syntax.tyInt Syntax.w32) (Syntax.tcons
-      (Syntax.tyInt Syntax.w64) Syntax.tnil))) Syntax.tnil) Syntax.ttnil)))),
-) (List._∷_ (8, Rows.whole (Declared'.row Passed.the-type)) (List._∷_ (
-  9,
-  Rows.sc-here (Row.sInt
-      Syntax.w64),
-) (List._∷_ (10, Rows.any-gone Syntax.tyBool) (List._∷_ (11, Rows.any-gone (Syntax.tyRef Syntax.erased Syntax.mut LentTilePartEntry.pointee)) (List._∷_ (
-  12,
-  Rows.any-gone (Syntax.tyStruct (List._∷_ 38 (List._∷_ 91 (List._∷_ 93 List.[]))) (Syntax.tcons (Syntax.tyRef Syntax.erased Syntax.mut LentTilePartEntry.pointee) (Syntax.tcons
-      (Syntax.tyInt Syntax.w64) Syntax.tnil))),
-) List.[]))))))))))))
+  2,
+  Rows.any-gone (Syntax.tyStruct (List._∷_ 116 (List._∷_ 121 (List._∷_ 112 (List._∷_ 101 (List._∷_ 115 (List._∷_ 58 (List._∷_ 58 (List._∷_ 67
+      (List._∷_ 111 (List._∷_ 100 (List._∷_ 101 (List._∷_ 115 (List._∷_ 116 (List._∷_ 114 (List._∷_ 101 (List._∷_ 97 (List._∷_ 109 (List._∷_ 79 (List._∷_ 102 (List._∷_ 102 (List._∷_
+      115 (List._∷_ 101 (List._∷_ 116 List.[]))))))))))))))))))))))) (Syntax.tcons (Syntax.tyInt Syntax.w64) Syntax.tnil)),
+) (List._∷_ (
+  3,
+  Mut.mslice LentTilePartEntry.row
+      (Syntax.tyRef (Syntax.named 1) Syntax.mut LentTilePartEntry.pointee) 1,
+) (List._∷_ (4, Rows.any-gone (Syntax.tyInt Syntax.w64)) (List._∷_ (5, Rows.sc-here (Row.sInt Syntax.w64))
+    (List._∷_ (6, Rows.whole (Declared'.row CodestreamOffset.the-type)) (List._∷_ (
+      7,
+      Rows.any-gone (Syntax.tyEnum (List._∷_ 104 (List._∷_ 101 (List._∷_ 97 (List._∷_ 100 (List._∷_
+          101 (List._∷_ 114 (List._∷_ 58 (List._∷_ 58 (List._∷_ 119 (List._∷_ 97 (List._∷_ 108 (List._∷_ 107 (List._∷_ 58 (List._∷_ 58 (List._∷_ 87 (List._∷_ 97 (List._∷_ 108 (List._∷_
+          107 (List._∷_ 83 (List._∷_ 116 (List._∷_ 101 (List._∷_ 112 List.[])))))))))))))))))))))) (Syntax.ttcons (Syntax.tcons (Syntax.tyStruct (List._∷_ 104 (List._∷_ 101 (List._∷_ 97
+          (List._∷_ 100 (List._∷_ 101 (List._∷_ 114 (List._∷_ 58 (List._∷_ 58 (List._∷_ 119 (List._∷_ 97 (List._∷_ 108 (List._∷_ 107 (List._∷_ 58 (List._∷_ 58 (List._∷_ 80 (List._∷_ 97
+          (List._∷_ 115 (List._∷_ 115 (List._∷_ 101 (List._∷_ 100 List.[])))))))))))))))))))) (Syntax.tcons (Syntax.tyInt Syntax.w64) (Syntax.tcons Syntax.tyBool (Syntax.tcons
+          (Syntax.tyInt Syntax.w64) Syntax.tnil)))) Syntax.tnil) (Syntax.ttcons Syntax.tnil (Syntax.ttcons (Syntax.tcons (Syntax.tyStruct (List._∷_ 116 (List._∷_ 121 (List._∷_ 112
+          (List._∷_ 101 (List._∷_ 115 (List._∷_ 58 (List._∷_ 58 (List._∷_ 82 (List._∷_ 101 (List._∷_ 102 (List._∷_ 117 (List._∷_ 115 (List._∷_ 97 (List._∷_ 108 List.[]))))))))))))))
+          (Syntax.tcons (Syntax.tyInt Syntax.w32) (Syntax.tcons (Syntax.tyInt Syntax.w64) Syntax.tnil))) Syntax.tnil) Syntax.ttnil)))),
+    ) (List._∷_ (
+      8,
+      Rows.whole (Declared'.row
+          Passed.the-type),
+    ) (List._∷_ (9, Rows.any-gone (Syntax.tyInt Syntax.w64)) (List._∷_ (10, Rows.any-gone Syntax.tyBool) (List._∷_ (
+      11,
+      Rows.any-gone (Syntax.tyRef Syntax.erased
+          Syntax.mut LentTilePartEntry.pointee),
+    ) (List._∷_ (
+      12,
+      Rows.any-gone (Syntax.tyStruct (List._∷_ 38 (List._∷_ 91 (List._∷_ 93 List.[]))) (Syntax.tcons (Syntax.tyRef Syntax.erased
+          Syntax.mut LentTilePartEntry.pointee) (Syntax.tcons (Syntax.tyInt Syntax.w64) Syntax.tnil))),
+    ) List.[]))))))))))))
 
 abbrev pub t16 : List.List Row.Entry
 t16 = List._∷_ (0, Rows.any-gone Syntax.tyUnit) (List._∷_ (
   1,
   Rows.sslice (Referent.rtF (Referent.fInt Syntax.w8)) (Syntax.tyRef (Syntax.named 0) Syntax.imm (Syntax.tyInt
       Syntax.w8)) 0,
-) (List._∷_ (2, Rows.sc-here (Row.sInt Syntax.w64)) (List._∷_ (
-  3,
-  Relend.mslice-owed LentTilePartEntry.row (Syntax.tyRef (Syntax.named 1) Syntax.mut
-      LentTilePartEntry.pointee) 1 2 Row.off,
-) (List._∷_ (4, Rows.sc-here (Row.sInt Syntax.w64)) (List._∷_ (5, Rows.sc-here (Row.sInt Syntax.w64)) (List._∷_ (
-  6,
-  Rows.sc-here (Row.sInt
-      Syntax.w64),
 ) (List._∷_ (
-  7,
-  Rows.any-gone (Syntax.tyEnum (List._∷_ 104 (List._∷_ 101 (List._∷_ 97 (List._∷_ 100 (List._∷_ 101 (List._∷_ 114 (List._∷_ 58 (List._∷_ 58 (List._∷_
-      119 (List._∷_ 97 (List._∷_ 108 (List._∷_ 107 (List._∷_ 58 (List._∷_ 58 (List._∷_ 87 (List._∷_ 97 (List._∷_ 108 (List._∷_ 107 (List._∷_ 83 (List._∷_ 116 (List._∷_ 101 (List._∷_
-      112 List.[])))))))))))))))))))))) (Syntax.ttcons (Syntax.tcons (Syntax.tyStruct (List._∷_ 104 (List._∷_ 101 (List._∷_ 97 (List._∷_ 100 (List._∷_ 101 (List._∷_ 114 (List._∷_ 58
-      (List._∷_ 58 (List._∷_ 119 (List._∷_ 97 (List._∷_ 108 (List._∷_ 107 (List._∷_ 58 (List._∷_ 58 (List._∷_ 80 (List._∷_ 97 (List._∷_ 115 (List._∷_ 115 (List._∷_ 101 (List._∷_ 100
-      List.[])))))))))))))))))))) (Syntax.tcons (Syntax.tyInt Syntax.w64) (Syntax.tcons Syntax.tyBool (Syntax.tcons (Syntax.tyInt Syntax.w64) Syntax.tnil)))) Syntax.tnil)
-      (Syntax.ttcons Syntax.tnil (Syntax.ttcons (Syntax.tcons (Syntax.tyStruct (List._∷_ 116 (List._∷_ 121 (List._∷_ 112 (List._∷_ 101 (List._∷_ 115 (List._∷_ 58 (List._∷_ 58
-      (List._∷_ 82 (List._∷_ 101 (List._∷_ 102 (List._∷_ 117 (List._∷_ 115 (List._∷_ 97 (List._∷_ 108 List.[])))))))))))))) (Syntax.tcons (Syntax.tyInt Syntax.w32) (Syntax.tcons
-      (Syntax.tyInt Syntax.w64) Syntax.tnil))) Syntax.tnil) Syntax.ttnil)))),
-) (List._∷_ (8, Rows.whole (Declared'.row Passed.the-type)) (List._∷_ (
-  9,
-  Rows.sc-here (Row.sInt
-      Syntax.w64),
-) (List._∷_ (10, Rows.any-gone Syntax.tyBool) (List._∷_ (11, Relend.msptr LentTilePartEntry.row (Syntax.tyRef Syntax.erased Syntax.mut LentTilePartEntry.pointee) 2)
-    (List._∷_ (
+  2,
+  Rows.any-gone (Syntax.tyStruct (List._∷_ 116 (List._∷_ 121 (List._∷_ 112 (List._∷_ 101 (List._∷_ 115 (List._∷_ 58 (List._∷_ 58 (List._∷_ 67
+      (List._∷_ 111 (List._∷_ 100 (List._∷_ 101 (List._∷_ 115 (List._∷_ 116 (List._∷_ 114 (List._∷_ 101 (List._∷_ 97 (List._∷_ 109 (List._∷_ 79 (List._∷_ 102 (List._∷_ 102 (List._∷_
+      115 (List._∷_ 101 (List._∷_ 116 List.[]))))))))))))))))))))))) (Syntax.tcons (Syntax.tyInt Syntax.w64) Syntax.tnil)),
+) (List._∷_ (
+  3,
+  Mut.mslice LentTilePartEntry.row
+      (Syntax.tyRef (Syntax.named 1) Syntax.mut LentTilePartEntry.pointee) 1,
+) (List._∷_ (4, Rows.sc-here (Row.sInt Syntax.w64)) (List._∷_ (5, Rows.sc-here (Row.sInt Syntax.w64))
+    (List._∷_ (6, Rows.whole (Declared'.row CodestreamOffset.the-type)) (List._∷_ (
+      7,
+      Rows.any-gone (Syntax.tyEnum (List._∷_ 104 (List._∷_ 101 (List._∷_ 97 (List._∷_ 100 (List._∷_
+          101 (List._∷_ 114 (List._∷_ 58 (List._∷_ 58 (List._∷_ 119 (List._∷_ 97 (List._∷_ 108 (List._∷_ 107 (List._∷_ 58 (List._∷_ 58 (List._∷_ 87 (List._∷_ 97 (List._∷_ 108 (List._∷_
+          107 (List._∷_ 83 (List._∷_ 116 (List._∷_ 101 (List._∷_ 112 List.[])))))))))))))))))))))) (Syntax.ttcons (Syntax.tcons (Syntax.tyStruct (List._∷_ 104 (List._∷_ 101 (List._∷_ 97
+          (List._∷_ 100 (List._∷_ 101 (List._∷_ 114 (List._∷_ 58 (List._∷_ 58 (List._∷_ 119 (List._∷_ 97 (List._∷_ 108 (List._∷_ 107 (List._∷_ 58 (List._∷_ 58 (List._∷_ 80 (List._∷_ 97
+          (List._∷_ 115 (List._∷_ 115 (List._∷_ 101 (List._∷_ 100 List.[])))))))))))))))))))) (Syntax.tcons (Syntax.tyInt Syntax.w64) (Syntax.tcons Syntax.tyBool (Syntax.tcons
+          (Syntax.tyInt Syntax.w64) Syntax.tnil)))) Syntax.tnil) (Syntax.ttcons Syntax.tnil (Syntax.ttcons (Syntax.tcons (Syntax.tyStruct (List._∷_ 116 (List._∷_ 121 (List._∷_ 112
+          (List._∷_ 101 (List._∷_ 115 (List._∷_ 58 (List._∷_ 58 (List._∷_ 82 (List._∷_ 101 (List._∷_ 102 (List._∷_ 117 (List._∷_ 115 (List._∷_ 97 (List._∷_ 108 List.[]))))))))))))))
+          (Syntax.tcons (Syntax.tyInt Syntax.w32) (Syntax.tcons (Syntax.tyInt Syntax.w64) Syntax.tnil))) Syntax.tnil) Syntax.ttnil)))),
+    ) (List._∷_ (
+      8,
+      Rows.whole (Declared'.row
+          Passed.the-type),
+    ) (List._∷_ (9, Rows.sc-here (Row.sInt Syntax.w64)) (List._∷_ (10, Rows.any-gone Syntax.tyBool) (List._∷_ (
+      11,
+      Rows.any-gone (Syntax.tyRef Syntax.erased
+          Syntax.mut LentTilePartEntry.pointee),
+    ) (List._∷_ (
       12,
-      Rows.any-gone (Syntax.tyStruct (List._∷_ 38 (List._∷_ 91 (List._∷_ 93 List.[]))) (Syntax.tcons (Syntax.tyRef Syntax.erased Syntax.mut LentTilePartEntry.pointee)
-          (Syntax.tcons (Syntax.tyInt Syntax.w64) Syntax.tnil))),
+      Rows.any-gone (Syntax.tyStruct (List._∷_ 38 (List._∷_ 91 (List._∷_ 93 List.[]))) (Syntax.tcons (Syntax.tyRef Syntax.erased
+          Syntax.mut LentTilePartEntry.pointee) (Syntax.tcons (Syntax.tyInt Syntax.w64) Syntax.tnil))),
     ) List.[]))))))))))))
 
 abbrev pub t17 : List.List Row.Entry
@@ -783,31 +926,41 @@ t17 = List._∷_ (0, Rows.any-gone Syntax.tyUnit) (List._∷_ (
   1,
   Rows.sslice (Referent.rtF (Referent.fInt Syntax.w8)) (Syntax.tyRef (Syntax.named 0) Syntax.imm (Syntax.tyInt
       Syntax.w8)) 0,
-) (List._∷_ (2, Rows.sc-here (Row.sInt Syntax.w64)) (List._∷_ (
-  3,
-  Relend.mslice-owed LentTilePartEntry.row (Syntax.tyRef (Syntax.named 1) Syntax.mut
-      LentTilePartEntry.pointee) 1 2 Row.off,
-) (List._∷_ (4, Rows.sc-here (Row.sInt Syntax.w64)) (List._∷_ (5, Rows.sc-here (Row.sInt Syntax.w64)) (List._∷_ (
-  6,
-  Rows.sc-here (Row.sInt
-      Syntax.w64),
 ) (List._∷_ (
-  7,
-  Rows.any-gone (Syntax.tyEnum (List._∷_ 104 (List._∷_ 101 (List._∷_ 97 (List._∷_ 100 (List._∷_ 101 (List._∷_ 114 (List._∷_ 58 (List._∷_ 58 (List._∷_
-      119 (List._∷_ 97 (List._∷_ 108 (List._∷_ 107 (List._∷_ 58 (List._∷_ 58 (List._∷_ 87 (List._∷_ 97 (List._∷_ 108 (List._∷_ 107 (List._∷_ 83 (List._∷_ 116 (List._∷_ 101 (List._∷_
-      112 List.[])))))))))))))))))))))) (Syntax.ttcons (Syntax.tcons (Syntax.tyStruct (List._∷_ 104 (List._∷_ 101 (List._∷_ 97 (List._∷_ 100 (List._∷_ 101 (List._∷_ 114 (List._∷_ 58
-      (List._∷_ 58 (List._∷_ 119 (List._∷_ 97 (List._∷_ 108 (List._∷_ 107 (List._∷_ 58 (List._∷_ 58 (List._∷_ 80 (List._∷_ 97 (List._∷_ 115 (List._∷_ 115 (List._∷_ 101 (List._∷_ 100
-      List.[])))))))))))))))))))) (Syntax.tcons (Syntax.tyInt Syntax.w64) (Syntax.tcons Syntax.tyBool (Syntax.tcons (Syntax.tyInt Syntax.w64) Syntax.tnil)))) Syntax.tnil)
-      (Syntax.ttcons Syntax.tnil (Syntax.ttcons (Syntax.tcons (Syntax.tyStruct (List._∷_ 116 (List._∷_ 121 (List._∷_ 112 (List._∷_ 101 (List._∷_ 115 (List._∷_ 58 (List._∷_ 58
-      (List._∷_ 82 (List._∷_ 101 (List._∷_ 102 (List._∷_ 117 (List._∷_ 115 (List._∷_ 97 (List._∷_ 108 List.[])))))))))))))) (Syntax.tcons (Syntax.tyInt Syntax.w32) (Syntax.tcons
-      (Syntax.tyInt Syntax.w64) Syntax.tnil))) Syntax.tnil) Syntax.ttnil)))),
-) (List._∷_ (8, Rows.whole (Declared'.row Passed.the-type)) (List._∷_ (
-  9,
+  2,
+  Rows.any-gone (Syntax.tyStruct (List._∷_ 116 (List._∷_ 121 (List._∷_ 112 (List._∷_ 101 (List._∷_ 115 (List._∷_ 58 (List._∷_ 58 (List._∷_ 67
+      (List._∷_ 111 (List._∷_ 100 (List._∷_ 101 (List._∷_ 115 (List._∷_ 116 (List._∷_ 114 (List._∷_ 101 (List._∷_ 97 (List._∷_ 109 (List._∷_ 79 (List._∷_ 102 (List._∷_ 102 (List._∷_
+      115 (List._∷_ 101 (List._∷_ 116 List.[]))))))))))))))))))))))) (Syntax.tcons (Syntax.tyInt Syntax.w64) Syntax.tnil)),
+) (List._∷_ (
+  3,
+  Relend.mslice-owed LentTilePartEntry.row
+      (Syntax.tyRef (Syntax.named 1) Syntax.mut LentTilePartEntry.pointee) 1 2 Row.off,
+) (List._∷_ (4, Rows.sc-here (Row.sInt Syntax.w64)) (List._∷_ (
+  5,
   Rows.sc-here (Row.sInt
       Syntax.w64),
-) (List._∷_ (10, Rows.any-gone Syntax.tyBool) (List._∷_ (11, Rows.any-gone (Syntax.tyRef Syntax.erased Syntax.mut LentTilePartEntry.pointee)) (List._∷_ (
+) (List._∷_ (6, Rows.whole (Declared'.row CodestreamOffset.the-type)) (List._∷_ (
+  7,
+  Rows.any-gone (Syntax.tyEnum (List._∷_ 104 (List._∷_ 101 (List._∷_ 97 (List._∷_
+      100 (List._∷_ 101 (List._∷_ 114 (List._∷_ 58 (List._∷_ 58 (List._∷_ 119 (List._∷_ 97 (List._∷_ 108 (List._∷_ 107 (List._∷_ 58 (List._∷_ 58 (List._∷_ 87 (List._∷_ 97 (List._∷_
+      108 (List._∷_ 107 (List._∷_ 83 (List._∷_ 116 (List._∷_ 101 (List._∷_ 112 List.[])))))))))))))))))))))) (Syntax.ttcons (Syntax.tcons (Syntax.tyStruct (List._∷_ 104 (List._∷_ 101
+      (List._∷_ 97 (List._∷_ 100 (List._∷_ 101 (List._∷_ 114 (List._∷_ 58 (List._∷_ 58 (List._∷_ 119 (List._∷_ 97 (List._∷_ 108 (List._∷_ 107 (List._∷_ 58 (List._∷_ 58 (List._∷_ 80
+      (List._∷_ 97 (List._∷_ 115 (List._∷_ 115 (List._∷_ 101 (List._∷_ 100 List.[])))))))))))))))))))) (Syntax.tcons (Syntax.tyInt Syntax.w64) (Syntax.tcons Syntax.tyBool
+      (Syntax.tcons (Syntax.tyInt Syntax.w64) Syntax.tnil)))) Syntax.tnil) (Syntax.ttcons Syntax.tnil (Syntax.ttcons (Syntax.tcons (Syntax.tyStruct (List._∷_ 116 (List._∷_ 121
+      (List._∷_ 112 (List._∷_ 101 (List._∷_ 115 (List._∷_ 58 (List._∷_ 58 (List._∷_ 82 (List._∷_ 101 (List._∷_ 102 (List._∷_ 117 (List._∷_ 115 (List._∷_ 97 (List._∷_ 108
+      List.[])))))))))))))) (Syntax.tcons (Syntax.tyInt Syntax.w32) (Syntax.tcons (Syntax.tyInt Syntax.w64) Syntax.tnil))) Syntax.tnil) Syntax.ttnil)))),
+) (List._∷_ (
+  8,
+  Rows.whole
+      (Declared'.row Passed.the-type),
+) (List._∷_ (9, Rows.sc-here (Row.sInt Syntax.w64)) (List._∷_ (10, Rows.any-gone Syntax.tyBool) (List._∷_ (
+  11,
+  Relend.msptr LentTilePartEntry.row
+      (Syntax.tyRef Syntax.erased Syntax.mut LentTilePartEntry.pointee) 2,
+) (List._∷_ (
   12,
-  Mut.mslice LentTilePartEntry.row (Syntax.tyRef Syntax.erased Syntax.mut LentTilePartEntry.pointee) 2,
+  Rows.any-gone (Syntax.tyStruct (List._∷_ 38 (List._∷_ 91 (List._∷_ 93 List.[])))
+      (Syntax.tcons (Syntax.tyRef Syntax.erased Syntax.mut LentTilePartEntry.pointee) (Syntax.tcons (Syntax.tyInt Syntax.w64) Syntax.tnil))),
 ) List.[]))))))))))))
 
 abbrev pub t18 : List.List Row.Entry
@@ -815,129 +968,195 @@ t18 = List._∷_ (0, Rows.any-gone Syntax.tyUnit) (List._∷_ (
   1,
   Rows.sslice (Referent.rtF (Referent.fInt Syntax.w8)) (Syntax.tyRef (Syntax.named 0) Syntax.imm (Syntax.tyInt
       Syntax.w8)) 0,
-) (List._∷_ (2, Rows.sc-here (Row.sInt Syntax.w64)) (List._∷_ (
-  3,
-  Relend.mslice-owed LentTilePartEntry.row (Syntax.tyRef (Syntax.named 1) Syntax.mut
-      LentTilePartEntry.pointee) 1 2 Row.off,
-) (List._∷_ (4, Rows.sc-here (Row.sInt Syntax.w64)) (List._∷_ (5, Rows.sc-here (Row.sInt Syntax.w64)) (List._∷_ (
-  6,
-  Rows.sc-here (Row.sInt
-      Syntax.w64),
 ) (List._∷_ (
-  7,
-  Rows.any-gone (Syntax.tyEnum (List._∷_ 104 (List._∷_ 101 (List._∷_ 97 (List._∷_ 100 (List._∷_ 101 (List._∷_ 114 (List._∷_ 58 (List._∷_ 58 (List._∷_
-      119 (List._∷_ 97 (List._∷_ 108 (List._∷_ 107 (List._∷_ 58 (List._∷_ 58 (List._∷_ 87 (List._∷_ 97 (List._∷_ 108 (List._∷_ 107 (List._∷_ 83 (List._∷_ 116 (List._∷_ 101 (List._∷_
-      112 List.[])))))))))))))))))))))) (Syntax.ttcons (Syntax.tcons (Syntax.tyStruct (List._∷_ 104 (List._∷_ 101 (List._∷_ 97 (List._∷_ 100 (List._∷_ 101 (List._∷_ 114 (List._∷_ 58
-      (List._∷_ 58 (List._∷_ 119 (List._∷_ 97 (List._∷_ 108 (List._∷_ 107 (List._∷_ 58 (List._∷_ 58 (List._∷_ 80 (List._∷_ 97 (List._∷_ 115 (List._∷_ 115 (List._∷_ 101 (List._∷_ 100
-      List.[])))))))))))))))))))) (Syntax.tcons (Syntax.tyInt Syntax.w64) (Syntax.tcons Syntax.tyBool (Syntax.tcons (Syntax.tyInt Syntax.w64) Syntax.tnil)))) Syntax.tnil)
-      (Syntax.ttcons Syntax.tnil (Syntax.ttcons (Syntax.tcons (Syntax.tyStruct (List._∷_ 116 (List._∷_ 121 (List._∷_ 112 (List._∷_ 101 (List._∷_ 115 (List._∷_ 58 (List._∷_ 58
-      (List._∷_ 82 (List._∷_ 101 (List._∷_ 102 (List._∷_ 117 (List._∷_ 115 (List._∷_ 97 (List._∷_ 108 List.[])))))))))))))) (Syntax.tcons (Syntax.tyInt Syntax.w32) (Syntax.tcons
-      (Syntax.tyInt Syntax.w64) Syntax.tnil))) Syntax.tnil) Syntax.ttnil)))),
-) (List._∷_ (8, Rows.whole (Declared'.row Passed.the-type)) (List._∷_ (
-  9,
+  2,
+  Rows.any-gone (Syntax.tyStruct (List._∷_ 116 (List._∷_ 121 (List._∷_ 112 (List._∷_ 101 (List._∷_ 115 (List._∷_ 58 (List._∷_ 58 (List._∷_ 67
+      (List._∷_ 111 (List._∷_ 100 (List._∷_ 101 (List._∷_ 115 (List._∷_ 116 (List._∷_ 114 (List._∷_ 101 (List._∷_ 97 (List._∷_ 109 (List._∷_ 79 (List._∷_ 102 (List._∷_ 102 (List._∷_
+      115 (List._∷_ 101 (List._∷_ 116 List.[]))))))))))))))))))))))) (Syntax.tcons (Syntax.tyInt Syntax.w64) Syntax.tnil)),
+) (List._∷_ (
+  3,
+  Relend.mslice-owed LentTilePartEntry.row
+      (Syntax.tyRef (Syntax.named 1) Syntax.mut LentTilePartEntry.pointee) 1 2 Row.off,
+) (List._∷_ (4, Rows.sc-here (Row.sInt Syntax.w64)) (List._∷_ (
+  5,
   Rows.sc-here (Row.sInt
       Syntax.w64),
-) (List._∷_ (10, Rows.any-gone Syntax.tyBool) (List._∷_ (11, Rows.any-gone (Syntax.tyRef Syntax.erased Syntax.mut LentTilePartEntry.pointee)) (List._∷_ (
-  12,
-  Mut.msleft LentTilePartEntry.row (Syntax.tyRef Syntax.erased Syntax.mut LentTilePartEntry.pointee),
-) List.[]))))))))))))
+) (List._∷_ (6, Rows.whole (Declared'.row CodestreamOffset.the-type)) (List._∷_ (
+  7,
+  Rows.any-gone (Syntax.tyEnum (List._∷_ 104 (List._∷_ 101 (List._∷_ 97 (List._∷_
+      100 (List._∷_ 101 (List._∷_ 114 (List._∷_ 58 (List._∷_ 58 (List._∷_ 119 (List._∷_ 97 (List._∷_ 108 (List._∷_ 107 (List._∷_ 58 (List._∷_ 58 (List._∷_ 87 (List._∷_ 97 (List._∷_
+      108 (List._∷_ 107 (List._∷_ 83 (List._∷_ 116 (List._∷_ 101 (List._∷_ 112 List.[])))))))))))))))))))))) (Syntax.ttcons (Syntax.tcons (Syntax.tyStruct (List._∷_ 104 (List._∷_ 101
+      (List._∷_ 97 (List._∷_ 100 (List._∷_ 101 (List._∷_ 114 (List._∷_ 58 (List._∷_ 58 (List._∷_ 119 (List._∷_ 97 (List._∷_ 108 (List._∷_ 107 (List._∷_ 58 (List._∷_ 58 (List._∷_ 80
+      (List._∷_ 97 (List._∷_ 115 (List._∷_ 115 (List._∷_ 101 (List._∷_ 100 List.[])))))))))))))))))))) (Syntax.tcons (Syntax.tyInt Syntax.w64) (Syntax.tcons Syntax.tyBool
+      (Syntax.tcons (Syntax.tyInt Syntax.w64) Syntax.tnil)))) Syntax.tnil) (Syntax.ttcons Syntax.tnil (Syntax.ttcons (Syntax.tcons (Syntax.tyStruct (List._∷_ 116 (List._∷_ 121
+      (List._∷_ 112 (List._∷_ 101 (List._∷_ 115 (List._∷_ 58 (List._∷_ 58 (List._∷_ 82 (List._∷_ 101 (List._∷_ 102 (List._∷_ 117 (List._∷_ 115 (List._∷_ 97 (List._∷_ 108
+      List.[])))))))))))))) (Syntax.tcons (Syntax.tyInt Syntax.w32) (Syntax.tcons (Syntax.tyInt Syntax.w64) Syntax.tnil))) Syntax.tnil) Syntax.ttnil)))),
+) (List._∷_ (
+  8,
+  Rows.whole
+      (Declared'.row Passed.the-type),
+) (List._∷_ (9, Rows.sc-here (Row.sInt Syntax.w64)) (List._∷_ (10, Rows.any-gone Syntax.tyBool) (List._∷_ (
+  11,
+  Rows.any-gone (Syntax.tyRef
+      Syntax.erased Syntax.mut LentTilePartEntry.pointee),
+) (List._∷_ (12, Mut.mslice LentTilePartEntry.row (Syntax.tyRef Syntax.erased Syntax.mut LentTilePartEntry.pointee) 2)
+    List.[]))))))))))))
 
 abbrev pub t19 : List.List Row.Entry
 t19 = List._∷_ (0, Rows.any-gone Syntax.tyUnit) (List._∷_ (
   1,
   Rows.sslice (Referent.rtF (Referent.fInt Syntax.w8)) (Syntax.tyRef (Syntax.named 0) Syntax.imm (Syntax.tyInt
       Syntax.w8)) 0,
-) (List._∷_ (2, Rows.sc-here (Row.sInt Syntax.w64)) (List._∷_ (
-  3,
-  Relend.mslice-owed LentTilePartEntry.row (Syntax.tyRef (Syntax.named 1) Syntax.mut
-      LentTilePartEntry.pointee) 1 2 Row.off,
-) (List._∷_ (4, Rows.any-gone (Syntax.tyInt Syntax.w64)) (List._∷_ (5, Rows.sc-here (Row.sInt Syntax.w64)) (List._∷_ (
-  6,
-  Rows.sc-here
-      (Row.sInt Syntax.w64),
 ) (List._∷_ (
+  2,
+  Rows.any-gone (Syntax.tyStruct (List._∷_ 116 (List._∷_ 121 (List._∷_ 112 (List._∷_ 101 (List._∷_ 115 (List._∷_ 58 (List._∷_ 58 (List._∷_ 67
+      (List._∷_ 111 (List._∷_ 100 (List._∷_ 101 (List._∷_ 115 (List._∷_ 116 (List._∷_ 114 (List._∷_ 101 (List._∷_ 97 (List._∷_ 109 (List._∷_ 79 (List._∷_ 102 (List._∷_ 102 (List._∷_
+      115 (List._∷_ 101 (List._∷_ 116 List.[]))))))))))))))))))))))) (Syntax.tcons (Syntax.tyInt Syntax.w64) Syntax.tnil)),
+) (List._∷_ (
+  3,
+  Relend.mslice-owed LentTilePartEntry.row
+      (Syntax.tyRef (Syntax.named 1) Syntax.mut LentTilePartEntry.pointee) 1 2 Row.off,
+) (List._∷_ (4, Rows.sc-here (Row.sInt Syntax.w64)) (List._∷_ (
+  5,
+  Rows.sc-here (Row.sInt
+      Syntax.w64),
+) (List._∷_ (6, Rows.whole (Declared'.row CodestreamOffset.the-type)) (List._∷_ (
   7,
-  Rows.any-gone (Syntax.tyEnum (List._∷_ 104 (List._∷_ 101 (List._∷_ 97 (List._∷_ 100 (List._∷_ 101 (List._∷_ 114 (List._∷_ 58 (List._∷_ 58
-      (List._∷_ 119 (List._∷_ 97 (List._∷_ 108 (List._∷_ 107 (List._∷_ 58 (List._∷_ 58 (List._∷_ 87 (List._∷_ 97 (List._∷_ 108 (List._∷_ 107 (List._∷_ 83 (List._∷_ 116 (List._∷_ 101
-      (List._∷_ 112 List.[])))))))))))))))))))))) (Syntax.ttcons (Syntax.tcons (Syntax.tyStruct (List._∷_ 104 (List._∷_ 101 (List._∷_ 97 (List._∷_ 100 (List._∷_ 101 (List._∷_ 114
-      (List._∷_ 58 (List._∷_ 58 (List._∷_ 119 (List._∷_ 97 (List._∷_ 108 (List._∷_ 107 (List._∷_ 58 (List._∷_ 58 (List._∷_ 80 (List._∷_ 97 (List._∷_ 115 (List._∷_ 115 (List._∷_ 101
-      (List._∷_ 100 List.[])))))))))))))))))))) (Syntax.tcons (Syntax.tyInt Syntax.w64) (Syntax.tcons Syntax.tyBool (Syntax.tcons (Syntax.tyInt Syntax.w64) Syntax.tnil))))
-      Syntax.tnil) (Syntax.ttcons Syntax.tnil (Syntax.ttcons (Syntax.tcons (Syntax.tyStruct (List._∷_ 116 (List._∷_ 121 (List._∷_ 112 (List._∷_ 101 (List._∷_ 115 (List._∷_ 58
-      (List._∷_ 58 (List._∷_ 82 (List._∷_ 101 (List._∷_ 102 (List._∷_ 117 (List._∷_ 115 (List._∷_ 97 (List._∷_ 108 List.[])))))))))))))) (Syntax.tcons (Syntax.tyInt Syntax.w32)
-      (Syntax.tcons (Syntax.tyInt Syntax.w64) Syntax.tnil))) Syntax.tnil) Syntax.ttnil)))),
-) (List._∷_ (8, Rows.whole (Declared'.row Passed.the-type)) (List._∷_ (
-  9,
-  Rows.sc-here
-      (Row.sInt Syntax.w64),
-) (List._∷_ (10, Rows.any-gone Syntax.tyBool) (List._∷_ (11, Rows.any-gone (Syntax.tyRef Syntax.erased Syntax.mut LentTilePartEntry.pointee)) (List._∷_
-    (12, Mut.msleft LentTilePartEntry.row (Syntax.tyRef Syntax.erased Syntax.mut LentTilePartEntry.pointee)) List.[]))))))))))))
+  Rows.any-gone (Syntax.tyEnum (List._∷_ 104 (List._∷_ 101 (List._∷_ 97 (List._∷_
+      100 (List._∷_ 101 (List._∷_ 114 (List._∷_ 58 (List._∷_ 58 (List._∷_ 119 (List._∷_ 97 (List._∷_ 108 (List._∷_ 107 (List._∷_ 58 (List._∷_ 58 (List._∷_ 87 (List._∷_ 97 (List._∷_
+      108 (List._∷_ 107 (List._∷_ 83 (List._∷_ 116 (List._∷_ 101 (List._∷_ 112 List.[])))))))))))))))))))))) (Syntax.ttcons (Syntax.tcons (Syntax.tyStruct (List._∷_ 104 (List._∷_ 101
+      (List._∷_ 97 (List._∷_ 100 (List._∷_ 101 (List._∷_ 114 (List._∷_ 58 (List._∷_ 58 (List._∷_ 119 (List._∷_ 97 (List._∷_ 108 (List._∷_ 107 (List._∷_ 58 (List._∷_ 58 (List._∷_ 80
+      (List._∷_ 97 (List._∷_ 115 (List._∷_ 115 (List._∷_ 101 (List._∷_ 100 List.[])))))))))))))))))))) (Syntax.tcons (Syntax.tyInt Syntax.w64) (Syntax.tcons Syntax.tyBool
+      (Syntax.tcons (Syntax.tyInt Syntax.w64) Syntax.tnil)))) Syntax.tnil) (Syntax.ttcons Syntax.tnil (Syntax.ttcons (Syntax.tcons (Syntax.tyStruct (List._∷_ 116 (List._∷_ 121
+      (List._∷_ 112 (List._∷_ 101 (List._∷_ 115 (List._∷_ 58 (List._∷_ 58 (List._∷_ 82 (List._∷_ 101 (List._∷_ 102 (List._∷_ 117 (List._∷_ 115 (List._∷_ 97 (List._∷_ 108
+      List.[])))))))))))))) (Syntax.tcons (Syntax.tyInt Syntax.w32) (Syntax.tcons (Syntax.tyInt Syntax.w64) Syntax.tnil))) Syntax.tnil) Syntax.ttnil)))),
+) (List._∷_ (
+  8,
+  Rows.whole
+      (Declared'.row Passed.the-type),
+) (List._∷_ (9, Rows.sc-here (Row.sInt Syntax.w64)) (List._∷_ (10, Rows.any-gone Syntax.tyBool) (List._∷_ (
+  11,
+  Rows.any-gone (Syntax.tyRef
+      Syntax.erased Syntax.mut LentTilePartEntry.pointee),
+) (List._∷_ (12, Mut.msleft LentTilePartEntry.row (Syntax.tyRef Syntax.erased Syntax.mut LentTilePartEntry.pointee))
+    List.[]))))))))))))
 
 abbrev pub t20 : List.List Row.Entry
 t20 = List._∷_ (0, Rows.any-gone Syntax.tyUnit) (List._∷_ (
   1,
   Rows.sslice (Referent.rtF (Referent.fInt Syntax.w8)) (Syntax.tyRef (Syntax.named 0) Syntax.imm (Syntax.tyInt
       Syntax.w8)) 0,
-) (List._∷_ (2, Rows.sc-here (Row.sInt Syntax.w64)) (List._∷_ (
-  3,
-  Mut.mslice LentTilePartEntry.row (Syntax.tyRef (Syntax.named 1) Syntax.mut
-      LentTilePartEntry.pointee) 1,
-) (List._∷_ (4, Rows.any-gone (Syntax.tyInt Syntax.w64)) (List._∷_ (5, Rows.sc-here (Row.sInt Syntax.w64)) (List._∷_ (
-  6,
-  Rows.sc-here (Row.sInt
-      Syntax.w64),
 ) (List._∷_ (
-  7,
-  Rows.any-gone (Syntax.tyEnum (List._∷_ 104 (List._∷_ 101 (List._∷_ 97 (List._∷_ 100 (List._∷_ 101 (List._∷_ 114 (List._∷_ 58 (List._∷_ 58 (List._∷_
-      119 (List._∷_ 97 (List._∷_ 108 (List._∷_ 107 (List._∷_ 58 (List._∷_ 58 (List._∷_ 87 (List._∷_ 97 (List._∷_ 108 (List._∷_ 107 (List._∷_ 83 (List._∷_ 116 (List._∷_ 101 (List._∷_
-      112 List.[])))))))))))))))))))))) (Syntax.ttcons (Syntax.tcons (Syntax.tyStruct (List._∷_ 104 (List._∷_ 101 (List._∷_ 97 (List._∷_ 100 (List._∷_ 101 (List._∷_ 114 (List._∷_ 58
-      (List._∷_ 58 (List._∷_ 119 (List._∷_ 97 (List._∷_ 108 (List._∷_ 107 (List._∷_ 58 (List._∷_ 58 (List._∷_ 80 (List._∷_ 97 (List._∷_ 115 (List._∷_ 115 (List._∷_ 101 (List._∷_ 100
-      List.[])))))))))))))))))))) (Syntax.tcons (Syntax.tyInt Syntax.w64) (Syntax.tcons Syntax.tyBool (Syntax.tcons (Syntax.tyInt Syntax.w64) Syntax.tnil)))) Syntax.tnil)
-      (Syntax.ttcons Syntax.tnil (Syntax.ttcons (Syntax.tcons (Syntax.tyStruct (List._∷_ 116 (List._∷_ 121 (List._∷_ 112 (List._∷_ 101 (List._∷_ 115 (List._∷_ 58 (List._∷_ 58
-      (List._∷_ 82 (List._∷_ 101 (List._∷_ 102 (List._∷_ 117 (List._∷_ 115 (List._∷_ 97 (List._∷_ 108 List.[])))))))))))))) (Syntax.tcons (Syntax.tyInt Syntax.w32) (Syntax.tcons
-      (Syntax.tyInt Syntax.w64) Syntax.tnil))) Syntax.tnil) Syntax.ttnil)))),
-) (List._∷_ (8, Rows.whole (Declared'.row Passed.the-type)) (List._∷_ (
-  9,
+  2,
+  Rows.any-gone (Syntax.tyStruct (List._∷_ 116 (List._∷_ 121 (List._∷_ 112 (List._∷_ 101 (List._∷_ 115 (List._∷_ 58 (List._∷_ 58 (List._∷_ 67
+      (List._∷_ 111 (List._∷_ 100 (List._∷_ 101 (List._∷_ 115 (List._∷_ 116 (List._∷_ 114 (List._∷_ 101 (List._∷_ 97 (List._∷_ 109 (List._∷_ 79 (List._∷_ 102 (List._∷_ 102 (List._∷_
+      115 (List._∷_ 101 (List._∷_ 116 List.[]))))))))))))))))))))))) (Syntax.tcons (Syntax.tyInt Syntax.w64) Syntax.tnil)),
+) (List._∷_ (
+  3,
+  Relend.mslice-owed LentTilePartEntry.row
+      (Syntax.tyRef (Syntax.named 1) Syntax.mut LentTilePartEntry.pointee) 1 2 Row.off,
+) (List._∷_ (4, Rows.any-gone (Syntax.tyInt Syntax.w64)) (List._∷_ (
+  5,
   Rows.sc-here (Row.sInt
       Syntax.w64),
-) (List._∷_ (10, Rows.any-gone Syntax.tyBool) (List._∷_ (11, Rows.any-gone (Syntax.tyRef Syntax.erased Syntax.mut LentTilePartEntry.pointee)) (List._∷_ (
-  12,
-  Rows.any-gone (Syntax.tyStruct (List._∷_ 38 (List._∷_ 91 (List._∷_ 93 List.[]))) (Syntax.tcons (Syntax.tyRef Syntax.erased Syntax.mut LentTilePartEntry.pointee) (Syntax.tcons
-      (Syntax.tyInt Syntax.w64) Syntax.tnil))),
-) List.[]))))))))))))
+) (List._∷_ (6, Rows.whole (Declared'.row CodestreamOffset.the-type)) (List._∷_ (
+  7,
+  Rows.any-gone (Syntax.tyEnum (List._∷_ 104 (List._∷_ 101 (List._∷_ 97 (List._∷_
+      100 (List._∷_ 101 (List._∷_ 114 (List._∷_ 58 (List._∷_ 58 (List._∷_ 119 (List._∷_ 97 (List._∷_ 108 (List._∷_ 107 (List._∷_ 58 (List._∷_ 58 (List._∷_ 87 (List._∷_ 97 (List._∷_
+      108 (List._∷_ 107 (List._∷_ 83 (List._∷_ 116 (List._∷_ 101 (List._∷_ 112 List.[])))))))))))))))))))))) (Syntax.ttcons (Syntax.tcons (Syntax.tyStruct (List._∷_ 104 (List._∷_ 101
+      (List._∷_ 97 (List._∷_ 100 (List._∷_ 101 (List._∷_ 114 (List._∷_ 58 (List._∷_ 58 (List._∷_ 119 (List._∷_ 97 (List._∷_ 108 (List._∷_ 107 (List._∷_ 58 (List._∷_ 58 (List._∷_ 80
+      (List._∷_ 97 (List._∷_ 115 (List._∷_ 115 (List._∷_ 101 (List._∷_ 100 List.[])))))))))))))))))))) (Syntax.tcons (Syntax.tyInt Syntax.w64) (Syntax.tcons Syntax.tyBool
+      (Syntax.tcons (Syntax.tyInt Syntax.w64) Syntax.tnil)))) Syntax.tnil) (Syntax.ttcons Syntax.tnil (Syntax.ttcons (Syntax.tcons (Syntax.tyStruct (List._∷_ 116 (List._∷_ 121
+      (List._∷_ 112 (List._∷_ 101 (List._∷_ 115 (List._∷_ 58 (List._∷_ 58 (List._∷_ 82 (List._∷_ 101 (List._∷_ 102 (List._∷_ 117 (List._∷_ 115 (List._∷_ 97 (List._∷_ 108
+      List.[])))))))))))))) (Syntax.tcons (Syntax.tyInt Syntax.w32) (Syntax.tcons (Syntax.tyInt Syntax.w64) Syntax.tnil))) Syntax.tnil) Syntax.ttnil)))),
+) (List._∷_ (
+  8,
+  Rows.whole
+      (Declared'.row Passed.the-type),
+) (List._∷_ (9, Rows.sc-here (Row.sInt Syntax.w64)) (List._∷_ (10, Rows.any-gone Syntax.tyBool) (List._∷_ (
+  11,
+  Rows.any-gone (Syntax.tyRef
+      Syntax.erased Syntax.mut LentTilePartEntry.pointee),
+) (List._∷_ (12, Mut.msleft LentTilePartEntry.row (Syntax.tyRef Syntax.erased Syntax.mut LentTilePartEntry.pointee))
+    List.[]))))))))))))
 
 abbrev pub t21 : List.List Row.Entry
 t21 = List._∷_ (0, Rows.any-gone Syntax.tyUnit) (List._∷_ (
   1,
   Rows.sslice (Referent.rtF (Referent.fInt Syntax.w8)) (Syntax.tyRef (Syntax.named 0) Syntax.imm (Syntax.tyInt
       Syntax.w8)) 0,
-) (List._∷_ (2, Rows.sc-here (Row.sInt Syntax.w64)) (List._∷_ (
-  3,
-  Mut.mslice LentTilePartEntry.row (Syntax.tyRef (Syntax.named 1) Syntax.mut
-      LentTilePartEntry.pointee) 1,
-) (List._∷_ (4, Rows.any-gone (Syntax.tyInt Syntax.w64)) (List._∷_ (5, Rows.sc-here (Row.sInt Syntax.w64)) (List._∷_ (
-  6,
-  Rows.sc-here (Row.sInt
-      Syntax.w64),
 ) (List._∷_ (
-  7,
-  Rows.any-gone (Syntax.tyEnum (List._∷_ 104 (List._∷_ 101 (List._∷_ 97 (List._∷_ 100 (List._∷_ 101 (List._∷_ 114 (List._∷_ 58 (List._∷_ 58 (List._∷_
-      119 (List._∷_ 97 (List._∷_ 108 (List._∷_ 107 (List._∷_ 58 (List._∷_ 58 (List._∷_ 87 (List._∷_ 97 (List._∷_ 108 (List._∷_ 107 (List._∷_ 83 (List._∷_ 116 (List._∷_ 101 (List._∷_
-      112 List.[])))))))))))))))))))))) (Syntax.ttcons (Syntax.tcons (Syntax.tyStruct (List._∷_ 104 (List._∷_ 101 (List._∷_ 97 (List._∷_ 100 (List._∷_ 101 (List._∷_ 114 (List._∷_ 58
-      (List._∷_ 58 (List._∷_ 119 (List._∷_ 97 (List._∷_ 108 (List._∷_ 107 (List._∷_ 58 (List._∷_ 58 (List._∷_ 80 (List._∷_ 97 (List._∷_ 115 (List._∷_ 115 (List._∷_ 101 (List._∷_ 100
-      List.[])))))))))))))))))))) (Syntax.tcons (Syntax.tyInt Syntax.w64) (Syntax.tcons Syntax.tyBool (Syntax.tcons (Syntax.tyInt Syntax.w64) Syntax.tnil)))) Syntax.tnil)
-      (Syntax.ttcons Syntax.tnil (Syntax.ttcons (Syntax.tcons (Syntax.tyStruct (List._∷_ 116 (List._∷_ 121 (List._∷_ 112 (List._∷_ 101 (List._∷_ 115 (List._∷_ 58 (List._∷_ 58
-      (List._∷_ 82 (List._∷_ 101 (List._∷_ 102 (List._∷_ 117 (List._∷_ 115 (List._∷_ 97 (List._∷_ 108 List.[])))))))))))))) (Syntax.tcons (Syntax.tyInt Syntax.w32) (Syntax.tcons
-      (Syntax.tyInt Syntax.w64) Syntax.tnil))) Syntax.tnil) Syntax.ttnil)))),
-) (List._∷_ (8, Rows.whole (Declared'.row Passed.the-type)) (List._∷_ (
-  9,
-  Rows.any-gone (Syntax.tyInt
-      Syntax.w64),
-) (List._∷_ (10, Rows.sc-here Row.sBool) (List._∷_ (11, Rows.any-gone (Syntax.tyRef Syntax.erased Syntax.mut LentTilePartEntry.pointee)) (List._∷_ (
-  12,
-  Rows.any-gone
-      (Syntax.tyStruct (List._∷_ 38 (List._∷_ 91 (List._∷_ 93 List.[]))) (Syntax.tcons (Syntax.tyRef Syntax.erased Syntax.mut LentTilePartEntry.pointee) (Syntax.tcons (Syntax.tyInt
-      Syntax.w64) Syntax.tnil))),
-) List.[]))))))))))))
+  2,
+  Rows.any-gone (Syntax.tyStruct (List._∷_ 116 (List._∷_ 121 (List._∷_ 112 (List._∷_ 101 (List._∷_ 115 (List._∷_ 58 (List._∷_ 58 (List._∷_ 67
+      (List._∷_ 111 (List._∷_ 100 (List._∷_ 101 (List._∷_ 115 (List._∷_ 116 (List._∷_ 114 (List._∷_ 101 (List._∷_ 97 (List._∷_ 109 (List._∷_ 79 (List._∷_ 102 (List._∷_ 102 (List._∷_
+      115 (List._∷_ 101 (List._∷_ 116 List.[]))))))))))))))))))))))) (Syntax.tcons (Syntax.tyInt Syntax.w64) Syntax.tnil)),
+) (List._∷_ (
+  3,
+  Mut.mslice LentTilePartEntry.row
+      (Syntax.tyRef (Syntax.named 1) Syntax.mut LentTilePartEntry.pointee) 1,
+) (List._∷_ (4, Rows.any-gone (Syntax.tyInt Syntax.w64)) (List._∷_ (5, Rows.sc-here (Row.sInt Syntax.w64))
+    (List._∷_ (6, Rows.whole (Declared'.row CodestreamOffset.the-type)) (List._∷_ (
+      7,
+      Rows.any-gone (Syntax.tyEnum (List._∷_ 104 (List._∷_ 101 (List._∷_ 97 (List._∷_ 100 (List._∷_
+          101 (List._∷_ 114 (List._∷_ 58 (List._∷_ 58 (List._∷_ 119 (List._∷_ 97 (List._∷_ 108 (List._∷_ 107 (List._∷_ 58 (List._∷_ 58 (List._∷_ 87 (List._∷_ 97 (List._∷_ 108 (List._∷_
+          107 (List._∷_ 83 (List._∷_ 116 (List._∷_ 101 (List._∷_ 112 List.[])))))))))))))))))))))) (Syntax.ttcons (Syntax.tcons (Syntax.tyStruct (List._∷_ 104 (List._∷_ 101 (List._∷_ 97
+          (List._∷_ 100 (List._∷_ 101 (List._∷_ 114 (List._∷_ 58 (List._∷_ 58 (List._∷_ 119 (List._∷_ 97 (List._∷_ 108 (List._∷_ 107 (List._∷_ 58 (List._∷_ 58 (List._∷_ 80 (List._∷_ 97
+          (List._∷_ 115 (List._∷_ 115 (List._∷_ 101 (List._∷_ 100 List.[])))))))))))))))))))) (Syntax.tcons (Syntax.tyInt Syntax.w64) (Syntax.tcons Syntax.tyBool (Syntax.tcons
+          (Syntax.tyInt Syntax.w64) Syntax.tnil)))) Syntax.tnil) (Syntax.ttcons Syntax.tnil (Syntax.ttcons (Syntax.tcons (Syntax.tyStruct (List._∷_ 116 (List._∷_ 121 (List._∷_ 112
+          (List._∷_ 101 (List._∷_ 115 (List._∷_ 58 (List._∷_ 58 (List._∷_ 82 (List._∷_ 101 (List._∷_ 102 (List._∷_ 117 (List._∷_ 115 (List._∷_ 97 (List._∷_ 108 List.[]))))))))))))))
+          (Syntax.tcons (Syntax.tyInt Syntax.w32) (Syntax.tcons (Syntax.tyInt Syntax.w64) Syntax.tnil))) Syntax.tnil) Syntax.ttnil)))),
+    ) (List._∷_ (
+      8,
+      Rows.whole (Declared'.row
+          Passed.the-type),
+    ) (List._∷_ (9, Rows.sc-here (Row.sInt Syntax.w64)) (List._∷_ (10, Rows.any-gone Syntax.tyBool) (List._∷_ (
+      11,
+      Rows.any-gone (Syntax.tyRef Syntax.erased
+          Syntax.mut LentTilePartEntry.pointee),
+    ) (List._∷_ (
+      12,
+      Rows.any-gone (Syntax.tyStruct (List._∷_ 38 (List._∷_ 91 (List._∷_ 93 List.[]))) (Syntax.tcons (Syntax.tyRef Syntax.erased
+          Syntax.mut LentTilePartEntry.pointee) (Syntax.tcons (Syntax.tyInt Syntax.w64) Syntax.tnil))),
+    ) List.[]))))))))))))
+
+abbrev pub t22 : List.List Row.Entry
+t22 = List._∷_ (0, Rows.any-gone Syntax.tyUnit) (List._∷_ (
+  1,
+  Rows.sslice (Referent.rtF (Referent.fInt Syntax.w8)) (Syntax.tyRef (Syntax.named 0) Syntax.imm (Syntax.tyInt
+      Syntax.w8)) 0,
+) (List._∷_ (
+  2,
+  Rows.any-gone (Syntax.tyStruct (List._∷_ 116 (List._∷_ 121 (List._∷_ 112 (List._∷_ 101 (List._∷_ 115 (List._∷_ 58 (List._∷_ 58 (List._∷_ 67
+      (List._∷_ 111 (List._∷_ 100 (List._∷_ 101 (List._∷_ 115 (List._∷_ 116 (List._∷_ 114 (List._∷_ 101 (List._∷_ 97 (List._∷_ 109 (List._∷_ 79 (List._∷_ 102 (List._∷_ 102 (List._∷_
+      115 (List._∷_ 101 (List._∷_ 116 List.[]))))))))))))))))))))))) (Syntax.tcons (Syntax.tyInt Syntax.w64) Syntax.tnil)),
+) (List._∷_ (
+  3,
+  Mut.mslice LentTilePartEntry.row
+      (Syntax.tyRef (Syntax.named 1) Syntax.mut LentTilePartEntry.pointee) 1,
+) (List._∷_ (4, Rows.any-gone (Syntax.tyInt Syntax.w64)) (List._∷_ (5, Rows.sc-here (Row.sInt Syntax.w64))
+    (List._∷_ (6, Rows.whole (Declared'.row CodestreamOffset.the-type)) (List._∷_ (
+      7,
+      Rows.any-gone (Syntax.tyEnum (List._∷_ 104 (List._∷_ 101 (List._∷_ 97 (List._∷_ 100 (List._∷_
+          101 (List._∷_ 114 (List._∷_ 58 (List._∷_ 58 (List._∷_ 119 (List._∷_ 97 (List._∷_ 108 (List._∷_ 107 (List._∷_ 58 (List._∷_ 58 (List._∷_ 87 (List._∷_ 97 (List._∷_ 108 (List._∷_
+          107 (List._∷_ 83 (List._∷_ 116 (List._∷_ 101 (List._∷_ 112 List.[])))))))))))))))))))))) (Syntax.ttcons (Syntax.tcons (Syntax.tyStruct (List._∷_ 104 (List._∷_ 101 (List._∷_ 97
+          (List._∷_ 100 (List._∷_ 101 (List._∷_ 114 (List._∷_ 58 (List._∷_ 58 (List._∷_ 119 (List._∷_ 97 (List._∷_ 108 (List._∷_ 107 (List._∷_ 58 (List._∷_ 58 (List._∷_ 80 (List._∷_ 97
+          (List._∷_ 115 (List._∷_ 115 (List._∷_ 101 (List._∷_ 100 List.[])))))))))))))))))))) (Syntax.tcons (Syntax.tyInt Syntax.w64) (Syntax.tcons Syntax.tyBool (Syntax.tcons
+          (Syntax.tyInt Syntax.w64) Syntax.tnil)))) Syntax.tnil) (Syntax.ttcons Syntax.tnil (Syntax.ttcons (Syntax.tcons (Syntax.tyStruct (List._∷_ 116 (List._∷_ 121 (List._∷_ 112
+          (List._∷_ 101 (List._∷_ 115 (List._∷_ 58 (List._∷_ 58 (List._∷_ 82 (List._∷_ 101 (List._∷_ 102 (List._∷_ 117 (List._∷_ 115 (List._∷_ 97 (List._∷_ 108 List.[]))))))))))))))
+          (Syntax.tcons (Syntax.tyInt Syntax.w32) (Syntax.tcons (Syntax.tyInt Syntax.w64) Syntax.tnil))) Syntax.tnil) Syntax.ttnil)))),
+    ) (List._∷_ (
+      8,
+      Rows.whole (Declared'.row
+          Passed.the-type),
+    ) (List._∷_ (9, Rows.any-gone (Syntax.tyInt Syntax.w64)) (List._∷_ (10, Rows.sc-here Row.sBool) (List._∷_ (
+      11,
+      Rows.any-gone (Syntax.tyRef Syntax.erased
+          Syntax.mut LentTilePartEntry.pointee),
+    ) (List._∷_ (
+      12,
+      Rows.any-gone (Syntax.tyStruct (List._∷_ 38 (List._∷_ 91 (List._∷_ 93 List.[]))) (Syntax.tcons (Syntax.tyRef Syntax.erased
+          Syntax.mut LentTilePartEntry.pointee) (Syntax.tcons (Syntax.tyInt Syntax.w64) Syntax.tnil))),
+    ) List.[]))))))))))))
 
 abbrev pub T0 : Row.Cx
 T0 = record { locals = t0; slots = List.[] }
@@ -967,76 +1186,76 @@ abbrev pub T8 : Row.Cx
 T8 = record { locals = t7; slots = List.[] }
 
 abbrev pub T9 : Row.Cx
-T9 = record { locals = t7; slots = List.[] }
+T9 = record { locals = t8; slots = List.[] }
 
 abbrev pub T10 : Row.Cx
 T10 = record { locals = t8; slots = List.[] }
 
 abbrev pub T11 : Row.Cx
-T11 = record { locals = t6; slots = List.[] }
+T11 = record { locals = t9; slots = List.[] }
 
 abbrev pub T12 : Row.Cx
-T12 = record { locals = t4; slots = List.[] }
+T12 = record { locals = t7; slots = List.[] }
 
 abbrev pub T13 : Row.Cx
-T13 = record { locals = t9; slots = List.[] }
+T13 = record { locals = t10; slots = List.[] }
 
 abbrev pub T14 : Row.Cx
-T14 = record { locals = t10; slots = List.[] }
+T14 = record { locals = t11; slots = List.[] }
 
 abbrev pub T15 : Row.Cx
-T15 = record { locals = t11; slots = List.[] }
+T15 = record { locals = t12; slots = List.[] }
 
 abbrev pub T16 : Row.Cx
-T16 = record { locals = t12; slots = List.[] }
+T16 = record { locals = t13; slots = List.[] }
 
 abbrev pub T17 : Row.Cx
 T17 = record { locals = t1; slots = List.[] }
 
 abbrev pub T18 : Row.Cx
-T18 = record { locals = t13; slots = List.[] }
+T18 = record { locals = t14; slots = List.[] }
 
 abbrev pub T19 : Row.Cx
-T19 = record { locals = t14; slots = List.[] }
+T19 = record { locals = t15; slots = List.[] }
 
 abbrev pub T20 : Row.Cx
-T20 = record { locals = t6; slots = List.[] }
+T20 = record { locals = t7; slots = List.[] }
 
 abbrev pub T21 : Row.Cx
-T21 = record { locals = t15; slots = List.[] }
+T21 = record { locals = t16; slots = List.[] }
 
 abbrev pub T23 : Row.Cx
-T23 = record { locals = t16; slots = List.[] }
+T23 = record { locals = t17; slots = List.[] }
 
 abbrev pub T24 : Row.Cx
-T24 = record { locals = t17; slots = List.[] }
+T24 = record { locals = t18; slots = List.[] }
 
 abbrev pub T25 : Row.Cx
-T25 = record { locals = t18; slots = List.[] }
+T25 = record { locals = t19; slots = List.[] }
 
 abbrev pub T26 : Row.Cx
-T26 = record { locals = t19; slots = List.[] }
+T26 = record { locals = t20; slots = List.[] }
 
 abbrev pub T28 : Row.Cx
-T28 = record { locals = t20; slots = List.[] }
+T28 = record { locals = t21; slots = List.[] }
 
 abbrev pub T30 : Row.Cx
-T30 = record { locals = t20; slots = List.[] }
+T30 = record { locals = t21; slots = List.[] }
 
 abbrev pub T31 : Row.Cx
-T31 = record { locals = t14; slots = List.[] }
+T31 = record { locals = t15; slots = List.[] }
 
 abbrev pub T32 : Row.Cx
-T32 = record { locals = t21; slots = List.[] }
+T32 = record { locals = t22; slots = List.[] }
 
 abbrev pub T33 : Row.Cx
-T33 = record { locals = t14; slots = List.[] }
+T33 = record { locals = t15; slots = List.[] }
 
 abbrev pub T34 : Row.Cx
-T34 = record { locals = t6; slots = List.[] }
+T34 = record { locals = t7; slots = List.[] }
 
 abbrev pub T35 : Row.Cx
-T35 = record { locals = t4; slots = List.[] }
+T35 = record { locals = t5; slots = List.[] }
 
 abbrev pub O0 : Typed.Outs
 O0 = record { next = Option.none; exits = List.[]; returns = Option.some T1 }
@@ -1048,23 +1267,23 @@ abbrev pub O2 : Typed.Outs
 O2 = Typed.inBlock₀ O1
 
 abbrev pub O3 : Typed.Outs
-O3 = Typed.inLoop₀ T5 O2
+O3 = Typed.inLoop₀ T6 O2
 
 abbrev pub O4 : Typed.Outs
-O4 = Typed.withNext (Option.some T7) O3
+O4 = Typed.withNext (Option.some T8) O3
 
 abbrev pub O5 : Typed.Outs
 O5 = Typed.withNext (Option.some T19) O3
 
 abbrev pub InvT-loop : Type 1
-InvT-loop = List.List (Referent.rtF (Referent.fInt Syntax.w8) .Denot) → Rows.sc-here (Row.sInt Syntax.w64) .Mod → List.List (LentTilePartEntry.row .Denot) → Rows.sc-here (Row.sInt
-    Syntax.w64) .Mod → Rows.sc-here (Row.sInt Syntax.w64) .Mod → Rows.sc-here (Row.sInt Syntax.w64) .Mod → List.List (LentTilePartEntry.row .Denot) → Rows.sc-here (Row.sInt
-    Syntax.w64) .Mod → Rows.sc-here (Row.sInt Syntax.w64) .Mod → Rows.sc-here (Row.sInt Syntax.w64) .Mod → Type 0
+InvT-loop = List.List (Referent.rtF (Referent.fInt Syntax.w8) .Denot) → List.List (LentTilePartEntry.row .Denot) → Rows.sc-here (Row.sInt Syntax.w64) .Mod → Rows.sc-here (Row.sInt
+    Syntax.w64) .Mod → Rows.whole (Declared'.row CodestreamOffset.the-type) .Mod → List.List (LentTilePartEntry.row .Denot) → Rows.sc-here (Row.sInt Syntax.w64) .Mod → Rows.sc-here
+    (Row.sInt Syntax.w64) .Mod → Rows.whole (Declared'.row CodestreamOffset.the-type) .Mod → Type 0
 
 abbrev pub MeasureT-loop : Type 0
-MeasureT-loop = List.List (Referent.rtF (Referent.fInt Syntax.w8) .Denot) → Rows.sc-here (Row.sInt Syntax.w64) .Mod → List.List (LentTilePartEntry.row .Denot) → Rows.sc-here
-    (Row.sInt Syntax.w64) .Mod → Rows.sc-here (Row.sInt Syntax.w64) .Mod → Rows.sc-here (Row.sInt Syntax.w64) .Mod → List.List (LentTilePartEntry.row .Denot) → Rows.sc-here
-    (Row.sInt Syntax.w64) .Mod → Rows.sc-here (Row.sInt Syntax.w64) .Mod → Rows.sc-here (Row.sInt Syntax.w64) .Mod → Nat.ℕ
+MeasureT-loop = List.List (Referent.rtF (Referent.fInt Syntax.w8) .Denot) → List.List (LentTilePartEntry.row .Denot) → Rows.sc-here (Row.sInt Syntax.w64) .Mod → Rows.sc-here
+    (Row.sInt Syntax.w64) .Mod → Rows.whole (Declared'.row CodestreamOffset.the-type) .Mod → List.List (LentTilePartEntry.row .Denot) → Rows.sc-here (Row.sInt Syntax.w64) .Mod →
+    Rows.sc-here (Row.sInt Syntax.w64) .Mod → Rows.whole (Declared'.row CodestreamOffset.the-type) .Mod → Nat.ℕ
 
 module _ (claims· : Claims) where
   abbrev s0 : Typed.Gives T0 T2
@@ -1077,10 +1296,16 @@ module _ (claims· : Claims) where
   s2 = Scalar.n-use T3 (Scalar.oInt Syntax.w64 0) 5 (Rows.sc-here (Row.sInt Syntax.w64)) (Row.sInt Syntax.w64 .of)
 
   abbrev s3 : Typed.Mo T4 → Typed.Mo T5
-  s3 = Scalar.n-use T4 (Scalar.oAt 2 (Syntax.tyInt Syntax.w64) (Row.valS (Row.sInt Syntax.w64))) 6 (Rows.sc-here (Row.sInt Syntax.w64)) (Row.sInt Syntax.w64 .of)
+  s3 = LocalCopy.n-val-copy T4 2 6 (Declared'.row CodestreamOffset.the-type) (Rows.whole (Declared'.row CodestreamOffset.the-type)) (Rows.whole (Declared'.row
+      CodestreamOffset.the-type)) (λ x. x) (λ x. x) λ x. x
 
-  abbrev s4 : Typed.Both T5 T6
-  s4 = Call.callB ps·0 r·0 (claims· .0) (claims· .1) T5 (
+  abbrev s4 : Typed.Mo T5 → Typed.Mo T6
+  s4 = Scalar.n-room T5 2 (Syntax.tyStruct (List._∷_ 116 (List._∷_ 121 (List._∷_ 112 (List._∷_ 101 (List._∷_ 115 (List._∷_ 58 (List._∷_ 58 (List._∷_ 67 (List._∷_ 111 (List._∷_ 100
+      (List._∷_ 101 (List._∷_ 115 (List._∷_ 116 (List._∷_ 114 (List._∷_ 101 (List._∷_ 97 (List._∷_ 109 (List._∷_ 79 (List._∷_ 102 (List._∷_ 102 (List._∷_ 115 (List._∷_ 101
+      (List._∷_ 116 List.[]))))))))))))))))))))))) (Syntax.tcons (Syntax.tyInt Syntax.w64) Syntax.tnil))
+
+  abbrev s5 : Typed.Both T6 T7
+  s5 = Call.callB ps·0 r·0 (claims· .0) (claims· .1) T6 (
     record { pos = 1; ty = Syntax.tyRef (Syntax.named 0) Syntax.imm (Syntax.tyInt Syntax.w8); ref = λ x. x },
     (
       Num.vAt 4 λ x.
@@ -1096,17 +1321,17 @@ module _ (claims· : Claims) where
       (List._∷_ 82 (List._∷_ 101 (List._∷_ 102 (List._∷_ 117 (List._∷_ 115 (List._∷_ 97 (List._∷_ 108 List.[])))))))))))))) (Syntax.tcons (Syntax.tyInt Syntax.w32) (Syntax.tcons
       (Syntax.tyInt Syntax.w64) Syntax.tnil))) Syntax.tnil) Syntax.ttnil))))
 
-  abbrev s5 : Typed.Both T6 T8
-  s5 = Known.k-enum-known WalkStep.enum 0 T6 7 λ x. x
+  abbrev s6 : Typed.Both T7 T9
+  s6 = Known.k-enum-known WalkStep.enum 0 T7 7 λ x. x
 
-  abbrev s6 : Typed.Gives T8 T9
-  s6 = Known.k-known-told WalkStep.enum Laws'.the-laws 0 T8 7 λ x. x
-
-  abbrev s7 : Typed.Mo T9 → Typed.Mo T10
-  s7 = Make.n-make (Declared'.row Passed.the-type) T9 8 λ m. m .1 .1 .1 .1 .1 .1 .1 .0 .0
+  abbrev s7 : Typed.Gives T9 T10
+  s7 = Known.k-known-told WalkStep.enum Laws'.the-laws 0 T9 7 λ x. x
 
   abbrev s8 : Typed.Mo T10 → Typed.Mo T11
-  s8 = Scalar.n-room T10 7 (Syntax.tyEnum (List._∷_ 104 (List._∷_ 101 (List._∷_ 97 (List._∷_ 100 (List._∷_ 101 (List._∷_ 114 (List._∷_ 58 (List._∷_ 58 (List._∷_ 119 (List._∷_ 97
+  s8 = Make.n-make (Declared'.row Passed.the-type) T10 8 λ m. m .1 .1 .1 .1 .1 .1 .1 .0 .0
+
+  abbrev s9 : Typed.Mo T11 → Typed.Mo T12
+  s9 = Scalar.n-room T11 7 (Syntax.tyEnum (List._∷_ 104 (List._∷_ 101 (List._∷_ 97 (List._∷_ 100 (List._∷_ 101 (List._∷_ 114 (List._∷_ 58 (List._∷_ 58 (List._∷_ 119 (List._∷_ 97
       (List._∷_ 108 (List._∷_ 107 (List._∷_ 58 (List._∷_ 58 (List._∷_ 87 (List._∷_ 97 (List._∷_ 108 (List._∷_ 107 (List._∷_ 83 (List._∷_ 116 (List._∷_ 101 (List._∷_ 112
       List.[])))))))))))))))))))))) (Syntax.ttcons (Syntax.tcons (Syntax.tyStruct (List._∷_ 104 (List._∷_ 101 (List._∷_ 97 (List._∷_ 100 (List._∷_ 101 (List._∷_ 114 (List._∷_ 58
       (List._∷_ 58 (List._∷_ 119 (List._∷_ 97 (List._∷_ 108 (List._∷_ 107 (List._∷_ 58 (List._∷_ 58 (List._∷_ 80 (List._∷_ 97 (List._∷_ 115 (List._∷_ 115 (List._∷_ 101 (List._∷_
@@ -1115,33 +1340,32 @@ module _ (claims· : Claims) where
       (List._∷_ 82 (List._∷_ 101 (List._∷_ 102 (List._∷_ 117 (List._∷_ 115 (List._∷_ 97 (List._∷_ 108 List.[])))))))))))))) (Syntax.tcons (Syntax.tyInt Syntax.w32) (Syntax.tcons
       (Syntax.tyInt Syntax.w64) Syntax.tnil))) Syntax.tnil) Syntax.ttnil))))
 
-  abbrev s9 : Typed.Mo T6 → Typed.Mo T12
-  s9 = Scalar.n-room T6 7 (Syntax.tyEnum (List._∷_ 104 (List._∷_ 101 (List._∷_ 97 (List._∷_ 100 (List._∷_ 101 (List._∷_ 114 (List._∷_ 58 (List._∷_ 58 (List._∷_ 119 (List._∷_ 97
-      (List._∷_ 108 (List._∷_ 107 (List._∷_ 58 (List._∷_ 58 (List._∷_ 87 (List._∷_ 97 (List._∷_ 108 (List._∷_ 107 (List._∷_ 83 (List._∷_ 116 (List._∷_ 101 (List._∷_ 112
-      List.[])))))))))))))))))))))) (Syntax.ttcons (Syntax.tcons (Syntax.tyStruct (List._∷_ 104 (List._∷_ 101 (List._∷_ 97 (List._∷_ 100 (List._∷_ 101 (List._∷_ 114 (List._∷_ 58
-      (List._∷_ 58 (List._∷_ 119 (List._∷_ 97 (List._∷_ 108 (List._∷_ 107 (List._∷_ 58 (List._∷_ 58 (List._∷_ 80 (List._∷_ 97 (List._∷_ 115 (List._∷_ 115 (List._∷_ 101 (List._∷_
-      100 List.[])))))))))))))))))))) (Syntax.tcons (Syntax.tyInt Syntax.w64) (Syntax.tcons Syntax.tyBool (Syntax.tcons (Syntax.tyInt Syntax.w64) Syntax.tnil)))) Syntax.tnil)
-      (Syntax.ttcons Syntax.tnil (Syntax.ttcons (Syntax.tcons (Syntax.tyStruct (List._∷_ 116 (List._∷_ 121 (List._∷_ 112 (List._∷_ 101 (List._∷_ 115 (List._∷_ 58 (List._∷_ 58
-      (List._∷_ 82 (List._∷_ 101 (List._∷_ 102 (List._∷_ 117 (List._∷_ 115 (List._∷_ 97 (List._∷_ 108 List.[])))))))))))))) (Syntax.tcons (Syntax.tyInt Syntax.w32) (Syntax.tcons
-      (Syntax.tyInt Syntax.w64) Syntax.tnil))) Syntax.tnil) Syntax.ttnil))))
-
-  abbrev s10 : Typed.Mo T12 → Typed.Mo T13
-  s10 = Scalar.n-use T12 Scalar.oUnit 0 (Rows.sc-here Row.sUnit) (Row.sUnit .of)
+  abbrev s10 : Typed.Mo T7 → Typed.Mo T13
+  s10 = Scalar.n-room T7 6 (Syntax.tyStruct (List._∷_ 116 (List._∷_ 121 (List._∷_ 112 (List._∷_ 101 (List._∷_ 115 (List._∷_ 58 (List._∷_ 58 (List._∷_ 67 (List._∷_ 111 (List._∷_ 100
+      (List._∷_ 101 (List._∷_ 115 (List._∷_ 116 (List._∷_ 114 (List._∷_ 101 (List._∷_ 97 (List._∷_ 109 (List._∷_ 79 (List._∷_ 102 (List._∷_ 102 (List._∷_ 115 (List._∷_ 101
+      (List._∷_ 116 List.[]))))))))))))))))))))))) (Syntax.tcons (Syntax.tyInt Syntax.w64) Syntax.tnil))
 
   abbrev s11 : Typed.Mo T13 → Typed.Mo T14
-  s11 = Scalar.n-room T13 2 (Syntax.tyInt Syntax.w64)
+  s11 = Scalar.n-room T13 7 (Syntax.tyEnum (List._∷_ 104 (List._∷_ 101 (List._∷_ 97 (List._∷_ 100 (List._∷_ 101 (List._∷_ 114 (List._∷_ 58 (List._∷_ 58 (List._∷_ 119 (List._∷_ 97
+      (List._∷_ 108 (List._∷_ 107 (List._∷_ 58 (List._∷_ 58 (List._∷_ 87 (List._∷_ 97 (List._∷_ 108 (List._∷_ 107 (List._∷_ 83 (List._∷_ 116 (List._∷_ 101 (List._∷_ 112
+      List.[])))))))))))))))))))))) (Syntax.ttcons (Syntax.tcons (Syntax.tyStruct (List._∷_ 104 (List._∷_ 101 (List._∷_ 97 (List._∷_ 100 (List._∷_ 101 (List._∷_ 114 (List._∷_ 58
+      (List._∷_ 58 (List._∷_ 119 (List._∷_ 97 (List._∷_ 108 (List._∷_ 107 (List._∷_ 58 (List._∷_ 58 (List._∷_ 80 (List._∷_ 97 (List._∷_ 115 (List._∷_ 115 (List._∷_ 101 (List._∷_
+      100 List.[])))))))))))))))))))) (Syntax.tcons (Syntax.tyInt Syntax.w64) (Syntax.tcons Syntax.tyBool (Syntax.tcons (Syntax.tyInt Syntax.w64) Syntax.tnil)))) Syntax.tnil)
+      (Syntax.ttcons Syntax.tnil (Syntax.ttcons (Syntax.tcons (Syntax.tyStruct (List._∷_ 116 (List._∷_ 121 (List._∷_ 112 (List._∷_ 101 (List._∷_ 115 (List._∷_ 58 (List._∷_ 58
+      (List._∷_ 82 (List._∷_ 101 (List._∷_ 102 (List._∷_ 117 (List._∷_ 115 (List._∷_ 97 (List._∷_ 108 List.[])))))))))))))) (Syntax.tcons (Syntax.tyInt Syntax.w32) (Syntax.tcons
+      (Syntax.tyInt Syntax.w64) Syntax.tnil))) Syntax.tnil) Syntax.ttnil))))
 
   abbrev s12 : Typed.Mo T14 → Typed.Mo T15
-  s12 = Scalar.n-room T14 4 (Syntax.tyInt Syntax.w64)
+  s12 = Scalar.n-use T14 Scalar.oUnit 0 (Rows.sc-here Row.sUnit) (Row.sUnit .of)
 
   abbrev s13 : Typed.Mo T15 → Typed.Mo T16
-  s13 = Scalar.n-room T15 5 (Syntax.tyInt Syntax.w64)
+  s13 = Scalar.n-room T15 4 (Syntax.tyInt Syntax.w64)
 
   abbrev s14 : Typed.Mo T16 → Typed.Mo T17
-  s14 = Scalar.n-room T16 6 (Syntax.tyInt Syntax.w64)
+  s14 = Scalar.n-room T16 5 (Syntax.tyInt Syntax.w64)
 
-  abbrev s15 : Typed.Mo T7 → Typed.Mo T18
-  s15 = Scalar.n-use T7 (Scalar.oFld 8 (List._∷_ (Syntax.field 1) List.[]) Syntax.tyBool 8 (Reads.fieldV Passed.the-type Laws.the-laws 1)) 10 (Rows.sc-here Row.sBool) (Row.sBool
+  abbrev s15 : Typed.Mo T8 → Typed.Mo T18
+  s15 = Scalar.n-use T8 (Scalar.oFld 8 (List._∷_ (Syntax.field 1) List.[]) Syntax.tyBool 8 (Reads.fieldV Passed.the-type Laws.the-laws 1)) 10 (Rows.sc-here Row.sBool) (Row.sBool
       .of)
 
   abbrev s16 : Typed.Mo T18 → Typed.Mo T20
@@ -1168,18 +1392,22 @@ module _ (claims· : Claims) where
       (
         Num.vAt 9 λ x. x,
         (
-          Num.vAt 6 λ x. x,
+          record { pos = 6; st = List.[]; d = 0; at = λ x. x },
           (
-            record { pos = 12; ty = Syntax.tyRef Syntax.erased Syntax.mut LentTilePartEntry.pointee; ref = λ x. x },
-            (
-              Num.vAt 5 λ x. x,
-              tt,
-            ),
+            record {
+              pos = 12;
+              ty = Syntax.tyRef Syntax.erased Syntax.mut LentTilePartEntry.pointee;
+              ref
+                  = λ x. x;
+            },
+            (Num.vAt 5 λ x. x, tt),
           ),
         ),
       ),
     ),
-  ) 6 (List._∷_ 0 (List._∷_ 2 List.[])) (Syntax.tyInt Syntax.w64)
+  ) 6 (List._∷_ 0 (List._∷_ 2 List.[])) (Syntax.tyStruct (List._∷_ 116 (List._∷_ 121 (List._∷_ 112 (List._∷_ 101 (List._∷_ 115 (List._∷_
+      58 (List._∷_ 58 (List._∷_ 67 (List._∷_ 111 (List._∷_ 100 (List._∷_ 101 (List._∷_ 115 (List._∷_ 116 (List._∷_ 114 (List._∷_ 101 (List._∷_ 97 (List._∷_ 109 (List._∷_ 79
+      (List._∷_ 102 (List._∷_ 102 (List._∷_ 115 (List._∷_ 101 (List._∷_ 116 List.[]))))))))))))))))))))))) (Syntax.tcons (Syntax.tyInt Syntax.w64) Syntax.tnil))
 
   abbrev s22 : Typed.Mo T25 → Typed.Mo T26
   s22 = Scalar.n-room T25 4 (Syntax.tyInt Syntax.w64)
@@ -1210,16 +1438,14 @@ module _ (claims· : Claims) where
       (List._∷_ 108 (List._∷_ 107 (List._∷_ 58 (List._∷_ 58 (List._∷_ 80 (List._∷_ 97 (List._∷_ 115 (List._∷_ 115 (List._∷_ 101 (List._∷_ 100 List.[]))))))))))))))))))))
       (Syntax.tcons (Syntax.tyInt Syntax.w64) (Syntax.tcons Syntax.tyBool (Syntax.tcons (Syntax.tyInt Syntax.w64) Syntax.tnil))))
 
-  abbrev put0 : List.List (LentTilePartEntry.row .Denot) × Rows.sc-here (Row.sInt Syntax.w64) .Mod × Rows.sc-here (Row.sInt Syntax.w64) .Mod × Rows.sc-here (Row.sInt Syntax.w64)
-      .Mod → Typed.Mo T5 → Typed.Mo T5
-  put0 = λ vs u. Row.set 6 (6, Rows.sc-here (Row.sInt Syntax.w64)) (vs .3) (T5 .locals) (Row.set 5 (5, Rows.sc-here (Row.sInt Syntax.w64)) (vs .2) (T5 .locals) (Row.set 4 (
-    4,
-    Rows.sc-here (Row.sInt Syntax.w64),
-  ) (vs .1) (T5 .locals) (Row.set 3 (
-    3,
-    Mut.mslice LentTilePartEntry.row (Syntax.tyRef (Syntax.named 1) Syntax.mut LentTilePartEntry.pointee)
-        1,
-  ) record { ptr = Row.get 3 (T5 .locals) u .ptr; name = Row.get 3 (T5 .locals) u .name; now = vs .0 } (T5 .locals) u)))
+  abbrev put0 : List.List (LentTilePartEntry.row .Denot) × Rows.sc-here (Row.sInt Syntax.w64) .Mod × Rows.sc-here (Row.sInt Syntax.w64) .Mod × Rows.whole (Declared'.row
+      CodestreamOffset.the-type) .Mod → Typed.Mo T6 → Typed.Mo T6
+  put0 = λ vs u. Row.set 6 (6, Rows.whole (Declared'.row CodestreamOffset.the-type)) (vs .3) (T6 .locals) (Row.set 5 (5, Rows.sc-here (Row.sInt Syntax.w64)) (vs .2) (T6 .locals)
+      (Row.set 4 (4, Rows.sc-here (Row.sInt Syntax.w64)) (vs .1) (T6 .locals) (Row.set 3 (
+        3,
+        Mut.mslice LentTilePartEntry.row (Syntax.tyRef (Syntax.named 1) Syntax.mut
+            LentTilePartEntry.pointee) 1,
+      ) record { ptr = Row.get 3 (T6 .locals) u .ptr; name = Row.get 3 (T6 .locals) u .name; now = vs .0 } (T6 .locals) u)))
 
   module _ (Pre· : (κs : Lifetimes.Lfts 2) → Kinds.Dens κs ps → Type 0) (Post· : (κs : Lifetimes.Lfts 2) → (a : Kinds.Dens κs ps) → Kinds.Plain 2 ps r κs) where
     module _ (M : Type 1) where
@@ -1229,14 +1455,14 @@ module _ (claims· : Claims) where
           .C) (𝓣 .Λ) (Function.fnOf 2 ps r xs m hs body)) (Function.plainOf 𝓤 H A 2 ps r Pre· Post·)
 
     module _ (Inv·0 : InvT-loop) (μ·0 : MeasureT-loop) where
-      abbrev at0 : Typed.TF T9 O4
-      at0 = λ Ψ. Typed.pass T9 T10 s7 (Typed.pass T10 T11 s8 (Typed.atNext O4 Ψ))
+      abbrev at0 : Typed.TF T10 O4
+      at0 = λ Ψ. Typed.pass T10 T11 s8 (Typed.pass T11 T12 s9 (Typed.atNext O4 Ψ))
 
-      abbrev at1 : Typed.TF T8 O4
-      at1 = λ Ψ. Typed.give s6 (at0 Ψ)
+      abbrev at1 : Typed.TF T9 O4
+      at1 = λ Ψ. Typed.give s7 (at0 Ψ)
 
-      abbrev at2 : Typed.TF T6 O4
-      at2 = λ Ψ. Typed.both s5 (at1 Ψ)
+      abbrev at2 : Typed.TF T7 O4
+      at2 = λ Ψ. Typed.both s6 (at1 Ψ)
 
       abbrev at3 : Typed.TF T17 O4
       at3 = Typed.atRet O4
@@ -1253,83 +1479,83 @@ module _ (claims· : Claims) where
       abbrev at7 : Typed.TF T13 O4
       at7 = λ Ψ. Typed.pass T13 T14 s11 (at6 Ψ)
 
-      abbrev at8 : Typed.TF T12 O4
-      at8 = λ Ψ. Typed.pass T12 T13 s10 (at7 Ψ)
+      abbrev at8 : Typed.TF T7 O4
+      at8 = λ Ψ. Typed.pass T7 T13 s10 (at7 Ψ)
 
-      abbrev at9 : Typed.TF T6 O4
-      at9 = λ Ψ. Typed.pass T6 T12 s9 (at8 Ψ)
+      abbrev at9 : Typed.TF T7 O4
+      at9 = Switch.Φswitch T7 O4 7 (λ x. Declared.tagOf WalkStep.the-type x) (Syntax.arm (List._∷_ 0 List.[]) b4 (Syntax.arm (List._∷_ 1 (List._∷_ 2 List.[])) b7 Syntax.noDefault))
+          (at2, (at8, tt))
 
-      abbrev at10 : Typed.TF T6 O4
-      at10 = Switch.Φswitch T6 O4 7 (λ x. Declared.tagOf WalkStep.the-type x) (Syntax.arm (List._∷_ 0 List.[]) b4 (Syntax.arm (List._∷_ 1 (List._∷_ 2 List.[])) b7
-          Syntax.noDefault)) (at2, (at9, tt))
+      abbrev at10 : Typed.TF T28 O5
+      at10 = λ Ψ. Typed.ask s26 (Typed.pass T30 T31 s27 (Typed.atNext O5 Ψ))
 
       abbrev at11 : Typed.TF T28 O5
-      at11 = λ Ψ. Typed.ask s26 (Typed.pass T30 T31 s27 (Typed.atNext O5 Ψ))
+      at11 = λ Ψ. at10 Ψ
 
-      abbrev at12 : Typed.TF T28 O5
-      at12 = λ Ψ. at11 Ψ
+      abbrev at12 : Typed.TF T26 O5
+      at12 = λ Ψ. Typed.both s24 (at11 Ψ)
 
       abbrev at13 : Typed.TF T26 O5
-      at13 = λ Ψ. Typed.both s24 (at12 Ψ)
+      at13 = λ Ψ. at12 Ψ
 
-      abbrev at14 : Typed.TF T26 O5
-      at14 = λ Ψ. at13 Ψ
+      abbrev at14 : Typed.TF T25 O5
+      at14 = λ Ψ. Typed.pass T25 T26 s22 (at13 Ψ)
 
-      abbrev at15 : Typed.TF T25 O5
-      at15 = λ Ψ. Typed.pass T25 T26 s22 (at14 Ψ)
+      abbrev at15 : Typed.TF T24 O5
+      at15 = λ Ψ. Typed.both s21 (at14 Ψ)
 
-      abbrev at16 : Typed.TF T24 O5
-      at16 = λ Ψ. Typed.both s21 (at15 Ψ)
+      abbrev at16 : Typed.TF T23 O5
+      at16 = λ Ψ. Typed.ask s20 (at15 Ψ)
 
-      abbrev at17 : Typed.TF T23 O5
-      at17 = λ Ψ. Typed.ask s20 (at16 Ψ)
+      abbrev at17 : Typed.TF T21 O5
+      at17 = λ Ψ. Typed.give s19 (at16 Ψ)
 
       abbrev at18 : Typed.TF T21 O5
-      at18 = λ Ψ. Typed.give s19 (at17 Ψ)
+      at18 = λ Ψ. at17 Ψ
 
-      abbrev at19 : Typed.TF T21 O5
-      at19 = λ Ψ. at18 Ψ
+      abbrev at19 : Typed.TF T20 O5
+      at19 = λ Ψ. Typed.pass T20 T21 s17 (at18 Ψ)
 
-      abbrev at20 : Typed.TF T20 O5
-      at20 = λ Ψ. Typed.pass T20 T21 s17 (at19 Ψ)
+      abbrev at20 : Typed.TF T18 O5
+      at20 = λ Ψ. Typed.pass T18 T20 s16 (at19 Ψ)
 
-      abbrev at21 : Typed.TF T18 O5
-      at21 = λ Ψ. Typed.pass T18 T20 s16 (at20 Ψ)
+      abbrev at21 : Typed.TF T33 O5
+      at21 = Typed.atNext O5
 
-      abbrev at22 : Typed.TF T33 O5
-      at22 = Typed.atNext O5
+      abbrev at22 : Typed.TF T32 O5
+      at22 = λ Ψ. Typed.pass T32 T33 s29 (at21 Ψ)
 
-      abbrev at23 : Typed.TF T32 O5
-      at23 = λ Ψ. Typed.pass T32 T33 s29 (at22 Ψ)
+      abbrev at23 : Typed.TF T18 O5
+      at23 = λ Ψ. Typed.pass T18 T32 s28 (at22 Ψ)
 
       abbrev at24 : Typed.TF T18 O5
-      at24 = λ Ψ. Typed.pass T18 T32 s28 (at23 Ψ)
+      at24 = Scalar.Φcond T18 O5 10 (λ x. x) at20 at23
 
-      abbrev at25 : Typed.TF T18 O5
-      at25 = Scalar.Φcond T18 O5 10 (λ x. x) at21 at24
+      abbrev at25 : Typed.TF T19 O3
+      at25 = λ Ψ. Typed.pass T19 T34 s30 (Typed.pass T34 T35 s31 (Typed.atNext O3 Ψ))
 
-      abbrev at26 : Typed.TF T19 O3
-      at26 = λ Ψ. Typed.pass T19 T34 s30 (Typed.pass T34 T35 s31 (Typed.atNext O3 Ψ))
+      abbrev at26 : Typed.TF T18 O3
+      at26 = λ Ψ. at24 (Typed.wantNext T19 O3 (at25 Ψ) Ψ)
 
-      abbrev at27 : Typed.TF T18 O3
-      at27 = λ Ψ. at25 (Typed.wantNext T19 O3 (at26 Ψ) Ψ)
+      abbrev at27 : Typed.TF T8 O3
+      at27 = λ Ψ. Typed.pass T8 T18 s15 (at26 Ψ)
 
       abbrev at28 : Typed.TF T7 O3
-      at28 = λ Ψ. Typed.pass T7 T18 s15 (at27 Ψ)
+      at28 = λ Ψ. at9 (Typed.wantNext T8 O3 (at27 Ψ) Ψ)
 
       abbrev at29 : Typed.TF T6 O3
-      at29 = λ Ψ. at10 (Typed.wantNext T7 O3 (at28 Ψ) Ψ)
+      at29 = λ Ψ. Typed.both s5 (at28 Ψ)
 
-      abbrev at30 : Typed.TF T5 O3
-      at30 = λ Ψ. Typed.both s4 (at29 Ψ)
+      abbrev at30 : Typed.TF T6 O2
+      at30 = Typed.LoopBy T6 O2 put0 (λ u vs. Inv·0 (Row.get 1 (T6 .locals) u .now) (Row.get 3 (T6 .locals) u .now) (Row.get 4 (T6 .locals) u) (Row.get 5 (T6 .locals) u) (Row.get 6
+          (T6 .locals) u) (vs .0) (vs .1) (vs .2) (vs .3)) (λ u vs. μ·0 (Row.get 1 (T6 .locals) u .now) (Row.get 3 (T6 .locals) u .now) (Row.get 4 (T6 .locals) u) (Row.get 5 (T6
+          .locals) u) (Row.get 6 (T6 .locals) u) (vs .0) (vs .1) (vs .2) (vs .3)) at29
 
-      abbrev at31 : Typed.TF T5 O2
-      at31 = Typed.LoopBy T5 O2 put0 (λ u vs. Inv·0 (Row.get 1 (T5 .locals) u .now) (Row.get 2 (T5 .locals) u) (Row.get 3 (T5 .locals) u .now) (Row.get 4 (T5 .locals) u) (Row.get 5
-          (T5 .locals) u) (Row.get 6 (T5 .locals) u) (vs .0) (vs .1) (vs .2) (vs .3)) (λ u vs. μ·0 (Row.get 1 (T5 .locals) u .now) (Row.get 2 (T5 .locals) u) (Row.get 3 (T5
-          .locals) u .now) (Row.get 4 (T5 .locals) u) (Row.get 5 (T5 .locals) u) (Row.get 6 (T5 .locals) u) (vs .0) (vs .1) (vs .2) (vs .3)) at30
+      abbrev at31 : Typed.TF T6 O1
+      at31 = λ Ψ. at30 (Typed.inBlock O1 Ψ)
 
       abbrev at32 : Typed.TF T5 O1
-      at32 = λ Ψ. at31 (Typed.inBlock O1 Ψ)
+      at32 = λ Ψ. Typed.pass T5 T6 s4 (at31 Ψ)
 
       abbrev at33 : Typed.TF T5 O0
       at33 = λ Ψ. at32 (Dead.wantNone O0 Ψ)
@@ -1355,65 +1581,44 @@ module _ (claims· : Claims) where
             "records::main_header::fill_segment"
 
       module _ (κs : Lifetimes.Lfts 2) (qs : Lifetimes.Shares 2) where
-        abbrev g16 : List.List Row.Entry
-        g16 = List._∷_ (0, Rows.any-gone Syntax.tyUnit) (List._∷_ (
-          1,
-          Rows.sslice (Referent.rtF (Referent.fInt Syntax.w8)) (Syntax.tyRef (Syntax.named 0) Syntax.imm (Syntax.tyInt
-              Syntax.w8)) 0,
-        ) (List._∷_ (2, Rows.sc-here (Row.sInt Syntax.w64)) (List._∷_ (
-          3,
-          Relend.mslice-owed LentTilePartEntry.row (Syntax.tyRef (Syntax.named 1) Syntax.mut
-              LentTilePartEntry.pointee) 1 2 (Row.lease (κs .1 .0) (qs .1 .0)),
-        ) (List._∷_ (4, Rows.sc-here (Row.sInt Syntax.w64)) (List._∷_ (5, Rows.sc-here (Row.sInt Syntax.w64))
-            (List._∷_ (6, Rows.sc-here (Row.sInt Syntax.w64)) (List._∷_ (
-              7,
-              Rows.any-gone (Syntax.tyEnum (List._∷_ 104 (List._∷_ 101 (List._∷_ 97 (List._∷_ 100 (List._∷_ 101
-                  (List._∷_ 114 (List._∷_ 58 (List._∷_ 58 (List._∷_ 119 (List._∷_ 97 (List._∷_ 108 (List._∷_ 107 (List._∷_ 58 (List._∷_ 58 (List._∷_ 87 (List._∷_ 97 (List._∷_ 108
-                  (List._∷_ 107 (List._∷_ 83 (List._∷_ 116 (List._∷_ 101 (List._∷_ 112 List.[])))))))))))))))))))))) (Syntax.ttcons (Syntax.tcons (Syntax.tyStruct (List._∷_ 104 (List._∷_
-                  101 (List._∷_ 97 (List._∷_ 100 (List._∷_ 101 (List._∷_ 114 (List._∷_ 58 (List._∷_ 58 (List._∷_ 119 (List._∷_ 97 (List._∷_ 108 (List._∷_ 107 (List._∷_ 58 (List._∷_ 58
-                  (List._∷_ 80 (List._∷_ 97 (List._∷_ 115 (List._∷_ 115 (List._∷_ 101 (List._∷_ 100 List.[])))))))))))))))))))) (Syntax.tcons (Syntax.tyInt Syntax.w64) (Syntax.tcons
-                  Syntax.tyBool (Syntax.tcons (Syntax.tyInt Syntax.w64) Syntax.tnil)))) Syntax.tnil) (Syntax.ttcons Syntax.tnil (Syntax.ttcons (Syntax.tcons (Syntax.tyStruct (List._∷_
-                  116 (List._∷_ 121 (List._∷_ 112 (List._∷_ 101 (List._∷_ 115 (List._∷_ 58 (List._∷_ 58 (List._∷_ 82 (List._∷_ 101 (List._∷_ 102 (List._∷_ 117 (List._∷_ 115 (List._∷_ 97
-                  (List._∷_ 108 List.[])))))))))))))) (Syntax.tcons (Syntax.tyInt Syntax.w32) (Syntax.tcons (Syntax.tyInt Syntax.w64) Syntax.tnil))) Syntax.tnil) Syntax.ttnil)))),
-            )
-            (List._∷_ (8, Rows.whole (Declared'.row Passed.the-type)) (List._∷_ (9, Rows.sc-here (Row.sInt Syntax.w64)) (List._∷_ (10, Rows.any-gone Syntax.tyBool) (List._∷_ (
-              11,
-              Relend.msptr LentTilePartEntry.row (Syntax.tyRef Syntax.erased Syntax.mut LentTilePartEntry.pointee) 2,
-            ) (List._∷_ (
-              12,
-              Rows.any-gone (Syntax.tyStruct (List._∷_ 38
-                  (List._∷_ 91 (List._∷_ 93 List.[]))) (Syntax.tcons (Syntax.tyRef Syntax.erased Syntax.mut LentTilePartEntry.pointee) (Syntax.tcons (Syntax.tyInt Syntax.w64)
-                  Syntax.tnil))),
-            ) List.[]))))))))))))
-
         abbrev g17 : List.List Row.Entry
         g17 = List._∷_ (0, Rows.any-gone Syntax.tyUnit) (List._∷_ (
           1,
           Rows.sslice (Referent.rtF (Referent.fInt Syntax.w8)) (Syntax.tyRef (Syntax.named 0) Syntax.imm (Syntax.tyInt
               Syntax.w8)) 0,
-        ) (List._∷_ (2, Rows.sc-here (Row.sInt Syntax.w64)) (List._∷_ (
+        ) (List._∷_ (
+          2,
+          Rows.any-gone (Syntax.tyStruct (List._∷_ 116 (List._∷_ 121 (List._∷_ 112 (List._∷_ 101 (List._∷_ 115 (List._∷_ 58 (List._∷_ 58 (List._∷_ 67
+              (List._∷_ 111 (List._∷_ 100 (List._∷_ 101 (List._∷_ 115 (List._∷_ 116 (List._∷_ 114 (List._∷_ 101 (List._∷_ 97 (List._∷_ 109 (List._∷_ 79 (List._∷_ 102 (List._∷_ 102
+              (List._∷_ 115 (List._∷_ 101 (List._∷_ 116 List.[]))))))))))))))))))))))) (Syntax.tcons (Syntax.tyInt Syntax.w64) Syntax.tnil)),
+        ) (List._∷_ (
           3,
-          Relend.mslice-owed LentTilePartEntry.row (Syntax.tyRef (Syntax.named 1) Syntax.mut
-              LentTilePartEntry.pointee) 1 2 (Row.lease (κs .1 .0) (qs .1 .0)),
-        ) (List._∷_ (4, Rows.sc-here (Row.sInt Syntax.w64)) (List._∷_ (5, Rows.sc-here (Row.sInt Syntax.w64))
-            (List._∷_ (6, Rows.sc-here (Row.sInt Syntax.w64)) (List._∷_ (
-              7,
-              Rows.any-gone (Syntax.tyEnum (List._∷_ 104 (List._∷_ 101 (List._∷_ 97 (List._∷_ 100 (List._∷_ 101
-                  (List._∷_ 114 (List._∷_ 58 (List._∷_ 58 (List._∷_ 119 (List._∷_ 97 (List._∷_ 108 (List._∷_ 107 (List._∷_ 58 (List._∷_ 58 (List._∷_ 87 (List._∷_ 97 (List._∷_ 108
-                  (List._∷_ 107 (List._∷_ 83 (List._∷_ 116 (List._∷_ 101 (List._∷_ 112 List.[])))))))))))))))))))))) (Syntax.ttcons (Syntax.tcons (Syntax.tyStruct (List._∷_ 104 (List._∷_
-                  101 (List._∷_ 97 (List._∷_ 100 (List._∷_ 101 (List._∷_ 114 (List._∷_ 58 (List._∷_ 58 (List._∷_ 119 (List._∷_ 97 (List._∷_ 108 (List._∷_ 107 (List._∷_ 58 (List._∷_ 58
-                  (List._∷_ 80 (List._∷_ 97 (List._∷_ 115 (List._∷_ 115 (List._∷_ 101 (List._∷_ 100 List.[])))))))))))))))))))) (Syntax.tcons (Syntax.tyInt Syntax.w64) (Syntax.tcons
-                  Syntax.tyBool (Syntax.tcons (Syntax.tyInt Syntax.w64) Syntax.tnil)))) Syntax.tnil) (Syntax.ttcons Syntax.tnil (Syntax.ttcons (Syntax.tcons (Syntax.tyStruct (List._∷_
-                  116 (List._∷_ 121 (List._∷_ 112 (List._∷_ 101 (List._∷_ 115 (List._∷_ 58 (List._∷_ 58 (List._∷_ 82 (List._∷_ 101 (List._∷_ 102 (List._∷_ 117 (List._∷_ 115 (List._∷_ 97
-                  (List._∷_ 108 List.[])))))))))))))) (Syntax.tcons (Syntax.tyInt Syntax.w32) (Syntax.tcons (Syntax.tyInt Syntax.w64) Syntax.tnil))) Syntax.tnil) Syntax.ttnil)))),
-            )
-            (List._∷_ (8, Rows.whole (Declared'.row Passed.the-type)) (List._∷_ (9, Rows.sc-here (Row.sInt Syntax.w64)) (List._∷_ (10, Rows.any-gone Syntax.tyBool) (List._∷_ (
+          Relend.mslice-owed
+              LentTilePartEntry.row (Syntax.tyRef (Syntax.named 1) Syntax.mut LentTilePartEntry.pointee) 1 2 (Row.lease (κs .1 .0) (qs .1 .0)),
+        ) (List._∷_ (
+          4,
+          Rows.sc-here (Row.sInt
+              Syntax.w64),
+        ) (List._∷_ (5, Rows.sc-here (Row.sInt Syntax.w64)) (List._∷_ (6, Rows.whole (Declared'.row CodestreamOffset.the-type)) (List._∷_ (
+          7,
+          Rows.any-gone
+              (Syntax.tyEnum (List._∷_ 104 (List._∷_ 101 (List._∷_ 97 (List._∷_ 100 (List._∷_ 101 (List._∷_ 114 (List._∷_ 58 (List._∷_ 58 (List._∷_ 119 (List._∷_ 97 (List._∷_ 108
+              (List._∷_ 107 (List._∷_ 58 (List._∷_ 58 (List._∷_ 87 (List._∷_ 97 (List._∷_ 108 (List._∷_ 107 (List._∷_ 83 (List._∷_ 116 (List._∷_ 101 (List._∷_ 112
+              List.[])))))))))))))))))))))) (Syntax.ttcons (Syntax.tcons (Syntax.tyStruct (List._∷_ 104 (List._∷_ 101 (List._∷_ 97 (List._∷_ 100 (List._∷_ 101 (List._∷_ 114 (List._∷_
+              58 (List._∷_ 58 (List._∷_ 119 (List._∷_ 97 (List._∷_ 108 (List._∷_ 107 (List._∷_ 58 (List._∷_ 58 (List._∷_ 80 (List._∷_ 97 (List._∷_ 115 (List._∷_ 115 (List._∷_ 101
+              (List._∷_ 100 List.[])))))))))))))))))))) (Syntax.tcons (Syntax.tyInt Syntax.w64) (Syntax.tcons Syntax.tyBool (Syntax.tcons (Syntax.tyInt Syntax.w64) Syntax.tnil))))
+              Syntax.tnil) (Syntax.ttcons Syntax.tnil (Syntax.ttcons (Syntax.tcons (Syntax.tyStruct (List._∷_ 116 (List._∷_ 121 (List._∷_ 112 (List._∷_ 101 (List._∷_ 115 (List._∷_ 58
+              (List._∷_ 58 (List._∷_ 82 (List._∷_ 101 (List._∷_ 102 (List._∷_ 117 (List._∷_ 115 (List._∷_ 97 (List._∷_ 108 List.[])))))))))))))) (Syntax.tcons (Syntax.tyInt
+              Syntax.w32) (Syntax.tcons (Syntax.tyInt Syntax.w64) Syntax.tnil))) Syntax.tnil) Syntax.ttnil)))),
+        ) (List._∷_ (8, Rows.whole (Declared'.row Passed.the-type)) (List._∷_
+            (9, Rows.sc-here (Row.sInt Syntax.w64)) (List._∷_ (10, Rows.any-gone Syntax.tyBool) (List._∷_ (
               11,
-              Rows.any-gone (Syntax.tyRef Syntax.erased Syntax.mut LentTilePartEntry.pointee),
+              Relend.msptr LentTilePartEntry.row (Syntax.tyRef Syntax.erased
+                  Syntax.mut LentTilePartEntry.pointee) 2,
             ) (List._∷_ (
               12,
-              Mut.mslice LentTilePartEntry.row (Syntax.tyRef Syntax.erased Syntax.mut
-                  LentTilePartEntry.pointee) 2,
+              Rows.any-gone (Syntax.tyStruct (List._∷_ 38 (List._∷_ 91 (List._∷_ 93 List.[]))) (Syntax.tcons (Syntax.tyRef
+                  Syntax.erased Syntax.mut LentTilePartEntry.pointee) (Syntax.tcons (Syntax.tyInt Syntax.w64) Syntax.tnil))),
             ) List.[]))))))))))))
 
         abbrev g18 : List.List Row.Entry
@@ -1421,64 +1626,107 @@ module _ (claims· : Claims) where
           1,
           Rows.sslice (Referent.rtF (Referent.fInt Syntax.w8)) (Syntax.tyRef (Syntax.named 0) Syntax.imm (Syntax.tyInt
               Syntax.w8)) 0,
-        ) (List._∷_ (2, Rows.sc-here (Row.sInt Syntax.w64)) (List._∷_ (
+        ) (List._∷_ (
+          2,
+          Rows.any-gone (Syntax.tyStruct (List._∷_ 116 (List._∷_ 121 (List._∷_ 112 (List._∷_ 101 (List._∷_ 115 (List._∷_ 58 (List._∷_ 58 (List._∷_ 67
+              (List._∷_ 111 (List._∷_ 100 (List._∷_ 101 (List._∷_ 115 (List._∷_ 116 (List._∷_ 114 (List._∷_ 101 (List._∷_ 97 (List._∷_ 109 (List._∷_ 79 (List._∷_ 102 (List._∷_ 102
+              (List._∷_ 115 (List._∷_ 101 (List._∷_ 116 List.[]))))))))))))))))))))))) (Syntax.tcons (Syntax.tyInt Syntax.w64) Syntax.tnil)),
+        ) (List._∷_ (
           3,
-          Relend.mslice-owed LentTilePartEntry.row (Syntax.tyRef (Syntax.named 1) Syntax.mut
-              LentTilePartEntry.pointee) 1 2 (Row.lease (κs .1 .0) (qs .1 .0)),
-        ) (List._∷_ (4, Rows.sc-here (Row.sInt Syntax.w64)) (List._∷_ (5, Rows.sc-here (Row.sInt Syntax.w64))
-            (List._∷_ (6, Rows.sc-here (Row.sInt Syntax.w64)) (List._∷_ (
-              7,
-              Rows.any-gone (Syntax.tyEnum (List._∷_ 104 (List._∷_ 101 (List._∷_ 97 (List._∷_ 100 (List._∷_ 101
-                  (List._∷_ 114 (List._∷_ 58 (List._∷_ 58 (List._∷_ 119 (List._∷_ 97 (List._∷_ 108 (List._∷_ 107 (List._∷_ 58 (List._∷_ 58 (List._∷_ 87 (List._∷_ 97 (List._∷_ 108
-                  (List._∷_ 107 (List._∷_ 83 (List._∷_ 116 (List._∷_ 101 (List._∷_ 112 List.[])))))))))))))))))))))) (Syntax.ttcons (Syntax.tcons (Syntax.tyStruct (List._∷_ 104 (List._∷_
-                  101 (List._∷_ 97 (List._∷_ 100 (List._∷_ 101 (List._∷_ 114 (List._∷_ 58 (List._∷_ 58 (List._∷_ 119 (List._∷_ 97 (List._∷_ 108 (List._∷_ 107 (List._∷_ 58 (List._∷_ 58
-                  (List._∷_ 80 (List._∷_ 97 (List._∷_ 115 (List._∷_ 115 (List._∷_ 101 (List._∷_ 100 List.[])))))))))))))))))))) (Syntax.tcons (Syntax.tyInt Syntax.w64) (Syntax.tcons
-                  Syntax.tyBool (Syntax.tcons (Syntax.tyInt Syntax.w64) Syntax.tnil)))) Syntax.tnil) (Syntax.ttcons Syntax.tnil (Syntax.ttcons (Syntax.tcons (Syntax.tyStruct (List._∷_
-                  116 (List._∷_ 121 (List._∷_ 112 (List._∷_ 101 (List._∷_ 115 (List._∷_ 58 (List._∷_ 58 (List._∷_ 82 (List._∷_ 101 (List._∷_ 102 (List._∷_ 117 (List._∷_ 115 (List._∷_ 97
-                  (List._∷_ 108 List.[])))))))))))))) (Syntax.tcons (Syntax.tyInt Syntax.w32) (Syntax.tcons (Syntax.tyInt Syntax.w64) Syntax.tnil))) Syntax.tnil) Syntax.ttnil)))),
-            )
-            (List._∷_ (8, Rows.whole (Declared'.row Passed.the-type)) (List._∷_ (9, Rows.sc-here (Row.sInt Syntax.w64)) (List._∷_ (10, Rows.any-gone Syntax.tyBool) (List._∷_ (
+          Relend.mslice-owed
+              LentTilePartEntry.row (Syntax.tyRef (Syntax.named 1) Syntax.mut LentTilePartEntry.pointee) 1 2 (Row.lease (κs .1 .0) (qs .1 .0)),
+        ) (List._∷_ (
+          4,
+          Rows.sc-here (Row.sInt
+              Syntax.w64),
+        ) (List._∷_ (5, Rows.sc-here (Row.sInt Syntax.w64)) (List._∷_ (6, Rows.whole (Declared'.row CodestreamOffset.the-type)) (List._∷_ (
+          7,
+          Rows.any-gone
+              (Syntax.tyEnum (List._∷_ 104 (List._∷_ 101 (List._∷_ 97 (List._∷_ 100 (List._∷_ 101 (List._∷_ 114 (List._∷_ 58 (List._∷_ 58 (List._∷_ 119 (List._∷_ 97 (List._∷_ 108
+              (List._∷_ 107 (List._∷_ 58 (List._∷_ 58 (List._∷_ 87 (List._∷_ 97 (List._∷_ 108 (List._∷_ 107 (List._∷_ 83 (List._∷_ 116 (List._∷_ 101 (List._∷_ 112
+              List.[])))))))))))))))))))))) (Syntax.ttcons (Syntax.tcons (Syntax.tyStruct (List._∷_ 104 (List._∷_ 101 (List._∷_ 97 (List._∷_ 100 (List._∷_ 101 (List._∷_ 114 (List._∷_
+              58 (List._∷_ 58 (List._∷_ 119 (List._∷_ 97 (List._∷_ 108 (List._∷_ 107 (List._∷_ 58 (List._∷_ 58 (List._∷_ 80 (List._∷_ 97 (List._∷_ 115 (List._∷_ 115 (List._∷_ 101
+              (List._∷_ 100 List.[])))))))))))))))))))) (Syntax.tcons (Syntax.tyInt Syntax.w64) (Syntax.tcons Syntax.tyBool (Syntax.tcons (Syntax.tyInt Syntax.w64) Syntax.tnil))))
+              Syntax.tnil) (Syntax.ttcons Syntax.tnil (Syntax.ttcons (Syntax.tcons (Syntax.tyStruct (List._∷_ 116 (List._∷_ 121 (List._∷_ 112 (List._∷_ 101 (List._∷_ 115 (List._∷_ 58
+              (List._∷_ 58 (List._∷_ 82 (List._∷_ 101 (List._∷_ 102 (List._∷_ 117 (List._∷_ 115 (List._∷_ 97 (List._∷_ 108 List.[])))))))))))))) (Syntax.tcons (Syntax.tyInt
+              Syntax.w32) (Syntax.tcons (Syntax.tyInt Syntax.w64) Syntax.tnil))) Syntax.tnil) Syntax.ttnil)))),
+        ) (List._∷_ (8, Rows.whole (Declared'.row Passed.the-type)) (List._∷_
+            (9, Rows.sc-here (Row.sInt Syntax.w64)) (List._∷_ (10, Rows.any-gone Syntax.tyBool) (List._∷_ (
               11,
-              Rows.any-gone (Syntax.tyRef Syntax.erased Syntax.mut LentTilePartEntry.pointee),
-            ) (List._∷_ (
-              12,
-              Mut.msleft LentTilePartEntry.row (Syntax.tyRef Syntax.erased Syntax.mut
+              Rows.any-gone (Syntax.tyRef Syntax.erased Syntax.mut
                   LentTilePartEntry.pointee),
-            ) List.[]))))))))))))
+            ) (List._∷_ (12, Mut.mslice LentTilePartEntry.row (Syntax.tyRef Syntax.erased Syntax.mut LentTilePartEntry.pointee) 2) List.[]))))))))))))
 
         abbrev g19 : List.List Row.Entry
         g19 = List._∷_ (0, Rows.any-gone Syntax.tyUnit) (List._∷_ (
           1,
           Rows.sslice (Referent.rtF (Referent.fInt Syntax.w8)) (Syntax.tyRef (Syntax.named 0) Syntax.imm (Syntax.tyInt
               Syntax.w8)) 0,
-        ) (List._∷_ (2, Rows.sc-here (Row.sInt Syntax.w64)) (List._∷_ (
+        ) (List._∷_ (
+          2,
+          Rows.any-gone (Syntax.tyStruct (List._∷_ 116 (List._∷_ 121 (List._∷_ 112 (List._∷_ 101 (List._∷_ 115 (List._∷_ 58 (List._∷_ 58 (List._∷_ 67
+              (List._∷_ 111 (List._∷_ 100 (List._∷_ 101 (List._∷_ 115 (List._∷_ 116 (List._∷_ 114 (List._∷_ 101 (List._∷_ 97 (List._∷_ 109 (List._∷_ 79 (List._∷_ 102 (List._∷_ 102
+              (List._∷_ 115 (List._∷_ 101 (List._∷_ 116 List.[]))))))))))))))))))))))) (Syntax.tcons (Syntax.tyInt Syntax.w64) Syntax.tnil)),
+        ) (List._∷_ (
           3,
-          Relend.mslice-owed LentTilePartEntry.row (Syntax.tyRef (Syntax.named 1) Syntax.mut
-              LentTilePartEntry.pointee) 1 2 (Row.lease (κs .1 .0) (qs .1 .0)),
-        ) (List._∷_ (4, Rows.any-gone (Syntax.tyInt Syntax.w64)) (List._∷_ (
-          5,
+          Relend.mslice-owed
+              LentTilePartEntry.row (Syntax.tyRef (Syntax.named 1) Syntax.mut LentTilePartEntry.pointee) 1 2 (Row.lease (κs .1 .0) (qs .1 .0)),
+        ) (List._∷_ (
+          4,
           Rows.sc-here (Row.sInt
               Syntax.w64),
-        ) (List._∷_ (6, Rows.sc-here (Row.sInt Syntax.w64)) (List._∷_ (
+        ) (List._∷_ (5, Rows.sc-here (Row.sInt Syntax.w64)) (List._∷_ (6, Rows.whole (Declared'.row CodestreamOffset.the-type)) (List._∷_ (
           7,
-          Rows.any-gone (Syntax.tyEnum (List._∷_ 104 (List._∷_ 101 (List._∷_ 97 (List._∷_ 100
-              (List._∷_ 101 (List._∷_ 114 (List._∷_ 58 (List._∷_ 58 (List._∷_ 119 (List._∷_ 97 (List._∷_ 108 (List._∷_ 107 (List._∷_ 58 (List._∷_ 58 (List._∷_ 87 (List._∷_ 97
-              (List._∷_ 108 (List._∷_ 107 (List._∷_ 83 (List._∷_ 116 (List._∷_ 101 (List._∷_ 112 List.[])))))))))))))))))))))) (Syntax.ttcons (Syntax.tcons (Syntax.tyStruct (List._∷_
-              104 (List._∷_ 101 (List._∷_ 97 (List._∷_ 100 (List._∷_ 101 (List._∷_ 114 (List._∷_ 58 (List._∷_ 58 (List._∷_ 119 (List._∷_ 97 (List._∷_ 108 (List._∷_ 107 (List._∷_ 58
-              (List._∷_ 58 (List._∷_ 80 (List._∷_ 97 (List._∷_ 115 (List._∷_ 115 (List._∷_ 101 (List._∷_ 100 List.[])))))))))))))))))))) (Syntax.tcons (Syntax.tyInt Syntax.w64)
-              (Syntax.tcons Syntax.tyBool (Syntax.tcons (Syntax.tyInt Syntax.w64) Syntax.tnil)))) Syntax.tnil) (Syntax.ttcons Syntax.tnil (Syntax.ttcons (Syntax.tcons
-              (Syntax.tyStruct (List._∷_ 116 (List._∷_ 121 (List._∷_ 112 (List._∷_ 101 (List._∷_ 115 (List._∷_ 58 (List._∷_ 58 (List._∷_ 82 (List._∷_ 101 (List._∷_ 102 (List._∷_ 117
-              (List._∷_ 115 (List._∷_ 97 (List._∷_ 108 List.[])))))))))))))) (Syntax.tcons (Syntax.tyInt Syntax.w32) (Syntax.tcons (Syntax.tyInt Syntax.w64) Syntax.tnil)))
-              Syntax.tnil) Syntax.ttnil)))),
-        ) (List._∷_ (8, Rows.whole (Declared'.row Passed.the-type)) (List._∷_ (9, Rows.sc-here (Row.sInt Syntax.w64)) (List._∷_ (
-          10,
           Rows.any-gone
-              Syntax.tyBool,
-        ) (List._∷_ (11, Rows.any-gone (Syntax.tyRef Syntax.erased Syntax.mut LentTilePartEntry.pointee)) (List._∷_ (
-          12,
-          Mut.msleft LentTilePartEntry.row
-              (Syntax.tyRef Syntax.erased Syntax.mut LentTilePartEntry.pointee),
-        ) List.[]))))))))))))
+              (Syntax.tyEnum (List._∷_ 104 (List._∷_ 101 (List._∷_ 97 (List._∷_ 100 (List._∷_ 101 (List._∷_ 114 (List._∷_ 58 (List._∷_ 58 (List._∷_ 119 (List._∷_ 97 (List._∷_ 108
+              (List._∷_ 107 (List._∷_ 58 (List._∷_ 58 (List._∷_ 87 (List._∷_ 97 (List._∷_ 108 (List._∷_ 107 (List._∷_ 83 (List._∷_ 116 (List._∷_ 101 (List._∷_ 112
+              List.[])))))))))))))))))))))) (Syntax.ttcons (Syntax.tcons (Syntax.tyStruct (List._∷_ 104 (List._∷_ 101 (List._∷_ 97 (List._∷_ 100 (List._∷_ 101 (List._∷_ 114 (List._∷_
+              58 (List._∷_ 58 (List._∷_ 119 (List._∷_ 97 (List._∷_ 108 (List._∷_ 107 (List._∷_ 58 (List._∷_ 58 (List._∷_ 80 (List._∷_ 97 (List._∷_ 115 (List._∷_ 115 (List._∷_ 101
+              (List._∷_ 100 List.[])))))))))))))))))))) (Syntax.tcons (Syntax.tyInt Syntax.w64) (Syntax.tcons Syntax.tyBool (Syntax.tcons (Syntax.tyInt Syntax.w64) Syntax.tnil))))
+              Syntax.tnil) (Syntax.ttcons Syntax.tnil (Syntax.ttcons (Syntax.tcons (Syntax.tyStruct (List._∷_ 116 (List._∷_ 121 (List._∷_ 112 (List._∷_ 101 (List._∷_ 115 (List._∷_ 58
+              (List._∷_ 58 (List._∷_ 82 (List._∷_ 101 (List._∷_ 102 (List._∷_ 117 (List._∷_ 115 (List._∷_ 97 (List._∷_ 108 List.[])))))))))))))) (Syntax.tcons (Syntax.tyInt
+              Syntax.w32) (Syntax.tcons (Syntax.tyInt Syntax.w64) Syntax.tnil))) Syntax.tnil) Syntax.ttnil)))),
+        ) (List._∷_ (8, Rows.whole (Declared'.row Passed.the-type)) (List._∷_
+            (9, Rows.sc-here (Row.sInt Syntax.w64)) (List._∷_ (10, Rows.any-gone Syntax.tyBool) (List._∷_ (
+              11,
+              Rows.any-gone (Syntax.tyRef Syntax.erased Syntax.mut
+                  LentTilePartEntry.pointee),
+            ) (List._∷_ (12, Mut.msleft LentTilePartEntry.row (Syntax.tyRef Syntax.erased Syntax.mut LentTilePartEntry.pointee)) List.[]))))))))))))
+
+        abbrev g20 : List.List Row.Entry
+        g20 = List._∷_ (0, Rows.any-gone Syntax.tyUnit) (List._∷_ (
+          1,
+          Rows.sslice (Referent.rtF (Referent.fInt Syntax.w8)) (Syntax.tyRef (Syntax.named 0) Syntax.imm (Syntax.tyInt
+              Syntax.w8)) 0,
+        ) (List._∷_ (
+          2,
+          Rows.any-gone (Syntax.tyStruct (List._∷_ 116 (List._∷_ 121 (List._∷_ 112 (List._∷_ 101 (List._∷_ 115 (List._∷_ 58 (List._∷_ 58 (List._∷_ 67
+              (List._∷_ 111 (List._∷_ 100 (List._∷_ 101 (List._∷_ 115 (List._∷_ 116 (List._∷_ 114 (List._∷_ 101 (List._∷_ 97 (List._∷_ 109 (List._∷_ 79 (List._∷_ 102 (List._∷_ 102
+              (List._∷_ 115 (List._∷_ 101 (List._∷_ 116 List.[]))))))))))))))))))))))) (Syntax.tcons (Syntax.tyInt Syntax.w64) Syntax.tnil)),
+        ) (List._∷_ (
+          3,
+          Relend.mslice-owed
+              LentTilePartEntry.row (Syntax.tyRef (Syntax.named 1) Syntax.mut LentTilePartEntry.pointee) 1 2 (Row.lease (κs .1 .0) (qs .1 .0)),
+        ) (List._∷_ (
+          4,
+          Rows.any-gone
+              (Syntax.tyInt Syntax.w64),
+        ) (List._∷_ (5, Rows.sc-here (Row.sInt Syntax.w64)) (List._∷_ (6, Rows.whole (Declared'.row CodestreamOffset.the-type)) (List._∷_ (
+          7,
+          Rows.any-gone (Syntax.tyEnum (List._∷_ 104 (List._∷_ 101 (List._∷_ 97 (List._∷_ 100 (List._∷_ 101 (List._∷_ 114 (List._∷_ 58 (List._∷_ 58 (List._∷_ 119 (List._∷_ 97
+              (List._∷_ 108 (List._∷_ 107 (List._∷_ 58 (List._∷_ 58 (List._∷_ 87 (List._∷_ 97 (List._∷_ 108 (List._∷_ 107 (List._∷_ 83 (List._∷_ 116 (List._∷_ 101 (List._∷_ 112
+              List.[])))))))))))))))))))))) (Syntax.ttcons (Syntax.tcons (Syntax.tyStruct (List._∷_ 104 (List._∷_ 101 (List._∷_ 97 (List._∷_ 100 (List._∷_ 101 (List._∷_ 114 (List._∷_
+              58 (List._∷_ 58 (List._∷_ 119 (List._∷_ 97 (List._∷_ 108 (List._∷_ 107 (List._∷_ 58 (List._∷_ 58 (List._∷_ 80 (List._∷_ 97 (List._∷_ 115 (List._∷_ 115 (List._∷_ 101
+              (List._∷_ 100 List.[])))))))))))))))))))) (Syntax.tcons (Syntax.tyInt Syntax.w64) (Syntax.tcons Syntax.tyBool (Syntax.tcons (Syntax.tyInt Syntax.w64) Syntax.tnil))))
+              Syntax.tnil) (Syntax.ttcons Syntax.tnil (Syntax.ttcons (Syntax.tcons (Syntax.tyStruct (List._∷_ 116 (List._∷_ 121 (List._∷_ 112 (List._∷_ 101 (List._∷_ 115 (List._∷_ 58
+              (List._∷_ 58 (List._∷_ 82 (List._∷_ 101 (List._∷_ 102 (List._∷_ 117 (List._∷_ 115 (List._∷_ 97 (List._∷_ 108 List.[])))))))))))))) (Syntax.tcons (Syntax.tyInt
+              Syntax.w32) (Syntax.tcons (Syntax.tyInt Syntax.w64) Syntax.tnil))) Syntax.tnil) Syntax.ttnil)))),
+        ) (List._∷_ (8, Rows.whole (Declared'.row Passed.the-type)) (List._∷_
+            (9, Rows.sc-here (Row.sInt Syntax.w64)) (List._∷_ (10, Rows.any-gone Syntax.tyBool) (List._∷_ (
+              11,
+              Rows.any-gone (Syntax.tyRef Syntax.erased Syntax.mut
+                  LentTilePartEntry.pointee),
+            ) (List._∷_ (12, Mut.msleft LentTilePartEntry.row (Syntax.tyRef Syntax.erased Syntax.mut LentTilePartEntry.pointee)) List.[]))))))))))))
 
         abbrev G0 : Row.Cx
         G0 = record { locals = t0; slots = List._∷_ (Row.lease (κs .0) (qs .0)) (List._∷_ (Row.lease (κs .1 .0) (qs .1 .0)) (List._∷_ Row.off List.[])) }
@@ -1508,85 +1756,85 @@ module _ (claims· : Claims) where
         G8 = record { locals = t7; slots = List._∷_ (Row.lease (κs .0) (qs .0)) (List._∷_ (Row.lease (κs .1 .0) (qs .1 .0)) (List._∷_ Row.off List.[])) }
 
         abbrev G9 : Row.Cx
-        G9 = record { locals = t7; slots = List._∷_ (Row.lease (κs .0) (qs .0)) (List._∷_ (Row.lease (κs .1 .0) (qs .1 .0)) (List._∷_ Row.off List.[])) }
+        G9 = record { locals = t8; slots = List._∷_ (Row.lease (κs .0) (qs .0)) (List._∷_ (Row.lease (κs .1 .0) (qs .1 .0)) (List._∷_ Row.off List.[])) }
 
         abbrev G10 : Row.Cx
         G10 = record { locals = t8; slots = List._∷_ (Row.lease (κs .0) (qs .0)) (List._∷_ (Row.lease (κs .1 .0) (qs .1 .0)) (List._∷_ Row.off List.[])) }
 
         abbrev G11 : Row.Cx
-        G11 = record { locals = t6; slots = List._∷_ (Row.lease (κs .0) (qs .0)) (List._∷_ (Row.lease (κs .1 .0) (qs .1 .0)) (List._∷_ Row.off List.[])) }
+        G11 = record { locals = t9; slots = List._∷_ (Row.lease (κs .0) (qs .0)) (List._∷_ (Row.lease (κs .1 .0) (qs .1 .0)) (List._∷_ Row.off List.[])) }
 
         abbrev G12 : Row.Cx
-        G12 = record { locals = t4; slots = List._∷_ (Row.lease (κs .0) (qs .0)) (List._∷_ (Row.lease (κs .1 .0) (qs .1 .0)) (List._∷_ Row.off List.[])) }
+        G12 = record { locals = t7; slots = List._∷_ (Row.lease (κs .0) (qs .0)) (List._∷_ (Row.lease (κs .1 .0) (qs .1 .0)) (List._∷_ Row.off List.[])) }
 
         abbrev G13 : Row.Cx
-        G13 = record { locals = t9; slots = List._∷_ (Row.lease (κs .0) (qs .0)) (List._∷_ (Row.lease (κs .1 .0) (qs .1 .0)) (List._∷_ Row.off List.[])) }
+        G13 = record { locals = t10; slots = List._∷_ (Row.lease (κs .0) (qs .0)) (List._∷_ (Row.lease (κs .1 .0) (qs .1 .0)) (List._∷_ Row.off List.[])) }
 
         abbrev G14 : Row.Cx
-        G14 = record { locals = t10; slots = List._∷_ (Row.lease (κs .0) (qs .0)) (List._∷_ (Row.lease (κs .1 .0) (qs .1 .0)) (List._∷_ Row.off List.[])) }
+        G14 = record { locals = t11; slots = List._∷_ (Row.lease (κs .0) (qs .0)) (List._∷_ (Row.lease (κs .1 .0) (qs .1 .0)) (List._∷_ Row.off List.[])) }
 
         abbrev G15 : Row.Cx
-        G15 = record { locals = t11; slots = List._∷_ (Row.lease (κs .0) (qs .0)) (List._∷_ (Row.lease (κs .1 .0) (qs .1 .0)) (List._∷_ Row.off List.[])) }
+        G15 = record { locals = t12; slots = List._∷_ (Row.lease (κs .0) (qs .0)) (List._∷_ (Row.lease (κs .1 .0) (qs .1 .0)) (List._∷_ Row.off List.[])) }
 
         abbrev G16 : Row.Cx
-        G16 = record { locals = t12; slots = List._∷_ (Row.lease (κs .0) (qs .0)) (List._∷_ (Row.lease (κs .1 .0) (qs .1 .0)) (List._∷_ Row.off List.[])) }
+        G16 = record { locals = t13; slots = List._∷_ (Row.lease (κs .0) (qs .0)) (List._∷_ (Row.lease (κs .1 .0) (qs .1 .0)) (List._∷_ Row.off List.[])) }
 
         abbrev G17 : Row.Cx
         G17 = record { locals = t1; slots = List._∷_ (Row.lease (κs .0) (qs .0)) (List._∷_ (Row.lease (κs .1 .0) (qs .1 .0)) (List._∷_ Row.off List.[])) }
 
         abbrev G18 : Row.Cx
-        G18 = record { locals = t13; slots = List._∷_ (Row.lease (κs .0) (qs .0)) (List._∷_ (Row.lease (κs .1 .0) (qs .1 .0)) (List._∷_ Row.off List.[])) }
+        G18 = record { locals = t14; slots = List._∷_ (Row.lease (κs .0) (qs .0)) (List._∷_ (Row.lease (κs .1 .0) (qs .1 .0)) (List._∷_ Row.off List.[])) }
 
         abbrev G19 : Row.Cx
-        G19 = record { locals = t14; slots = List._∷_ (Row.lease (κs .0) (qs .0)) (List._∷_ (Row.lease (κs .1 .0) (qs .1 .0)) (List._∷_ Row.off List.[])) }
+        G19 = record { locals = t15; slots = List._∷_ (Row.lease (κs .0) (qs .0)) (List._∷_ (Row.lease (κs .1 .0) (qs .1 .0)) (List._∷_ Row.off List.[])) }
 
         abbrev G20 : Row.Cx
-        G20 = record { locals = t6; slots = List._∷_ (Row.lease (κs .0) (qs .0)) (List._∷_ (Row.lease (κs .1 .0) (qs .1 .0)) (List._∷_ Row.off List.[])) }
+        G20 = record { locals = t7; slots = List._∷_ (Row.lease (κs .0) (qs .0)) (List._∷_ (Row.lease (κs .1 .0) (qs .1 .0)) (List._∷_ Row.off List.[])) }
 
         abbrev G21 : Row.Cx
-        G21 = record { locals = t15; slots = List._∷_ (Row.lease (κs .0) (qs .0)) (List._∷_ (Row.lease (κs .1 .0) (qs .1 .0)) (List._∷_ Row.off List.[])) }
+        G21 = record { locals = t16; slots = List._∷_ (Row.lease (κs .0) (qs .0)) (List._∷_ (Row.lease (κs .1 .0) (qs .1 .0)) (List._∷_ Row.off List.[])) }
 
         abbrev G22 : Row.Cx
-        G22 = record { locals = t15; slots = List._∷_ (Row.lease (κs .0) (qs .0)) (List._∷_ (Row.lease (κs .1 .0) (qs .1 .0)) (List._∷_ Row.alive List.[])) }
+        G22 = record { locals = t16; slots = List._∷_ (Row.lease (κs .0) (qs .0)) (List._∷_ (Row.lease (κs .1 .0) (qs .1 .0)) (List._∷_ Row.alive List.[])) }
 
         abbrev G23 : Row.Cx
-        G23 = record { locals = g16; slots = List._∷_ (Row.lease (κs .0) (qs .0)) (List._∷_ Row.off (List._∷_ Row.alive List.[])) }
+        G23 = record { locals = g17; slots = List._∷_ (Row.lease (κs .0) (qs .0)) (List._∷_ Row.off (List._∷_ Row.alive List.[])) }
 
         abbrev G24 : Row.Cx
-        G24 = record { locals = g17; slots = List._∷_ (Row.lease (κs .0) (qs .0)) (List._∷_ Row.off (List._∷_ Row.alive List.[])) }
+        G24 = record { locals = g18; slots = List._∷_ (Row.lease (κs .0) (qs .0)) (List._∷_ Row.off (List._∷_ Row.alive List.[])) }
 
         abbrev G25 : Row.Cx
-        G25 = record { locals = g18; slots = List._∷_ (Row.lease (κs .0) (qs .0)) (List._∷_ Row.off (List._∷_ Row.alive List.[])) }
+        G25 = record { locals = g19; slots = List._∷_ (Row.lease (κs .0) (qs .0)) (List._∷_ Row.off (List._∷_ Row.alive List.[])) }
 
         abbrev G26 : Row.Cx
-        G26 = record { locals = g19; slots = List._∷_ (Row.lease (κs .0) (qs .0)) (List._∷_ Row.off (List._∷_ Row.alive List.[])) }
+        G26 = record { locals = g20; slots = List._∷_ (Row.lease (κs .0) (qs .0)) (List._∷_ Row.off (List._∷_ Row.alive List.[])) }
 
         abbrev G27 : Row.Cx
-        G27 = record { locals = g19; slots = List._∷_ (Row.lease (κs .0) (qs .0)) (List._∷_ Row.off (List._∷_ Row.dead List.[])) }
+        G27 = record { locals = g20; slots = List._∷_ (Row.lease (κs .0) (qs .0)) (List._∷_ Row.off (List._∷_ Row.dead List.[])) }
 
         abbrev G28 : Row.Cx
-        G28 = record { locals = t20; slots = List._∷_ (Row.lease (κs .0) (qs .0)) (List._∷_ (Row.lease (κs .1 .0) (qs .1 .0)) (List._∷_ Row.dead List.[])) }
+        G28 = record { locals = t21; slots = List._∷_ (Row.lease (κs .0) (qs .0)) (List._∷_ (Row.lease (κs .1 .0) (qs .1 .0)) (List._∷_ Row.dead List.[])) }
 
         abbrev G29 : Row.Cx
-        G29 = record { locals = t20; slots = List._∷_ (Row.lease (κs .0) (qs .0)) (List._∷_ (Row.lease (κs .1 .0) (qs .1 .0)) (List._∷_ Row.off List.[])) }
+        G29 = record { locals = t21; slots = List._∷_ (Row.lease (κs .0) (qs .0)) (List._∷_ (Row.lease (κs .1 .0) (qs .1 .0)) (List._∷_ Row.off List.[])) }
 
         abbrev G30 : Row.Cx
-        G30 = record { locals = t20; slots = List._∷_ (Row.lease (κs .0) (qs .0)) (List._∷_ (Row.lease (κs .1 .0) (qs .1 .0)) (List._∷_ Row.off List.[])) }
+        G30 = record { locals = t21; slots = List._∷_ (Row.lease (κs .0) (qs .0)) (List._∷_ (Row.lease (κs .1 .0) (qs .1 .0)) (List._∷_ Row.off List.[])) }
 
         abbrev G31 : Row.Cx
-        G31 = record { locals = t14; slots = List._∷_ (Row.lease (κs .0) (qs .0)) (List._∷_ (Row.lease (κs .1 .0) (qs .1 .0)) (List._∷_ Row.off List.[])) }
+        G31 = record { locals = t15; slots = List._∷_ (Row.lease (κs .0) (qs .0)) (List._∷_ (Row.lease (κs .1 .0) (qs .1 .0)) (List._∷_ Row.off List.[])) }
 
         abbrev G32 : Row.Cx
-        G32 = record { locals = t21; slots = List._∷_ (Row.lease (κs .0) (qs .0)) (List._∷_ (Row.lease (κs .1 .0) (qs .1 .0)) (List._∷_ Row.off List.[])) }
+        G32 = record { locals = t22; slots = List._∷_ (Row.lease (κs .0) (qs .0)) (List._∷_ (Row.lease (κs .1 .0) (qs .1 .0)) (List._∷_ Row.off List.[])) }
 
         abbrev G33 : Row.Cx
-        G33 = record { locals = t14; slots = List._∷_ (Row.lease (κs .0) (qs .0)) (List._∷_ (Row.lease (κs .1 .0) (qs .1 .0)) (List._∷_ Row.off List.[])) }
+        G33 = record { locals = t15; slots = List._∷_ (Row.lease (κs .0) (qs .0)) (List._∷_ (Row.lease (κs .1 .0) (qs .1 .0)) (List._∷_ Row.off List.[])) }
 
         abbrev G34 : Row.Cx
-        G34 = record { locals = t6; slots = List._∷_ (Row.lease (κs .0) (qs .0)) (List._∷_ (Row.lease (κs .1 .0) (qs .1 .0)) (List._∷_ Row.off List.[])) }
+        G34 = record { locals = t7; slots = List._∷_ (Row.lease (κs .0) (qs .0)) (List._∷_ (Row.lease (κs .1 .0) (qs .1 .0)) (List._∷_ Row.off List.[])) }
 
         abbrev G35 : Row.Cx
-        G35 = record { locals = t4; slots = List._∷_ (Row.lease (κs .0) (qs .0)) (List._∷_ (Row.lease (κs .1 .0) (qs .1 .0)) (List._∷_ Row.off List.[])) }
+        G35 = record { locals = t5; slots = List._∷_ (Row.lease (κs .0) (qs .0)) (List._∷_ (Row.lease (κs .1 .0) (qs .1 .0)) (List._∷_ Row.off List.[])) }
 
         abbrev Δ0 : Typed.Outs
         Δ0 = record { next = Option.none; exits = List.[]; returns = Option.some G1 }
@@ -1598,10 +1846,10 @@ module _ (claims· : Claims) where
         Δ2 = Typed.inBlock₀ Δ1
 
         abbrev Δ3 : Typed.Outs
-        Δ3 = Typed.inLoop₀ G5 Δ2
+        Δ3 = Typed.inLoop₀ G6 Δ2
 
         abbrev Δ4 : Typed.Outs
-        Δ4 = Typed.withNext (Option.some G7) Δ3
+        Δ4 = Typed.withNext (Option.some G8) Δ3
 
         abbrev Δ5 : Typed.Outs
         Δ5 = Typed.withNext (Option.some G19) Δ3
@@ -1611,27 +1859,27 @@ module _ (claims· : Claims) where
           abbrev E : Wp.Env 𝓤 H
           E = Frame.EnvOf 𝓤 H (List._∷_ (Kinds.tyR r) (Enter.tysP ps xs)) bs
 
-          d0 : Typed.Typed 𝓤 H A 𝓣 E G9 b4 Δ4 at0
-          d0 = Typed.s-typed 𝓤 H A W 𝓣 E G9 b4 Δ4 (λ Ψ. Typed.pass T9 T10 s7 (Typed.pass T10 T11 s8 Ψ)) tt (Typed.g-post 𝓤 H A W 𝓣 E G9 G10 G11 b4 (Typed.pass T9 T10 s7)
-              (Typed.pass T10 T11 s8) (CopyOut.t-copy-told 𝓤 H A W E 𝓣 (Declared'.row Passed.the-type) Path'.refl (Laws'3.val Passed.the-type Laws.the-laws) (Laws'3.lawful
-              Passed.the-type Laws.the-laws 𝓤 H A W) (Laws'3.makes Passed.the-type Laws.the-plain 𝓤 H A) G9 8 (Scalar.oFld 7 (List._∷_ (Syntax.variant 0) (List._∷_ (Syntax.field 1)
-              List.[])) (Syntax.tyStruct (List._∷_ 104 (List._∷_ 101 (List._∷_ 97 (List._∷_ 100 (List._∷_ 101 (List._∷_ 114 (List._∷_ 58 (List._∷_ 58 (List._∷_ 119 (List._∷_ 97
+          d0 : Typed.Typed 𝓤 H A 𝓣 E G10 b4 Δ4 at0
+          d0 = Typed.s-typed 𝓤 H A W 𝓣 E G10 b4 Δ4 (λ Ψ. Typed.pass T10 T11 s8 (Typed.pass T11 T12 s9 Ψ)) tt (Typed.g-post 𝓤 H A W 𝓣 E G10 G11 G12 b4 (Typed.pass T10 T11 s8)
+              (Typed.pass T11 T12 s9) (CopyOut.t-copy-told 𝓤 H A W E 𝓣 (Declared'.row Passed.the-type) Path'.refl (Laws'4.val Passed.the-type Laws.the-laws) (Laws'4.lawful
+              Passed.the-type Laws.the-laws 𝓤 H A W) (Laws'4.makes Passed.the-type Laws.the-plain 𝓤 H A) G10 8 (Scalar.oFld 7 (List._∷_ (Syntax.variant 0) (List._∷_ (Syntax.field
+              1) List.[])) (Syntax.tyStruct (List._∷_ 104 (List._∷_ 101 (List._∷_ 97 (List._∷_ 100 (List._∷_ 101 (List._∷_ 114 (List._∷_ 58 (List._∷_ 58 (List._∷_ 119 (List._∷_ 97
               (List._∷_ 108 (List._∷_ 107 (List._∷_ 58 (List._∷_ 58 (List._∷_ 80 (List._∷_ 97 (List._∷_ 115 (List._∷_ 115 (List._∷_ 101 (List._∷_ 100 List.[]))))))))))))))))))))
-              (Syntax.tcons (Syntax.tyInt Syntax.w64) (Syntax.tcons Syntax.tyBool (Syntax.tcons (Syntax.tyInt Syntax.w64) Syntax.tnil)))) 8 λ v. Laws'3.val Passed.the-type
-              Laws.the-laws (v .0)) (λ m. m .1 .1 .1 .1 .1 .1 .1 .0 .0) (λ m. Laws''.Fields (Declared.variants WalkStep.the-type) (Laws''.spellss (WalkStep.enum .parts)
+              (Syntax.tcons (Syntax.tyInt Syntax.w64) (Syntax.tcons Syntax.tyBool (Syntax.tcons (Syntax.tyInt Syntax.w64) Syntax.tnil)))) 8 λ v. Laws'4.val Passed.the-type
+              Laws.the-laws (v .0)) (λ m. m .1 .1 .1 .1 .1 .1 .1 .0 .0) (λ m. Laws'3.Fields (Declared.variants WalkStep.the-type) (Laws'3.spellss (WalkStep.enum .parts)
               Laws'.the-laws) (WalkStep.the-type .to (Known.at WalkStep.enum 0 (m .1 .1 .1 .1 .1 .1 .1 .0)))) (Reads'.room-gone 𝓤 H A (Syntax.tyStruct (List._∷_ 104 (List._∷_ 101
               (List._∷_ 97 (List._∷_ 100 (List._∷_ 101 (List._∷_ 114 (List._∷_ 58 (List._∷_ 58 (List._∷_ 119 (List._∷_ 97 (List._∷_ 108 (List._∷_ 107 (List._∷_ 58 (List._∷_ 58
               (List._∷_ 80 (List._∷_ 97 (List._∷_ 115 (List._∷_ 115 (List._∷_ 101 (List._∷_ 100 List.[])))))))))))))))))))) (Syntax.tcons (Syntax.tyInt Syntax.w64) (Syntax.tcons
               Syntax.tyBool (Syntax.tcons (Syntax.tyInt Syntax.w64) Syntax.tnil))))) (
                 Match.reads-payload 𝓤 H A W WalkStep.enum Laws'.the-laws 0 Path'.refl Path'.refl (λ v.
-                    Val.vcons (Laws'3.val Passed.the-type Laws.the-laws (v .0)) Val.vnil) (λ v. Path'.refl) 0 (Syntax.tyStruct (List._∷_ 104 (List._∷_ 101 (List._∷_ 97 (List._∷_ 100
+                    Val.vcons (Laws'4.val Passed.the-type Laws.the-laws (v .0)) Val.vnil) (λ v. Path'.refl) 0 (Syntax.tyStruct (List._∷_ 104 (List._∷_ 101 (List._∷_ 97 (List._∷_ 100
                     (List._∷_ 101 (List._∷_ 114 (List._∷_ 58 (List._∷_ 58 (List._∷_ 119 (List._∷_ 97 (List._∷_ 108 (List._∷_ 107 (List._∷_ 58 (List._∷_ 58 (List._∷_ 80 (List._∷_ 97
                     (List._∷_ 115 (List._∷_ 115 (List._∷_ 101 (List._∷_ 100 List.[])))))))))))))))))))) (Syntax.tcons (Syntax.tyInt Syntax.w64) (Syntax.tcons Syntax.tyBool (Syntax.tcons
                     (Syntax.tyInt Syntax.w64) Syntax.tnil)))) 8 Path'.refl,
                 Path'.refl,
-              ) Path'.refl (λ ρ m. Make.tells-row 𝓤 H A W E ρ (Row.out 8 (G9 .locals)) m 7 (Laws''.Fields
-              (Declared.variants WalkStep.the-type) (Laws''.spellss (WalkStep.enum .parts) Laws'.the-laws) (WalkStep.the-type .to (Known.at WalkStep.enum 0 (m .1 .1 .1 .1 .1 .1 .1
-              .0)))) (Known.known-is 𝓤 H A W E WalkStep.enum 0 Laws'.the-laws ρ 7 (m .1 .1 .1 .1 .1 .1 .1 .0))) (λ m k wa. Path'.refl) λ m k wa. k .0) (Scalar.g-room 𝓤 H A W E G10
+              ) Path'.refl (λ ρ m. Make.tells-row 𝓤 H A W E ρ (Row.out 8 (G10 .locals)) m 7 (Laws'3.Fields
+              (Declared.variants WalkStep.the-type) (Laws'3.spellss (WalkStep.enum .parts) Laws'.the-laws) (WalkStep.the-type .to (Known.at WalkStep.enum 0 (m .1 .1 .1 .1 .1 .1 .1
+              .0)))) (Known.known-is 𝓤 H A W E WalkStep.enum 0 Laws'.the-laws ρ 7 (m .1 .1 .1 .1 .1 .1 .1 .0))) (λ m k wa. Path'.refl) λ m k wa. k .0) (Scalar.g-room 𝓤 H A W E G11
               7 (Syntax.tyEnum (List._∷_ 104 (List._∷_ 101 (List._∷_ 97 (List._∷_ 100 (List._∷_ 101 (List._∷_ 114 (List._∷_ 58 (List._∷_ 58 (List._∷_ 119 (List._∷_ 97 (List._∷_ 108
               (List._∷_ 107 (List._∷_ 58 (List._∷_ 58 (List._∷_ 87 (List._∷_ 97 (List._∷_ 108 (List._∷_ 107 (List._∷_ 83 (List._∷_ 116 (List._∷_ 101 (List._∷_ 112
               List.[])))))))))))))))))))))) (Syntax.ttcons (Syntax.tcons (Syntax.tyStruct (List._∷_ 104 (List._∷_ 101 (List._∷_ 97 (List._∷_ 100 (List._∷_ 101 (List._∷_ 114
@@ -1649,40 +1897,32 @@ module _ (claims· : Claims) where
               (List._∷_ 115 (List._∷_ 58 (List._∷_ 58 (List._∷_ 82 (List._∷_ 101 (List._∷_ 102 (List._∷_ 117 (List._∷_ 115 (List._∷_ 97 (List._∷_ 108 List.[]))))))))))))))
               (Syntax.tcons (Syntax.tyInt Syntax.w32) (Syntax.tcons (Syntax.tyInt Syntax.w64) Syntax.tnil))) Syntax.tnil) Syntax.ttnil)))) Path'.refl)))
 
-          d1 : Typed.Typed 𝓤 H A 𝓣 E G8 b4 Δ4 at1
-          d1 = Typed.g-pre 𝓤 H A W 𝓣 E G8 G9 b4 Δ4 (Typed.give s6) at0 (Known.g-known-told 𝓤 H A W E WalkStep.enum 0 G8 7 Laws'.the-laws (λ x. x) (Reads'.as-is 𝓤 H A (Rows.whole
+          d1 : Typed.Typed 𝓤 H A 𝓣 E G9 b4 Δ4 at1
+          d1 = Typed.g-pre 𝓤 H A W 𝓣 E G9 G10 b4 Δ4 (Typed.give s7) at0 (Known.g-known-told 𝓤 H A W E WalkStep.enum 0 G9 7 Laws'.the-laws (λ x. x) (Reads'.as-is 𝓤 H A (Rows.whole
               (Known.Known WalkStep.enum 0)))) d0
 
-          d2 : Typed.Typed 𝓤 H A 𝓣 E G6 b4 Δ4 at2
-          d2 = Typed.g-pre 𝓤 H A W 𝓣 E G6 G8 b4 Δ4 (Typed.both s5) at1 (Known.g-enum-known 𝓤 H A W E WalkStep.enum 0 G6 7 (λ x. x) (Reads'.as-is 𝓤 H A (Rows.whole (Declared.row
+          d2 : Typed.Typed 𝓤 H A 𝓣 E G7 b4 Δ4 at2
+          d2 = Typed.g-pre 𝓤 H A W 𝓣 E G7 G9 b4 Δ4 (Typed.both s6) at1 (Known.g-enum-known 𝓤 H A W E WalkStep.enum 0 G7 7 (λ x. x) (Reads'.as-is 𝓤 H A (Rows.whole (Declared.row
               WalkStep.the-type)))) d1
 
           d3 : Typed.Typed 𝓤 H A 𝓣 E G17 b6 Δ4 at3
           d3 = Typed.t-return 𝓤 H A W 𝓣 E Δ4 tt
 
           d4 : Typed.Typed 𝓤 H A 𝓣 E G16 b6 Δ4 at4
-          d4 = Typed.g-pre 𝓤 H A W 𝓣 E G16 G17 b6 Δ4 (Typed.pass T16 T17 s14) at3 (Scalar.g-room 𝓤 H A W E G16 6 (Syntax.tyInt Syntax.w64) (Scalar.room-sc 𝓤 H A W (Row.sInt
+          d4 = Typed.g-pre 𝓤 H A W 𝓣 E G16 G17 b6 Δ4 (Typed.pass T16 T17 s14) at3 (Scalar.g-room 𝓤 H A W E G16 5 (Syntax.tyInt Syntax.w64) (Scalar.room-sc 𝓤 H A W (Row.sInt
               Syntax.w64))) d3
 
           d5 : Typed.Typed 𝓤 H A 𝓣 E G15 b6 Δ4 at5
-          d5 = Typed.g-pre 𝓤 H A W 𝓣 E G15 G16 b6 Δ4 (Typed.pass T15 T16 s13) at4 (Scalar.g-room 𝓤 H A W E G15 5 (Syntax.tyInt Syntax.w64) (Scalar.room-sc 𝓤 H A W (Row.sInt
+          d5 = Typed.g-pre 𝓤 H A W 𝓣 E G15 G16 b6 Δ4 (Typed.pass T15 T16 s13) at4 (Scalar.g-room 𝓤 H A W E G15 4 (Syntax.tyInt Syntax.w64) (Scalar.room-sc 𝓤 H A W (Row.sInt
               Syntax.w64))) d4
 
-          d6 : Typed.Typed 𝓤 H A 𝓣 E G14 b6 Δ4 at6
-          d6 = Typed.g-pre 𝓤 H A W 𝓣 E G14 G15 b6 Δ4 (Typed.pass T14 T15 s12) at5 (Scalar.g-room 𝓤 H A W E G14 4 (Syntax.tyInt Syntax.w64) (Scalar.room-sc 𝓤 H A W (Row.sInt
-              Syntax.w64))) d5
+          d6 : Typed.Typed 𝓤 H A 𝓣 E G14 b7 Δ4 at6
+          d6 = Typed.s-seq 𝓤 H A W 𝓣 E G14 G15 b5 b6 Δ4 (Typed.pass T14 T15 s12) at5 (Scalar.t-use 𝓤 H A W E 𝓣 G14 Scalar.oUnit 0 (Rows.sc-here Row.sUnit) Syntax.tyUnit (Row.valS
+              Row.sUnit) (Row.sUnit .of) tt (Reads'.room-gone 𝓤 H A Syntax.tyUnit) (Scalar.holds-sc 𝓤 H A W Row.sUnit) Path'.refl (λ u. Path'.refl) λ u. tt) d5
 
-          d7 : Typed.Typed 𝓤 H A 𝓣 E G13 b6 Δ4 at7
-          d7 = Typed.g-pre 𝓤 H A W 𝓣 E G13 G14 b6 Δ4 (Typed.pass T13 T14 s11) at6 (Scalar.g-room 𝓤 H A W E G13 2 (Syntax.tyInt Syntax.w64) (Scalar.room-sc 𝓤 H A W (Row.sInt
-              Syntax.w64))) d6
-
-          d8 : Typed.Typed 𝓤 H A 𝓣 E G12 b7 Δ4 at8
-          d8 = Typed.s-seq 𝓤 H A W 𝓣 E G12 G13 b5 b6 Δ4 (Typed.pass T12 T13 s10) at7 (Scalar.t-use 𝓤 H A W E 𝓣 G12 Scalar.oUnit 0 (Rows.sc-here Row.sUnit) Syntax.tyUnit (Row.valS
-              Row.sUnit) (Row.sUnit .of) tt (Reads'.room-gone 𝓤 H A Syntax.tyUnit) (Scalar.holds-sc 𝓤 H A W Row.sUnit) Path'.refl (λ u. Path'.refl) λ u. tt) d7
-
-          d9 : Typed.Typed 𝓤 H A 𝓣 E G6 b7 Δ4 at9
-          d9 = Typed.g-pre 𝓤 H A W 𝓣 E G6 G12 b7 Δ4 (Typed.pass T6 T12 s9) at8 (Scalar.g-room 𝓤 H A W E G6 7 (Syntax.tyEnum (List._∷_ 104 (List._∷_ 101 (List._∷_ 97 (List._∷_ 100
-              (List._∷_ 101 (List._∷_ 114 (List._∷_ 58 (List._∷_ 58 (List._∷_ 119 (List._∷_ 97 (List._∷_ 108 (List._∷_ 107 (List._∷_ 58 (List._∷_ 58 (List._∷_ 87 (List._∷_ 97
+          d7 : Typed.Typed 𝓤 H A 𝓣 E G13 b7 Δ4 at7
+          d7 = Typed.g-pre 𝓤 H A W 𝓣 E G13 G14 b7 Δ4 (Typed.pass T13 T14 s11) at6 (Scalar.g-room 𝓤 H A W E G13 7 (Syntax.tyEnum (List._∷_ 104 (List._∷_ 101 (List._∷_ 97 (List._∷_
+              100 (List._∷_ 101 (List._∷_ 114 (List._∷_ 58 (List._∷_ 58 (List._∷_ 119 (List._∷_ 97 (List._∷_ 108 (List._∷_ 107 (List._∷_ 58 (List._∷_ 58 (List._∷_ 87 (List._∷_ 97
               (List._∷_ 108 (List._∷_ 107 (List._∷_ 83 (List._∷_ 116 (List._∷_ 101 (List._∷_ 112 List.[])))))))))))))))))))))) (Syntax.ttcons (Syntax.tcons (Syntax.tyStruct
               (List._∷_ 104 (List._∷_ 101 (List._∷_ 97 (List._∷_ 100 (List._∷_ 101 (List._∷_ 114 (List._∷_ 58 (List._∷_ 58 (List._∷_ 119 (List._∷_ 97 (List._∷_ 108 (List._∷_ 107
               (List._∷_ 58 (List._∷_ 58 (List._∷_ 80 (List._∷_ 97 (List._∷_ 115 (List._∷_ 115 (List._∷_ 101 (List._∷_ 100 List.[])))))))))))))))))))) (Syntax.tcons (Syntax.tyInt
@@ -1697,43 +1937,52 @@ module _ (claims· : Claims) where
               Syntax.w64) (Syntax.tcons Syntax.tyBool (Syntax.tcons (Syntax.tyInt Syntax.w64) Syntax.tnil)))) Syntax.tnil) (Syntax.ttcons Syntax.tnil (Syntax.ttcons (Syntax.tcons
               (Syntax.tyStruct (List._∷_ 116 (List._∷_ 121 (List._∷_ 112 (List._∷_ 101 (List._∷_ 115 (List._∷_ 58 (List._∷_ 58 (List._∷_ 82 (List._∷_ 101 (List._∷_ 102 (List._∷_
               117 (List._∷_ 115 (List._∷_ 97 (List._∷_ 108 List.[])))))))))))))) (Syntax.tcons (Syntax.tyInt Syntax.w32) (Syntax.tcons (Syntax.tyInt Syntax.w64) Syntax.tnil)))
-              Syntax.tnil) Syntax.ttnil)))) Path'.refl)) d8
+              Syntax.tnil) Syntax.ttnil)))) Path'.refl)) d6
 
-          d10 : Typed.Typed 𝓤 H A 𝓣 E G6 b8 Δ4 at10
-          d10 = Switch.t-switch-on 𝓤 H A W E 𝓣 G6 (Scalar.oFld 7 (List._∷_ (Syntax.variant 0) (List._∷_ (Syntax.field 0) List.[])) (Syntax.tyInt Syntax.w8) 0 λ x. Val.vint
-              Syntax.w8 (Declared.tagOf WalkStep.the-type x)) Syntax.w8 (λ u. Declared.tagOf WalkStep.the-type (u .1 .1 .1 .1 .1 .1 .1 .0)) (Syntax.arm (List._∷_ 0 List.[]) b4
-              (Syntax.arm (List._∷_ 1 (List._∷_ 2 List.[])) b7 Syntax.noDefault)) Δ4 (at2, (at9, tt)) (
-                Match.reads-tag 𝓤 H A W WalkStep.the-type Laws'.the-laws (Rows.whole
-                    (Declared.row WalkStep.the-type)) 0 (λ x. x) (Whole.reads-enum 𝓤 H A W WalkStep.the-type Laws'.the-laws),
+          d8 : Typed.Typed 𝓤 H A 𝓣 E G7 b7 Δ4 at8
+          d8 = Typed.g-pre 𝓤 H A W 𝓣 E G7 G13 b7 Δ4 (Typed.pass T7 T13 s10) at7 (Scalar.g-room 𝓤 H A W E G7 6 (Syntax.tyStruct (List._∷_ 116 (List._∷_ 121 (List._∷_ 112 (List._∷_
+              101 (List._∷_ 115 (List._∷_ 58 (List._∷_ 58 (List._∷_ 67 (List._∷_ 111 (List._∷_ 100 (List._∷_ 101 (List._∷_ 115 (List._∷_ 116 (List._∷_ 114 (List._∷_ 101 (List._∷_
+              97 (List._∷_ 109 (List._∷_ 79 (List._∷_ 102 (List._∷_ 102 (List._∷_ 115 (List._∷_ 101 (List._∷_ 116 List.[]))))))))))))))))))))))) (Syntax.tcons (Syntax.tyInt
+              Syntax.w64) Syntax.tnil)) (Local.room-whole 𝓤 H A W (Declared'.row CodestreamOffset.the-type) (Syntax.tyStruct (List._∷_ 116 (List._∷_ 121 (List._∷_ 112 (List._∷_ 101
+              (List._∷_ 115 (List._∷_ 58 (List._∷_ 58 (List._∷_ 67 (List._∷_ 111 (List._∷_ 100 (List._∷_ 101 (List._∷_ 115 (List._∷_ 116 (List._∷_ 114 (List._∷_ 101 (List._∷_ 97
+              (List._∷_ 109 (List._∷_ 79 (List._∷_ 102 (List._∷_ 102 (List._∷_ 115 (List._∷_ 101 (List._∷_ 116 List.[]))))))))))))))))))))))) (Syntax.tcons (Syntax.tyInt
+              Syntax.w64) Syntax.tnil)) Path'.refl)) d7
+
+          d9 : Typed.Typed 𝓤 H A 𝓣 E G7 b8 Δ4 at9
+          d9 = Switch.t-switch-on 𝓤 H A W E 𝓣 G7 (Scalar.oFld 7 (List._∷_ (Syntax.variant 0) (List._∷_ (Syntax.field 0) List.[])) (Syntax.tyInt Syntax.w8) 0 λ x. Val.vint Syntax.w8
+              (Declared.tagOf WalkStep.the-type x)) Syntax.w8 (λ u. Declared.tagOf WalkStep.the-type (u .1 .1 .1 .1 .1 .1 .1 .0)) (Syntax.arm (List._∷_ 0 List.[]) b4 (Syntax.arm
+              (List._∷_ 1 (List._∷_ 2 List.[])) b7 Syntax.noDefault)) Δ4 (at2, (at8, tt)) (
+                Match.reads-tag 𝓤 H A W WalkStep.the-type Laws'.the-laws (Rows.whole (Declared.row
+                    WalkStep.the-type)) 0 (λ x. x) (Whole.reads-enum 𝓤 H A W WalkStep.the-type Laws'.the-laws),
                 Path'.refl,
-              ) (λ u. Path'.refl) (d2, (d9, tt))
+              ) (λ u. Path'.refl) (d2, (d8, tt))
 
-          d11 : Typed.Typed 𝓤 H A 𝓣 E G29 b14 Δ5 at11
-          d11 = Typed.s-typed 𝓤 H A W 𝓣 E G29 b14 Δ5 (λ Ψ. Typed.ask s26 (Typed.pass T30 T31 s27 Ψ)) tt (Typed.g-post 𝓤 H A W 𝓣 E G29 G30 G31 b14 (Typed.ask s26) (Typed.pass T30
+          d10 : Typed.Typed 𝓤 H A 𝓣 E G29 b14 Δ5 at10
+          d10 = Typed.s-typed 𝓤 H A W 𝓣 E G29 b14 Δ5 (λ Ψ. Typed.ask s26 (Typed.pass T30 T31 s27 Ψ)) tt (Typed.g-post 𝓤 H A W 𝓣 E G29 G30 G31 b14 (Typed.ask s26) (Typed.pass T30
               T31 s27) (Scalar.t-op2 𝓤 H A W E 𝓣 G29 (Syntax.add Syntax.unsigned) (Scalar.oAt 5 (Syntax.tyInt Syntax.w64) (Row.valS (Row.sInt Syntax.w64))) (Scalar.oAt 9
               (Syntax.tyInt Syntax.w64) (Row.valS (Row.sInt Syntax.w64))) 5 (Rows.sc-here (Row.sInt Syntax.w64)) (Syntax.tyInt Syntax.w64) (Row.valS (Row.sInt Syntax.w64))
               (Row.sInt Syntax.w64 .of) (Scalar.reads-sc 𝓤 H A W (Row.sInt Syntax.w64), Path'.refl) (Scalar.reads-sc 𝓤 H A W (Row.sInt Syntax.w64), Path'.refl) (Scalar.room-sc 𝓤 H
               A W (Row.sInt Syntax.w64)) (Scalar.holds-sc 𝓤 H A W (Row.sInt Syntax.w64)) Path'.refl (λ u. Path'.refl) λ u. tt) (Scalar.g-room 𝓤 H A W E G30 9 (Syntax.tyInt
               Syntax.w64) (Scalar.room-sc 𝓤 H A W (Row.sInt Syntax.w64))))
 
-          d12 : Typed.Typed 𝓤 H A 𝓣 E G28 b14 Δ5 at12
-          d12 = Typed.g-pre 𝓤 H A W 𝓣 E G28 G29 b14 Δ5 (λ Ψ. Ψ) at11 (Lifetime.g-forget 𝓤 H A W E G28 2 Row.dead Path'.refl) d11
+          d11 : Typed.Typed 𝓤 H A 𝓣 E G28 b14 Δ5 at11
+          d11 = Typed.g-pre 𝓤 H A W 𝓣 E G28 G29 b14 Δ5 (λ Ψ. Ψ) at10 (Lifetime.g-forget 𝓤 H A W E G28 2 Row.dead Path'.refl) d10
 
-          d13 : Typed.Typed 𝓤 H A 𝓣 E G27 b14 Δ5 at13
-          d13 = Typed.g-pre 𝓤 H A W 𝓣 E G27 G28 b14 Δ5 (Typed.both s24) at12 (Relend.g-back-sl 𝓤 H A W E LentTilePartEntry.row G27 12 3 1 2 (Syntax.tyRef (Syntax.named 1)
+          d12 : Typed.Typed 𝓤 H A 𝓣 E G27 b14 Δ5 at12
+          d12 = Typed.g-pre 𝓤 H A W 𝓣 E G27 G28 b14 Δ5 (Typed.both s24) at11 (Relend.g-back-sl 𝓤 H A W E LentTilePartEntry.row G27 12 3 1 2 (Syntax.tyRef (Syntax.named 1)
               Syntax.mut LentTilePartEntry.pointee) (Syntax.tyRef Syntax.erased Syntax.mut LentTilePartEntry.pointee) (Row.lease (κs .1 .0) (qs .1 .0)) (λ x. x) (λ x. x)
               (Reads'.as-is 𝓤 H A (Mut.msleft LentTilePartEntry.row (Syntax.tyRef Syntax.erased Syntax.mut LentTilePartEntry.pointee))) (Reads'.as-is 𝓤 H A (Relend.mslice-owed
-              LentTilePartEntry.row (Syntax.tyRef (Syntax.named 1) Syntax.mut LentTilePartEntry.pointee) 1 2 (Row.lease (κs .1 .0) (qs .1 .0)))) Path'.refl Path'.refl) d12
+              LentTilePartEntry.row (Syntax.tyRef (Syntax.named 1) Syntax.mut LentTilePartEntry.pointee) 1 2 (Row.lease (κs .1 .0) (qs .1 .0)))) Path'.refl Path'.refl) d11
 
-          d14 : Typed.Typed 𝓤 H A 𝓣 E G26 b14 Δ5 at14
-          d14 = Typed.g-pre 𝓤 H A W 𝓣 E G26 G27 b14 Δ5 (λ Ψ. Ψ) at13 (Lifetime.g-end 𝓤 H A W E G26 2 Path'.refl) d13
+          d13 : Typed.Typed 𝓤 H A 𝓣 E G26 b14 Δ5 at13
+          d13 = Typed.g-pre 𝓤 H A W 𝓣 E G26 G27 b14 Δ5 (λ Ψ. Ψ) at12 (Lifetime.g-end 𝓤 H A W E G26 2 Path'.refl) d12
 
-          d15 : Typed.Typed 𝓤 H A 𝓣 E G25 b14 Δ5 at15
-          d15 = Typed.g-pre 𝓤 H A W 𝓣 E G25 G26 b14 Δ5 (Typed.pass T25 T26 s22) at14 (Scalar.g-room 𝓤 H A W E G25 4 (Syntax.tyInt Syntax.w64) (Scalar.room-sc 𝓤 H A W (Row.sInt
-              Syntax.w64))) d14
+          d14 : Typed.Typed 𝓤 H A 𝓣 E G25 b14 Δ5 at14
+          d14 = Typed.g-pre 𝓤 H A W 𝓣 E G25 G26 b14 Δ5 (Typed.pass T25 T26 s22) at13 (Scalar.g-room 𝓤 H A W E G25 4 (Syntax.tyInt Syntax.w64) (Scalar.room-sc 𝓤 H A W (Row.sInt
+              Syntax.w64))) d13
 
-          d16 : Typed.Typed 𝓤 H A 𝓣 E G24 b15 Δ5 at16
-          d16 = Typed.s-seq 𝓤 H A W 𝓣 E G24 G25 b13 b14 Δ5 (Typed.both s21) at15 (Plain.t-call-plain 𝓤 H A W 𝓣 2 ps·1 r·1 (claims· .2) (claims· .3)
+          d15 : Typed.Typed 𝓤 H A 𝓣 E G24 b15 Δ5 at15
+          d15 = Typed.s-seq 𝓤 H A W 𝓣 E G24 G25 b13 b14 Δ5 (Typed.both s21) at14 (Plain.t-call-plain 𝓤 H A W 𝓣 2 ps·1 r·1 (claims· .2) (claims· .3)
               "records::main_header::fill_segment" (known .1) E (λ pos β. β) G24 (
                 record {
                   pos = 1;
@@ -1746,13 +1995,13 @@ module _ (claims· : Claims) where
                   (
                     Num.vAt 9 λ x. x,
                     (
-                      Num.vAt 6 λ x. x,
+                      record { pos = 6; st = List.[]; d = 0; at = λ x. x },
                       (
                         record {
                           pos = 12;
-                          ty = Syntax.tyRef Syntax.erased Syntax.mut LentTilePartEntry.pointee;
-                          ref = λ x.
-                              x;
+                          ty = Syntax.tyRef Syntax.erased Syntax.mut
+                              LentTilePartEntry.pointee;
+                          ref = λ x. x;
                         },
                         (Num.vAt 5 λ x. x, tt),
                       ),
@@ -1760,39 +2009,45 @@ module _ (claims· : Claims) where
                   ),
                 ),
               ) 6 (List._∷_ 0 (List._∷_ 2 List.[])) (Call.sub-id 𝓤 H A W (G24 .slots)) (
-                ShrSlice.spares-sslice 𝓤 H A W (Referent.rtF (Referent.fInt
-                    Syntax.w8)) (Syntax.tyRef (Syntax.named 0) Syntax.imm (Syntax.tyInt Syntax.w8)) 0,
-                Shared.reads-sslice 𝓤 H A W (Referent.rtF (Referent.fInt Syntax.w8)) (Syntax.tyRef
-                    (Syntax.named 0) Syntax.imm (Syntax.tyInt Syntax.w8)) 0,
+                ShrSlice.spares-sslice
+                    𝓤 H A W (Referent.rtF (Referent.fInt Syntax.w8)) (Syntax.tyRef (Syntax.named 0) Syntax.imm (Syntax.tyInt Syntax.w8)) 0,
+                Shared.reads-sslice 𝓤 H A W (Referent.rtF
+                    (Referent.fInt Syntax.w8)) (Syntax.tyRef (Syntax.named 0) Syntax.imm (Syntax.tyInt Syntax.w8)) 0,
                 Path'.refl,
                 (
-                  (Scalar.reads-sc 𝓤 H A W (Row.sInt Syntax.w64), Path'.refl),
                   (
+                    Scalar.reads-sc 𝓤 H A W (Row.sInt Syntax.w64),
+                    Path'.refl,
+                  ),
+                  (
+                    (Scalar.reads-sc 𝓤 H A W (Row.sInt Syntax.w64), Path'.refl),
                     (
-                      Scalar.reads-sc 𝓤 H A W (Row.sInt
-                          Syntax.w64),
-                      Path'.refl,
-                    ),
-                    (
-                      (Scalar.reads-sc 𝓤 H A W (Row.sInt Syntax.w64), Path'.refl),
                       (
-                        Reads'.as-is 𝓤 H A (Mut.mslice LentTilePartEntry.row (Syntax.tyRef
-                            Syntax.erased Syntax.mut LentTilePartEntry.pointee) 2),
-                        Mut.reads-mslice 𝓤 H A W LentTilePartEntry.row (Syntax.tyRef Syntax.erased Syntax.mut
-                            LentTilePartEntry.pointee) 2,
+                        Yields.yields-copy 𝓤 H A W (λ ρ. Unit) (Declared'.row CodestreamOffset.the-type)
+                            Path'.refl (Copies.cStruct CodestreamOffset.the-type Laws''.the-laws Laws''.the-copy .copy 𝓤 H A W) (Rows.whole (Declared'.row CodestreamOffset.the-type)) (λ x. x) (λ
+                            x. x) (λ ρ told. Local.mem-whole 𝓤 H A W (Declared'.row CodestreamOffset.the-type) ρ) λ ρ told. Local.whole-mem 𝓤 H A W (Declared'.row CodestreamOffset.the-type) ρ,
                         Path'.refl,
-                        ((Scalar.reads-sc 𝓤 H A W (Row.sInt Syntax.w64), Path'.refl), tt),
+                      ),
+                      (
+                        Reads'.as-is 𝓤 H A (Mut.mslice LentTilePartEntry.row (Syntax.tyRef Syntax.erased Syntax.mut LentTilePartEntry.pointee) 2),
+                        Mut.reads-mslice 𝓤 H A W
+                            LentTilePartEntry.row (Syntax.tyRef Syntax.erased Syntax.mut LentTilePartEntry.pointee) 2,
+                        Path'.refl,
+                        (
+                          (Scalar.reads-sc 𝓤 H A W (Row.sInt Syntax.w64), Path'.refl),
+                          tt,
+                        ),
                       ),
                     ),
                   ),
                 ),
-              ) (Scalar.room-sc 𝓤 H A W (Row.sInt Syntax.w64)) (
-                tt,
-                (tt, tt),
-              ) Path'.refl) d15
+              ) (Local.room-whole 𝓤 H A W (Declared'.row CodestreamOffset.the-type) (Syntax.tyStruct (List._∷_ 116 (List._∷_ 121 (List._∷_ 112 (List._∷_ 101 (List._∷_ 115
+              (List._∷_ 58 (List._∷_ 58 (List._∷_ 67 (List._∷_ 111 (List._∷_ 100 (List._∷_ 101 (List._∷_ 115 (List._∷_ 116 (List._∷_ 114 (List._∷_ 101 (List._∷_ 97 (List._∷_ 109
+              (List._∷_ 79 (List._∷_ 102 (List._∷_ 102 (List._∷_ 115 (List._∷_ 101 (List._∷_ 116 List.[]))))))))))))))))))))))) (Syntax.tcons (Syntax.tyInt Syntax.w64)
+              Syntax.tnil)) Path'.refl) (tt, (tt, tt)) Path'.refl) d14
 
-          d17 : Typed.Typed 𝓤 H A 𝓣 E G23 b16 Δ5 at17
-          d17 = Typed.s-seq 𝓤 H A W 𝓣 E G23 G24 b12 b15 Δ5 (Typed.ask s20) at16 (Relend.t-sl-aggregate 𝓤 H A W E LentTilePartEntry.row 𝓣 (Relend.asMut LentTilePartEntry.row) G23 11
+          d16 : Typed.Typed 𝓤 H A 𝓣 E G23 b16 Δ5 at16
+          d16 = Typed.s-seq 𝓤 H A W 𝓣 E G23 G24 b12 b15 Δ5 (Typed.ask s20) at15 (Relend.t-sl-aggregate 𝓤 H A W E LentTilePartEntry.row 𝓣 (Relend.asMut LentTilePartEntry.row) G23 11
               12 2 (Syntax.tyRef Syntax.erased Syntax.mut LentTilePartEntry.pointee) (Syntax.tyRef Syntax.erased Syntax.mut LentTilePartEntry.pointee) (λ x. x) (Scalar.oFld 3
               (List._∷_ (Syntax.field 1) List.[]) (Syntax.tyInt Syntax.w64) 8 λ v. Shared.lenV (v .0)) (Reads'.as-is 𝓤 H A (Relend.msptr LentTilePartEntry.row (Syntax.tyRef
               Syntax.erased Syntax.mut LentTilePartEntry.pointee) 2)) (Reads'.room-gone 𝓤 H A (Syntax.tyStruct (List._∷_ 38 (List._∷_ 91 (List._∷_ 93 List.[]))) (Syntax.tcons
@@ -1801,16 +2056,16 @@ module _ (claims· : Claims) where
                     LentTilePartEntry.row (Syntax.tyRef (Syntax.named 1) Syntax.mut LentTilePartEntry.pointee) 1 2 (Row.lease (κs .1 .0) (qs .1 .0)) 8 Path'.refl,
                 Path'.refl,
               ) Path'.refl
-              Path'.refl λ b o k. tt) d16
+              Path'.refl λ b o k. tt) d15
 
-          d18 : Typed.Typed 𝓤 H A 𝓣 E G22 b17 Δ5 at18
-          d18 = Typed.s-seq 𝓤 H A W 𝓣 E G22 G23 b11 b16 Δ5 (Typed.give s19) at17 (Relend.t-sl-relend 𝓤 H A W E LentTilePartEntry.row 𝓣 G22 3 11 1 2 (Syntax.tyRef (Syntax.named 1)
+          d17 : Typed.Typed 𝓤 H A 𝓣 E G22 b17 Δ5 at17
+          d17 = Typed.s-seq 𝓤 H A W 𝓣 E G22 G23 b11 b16 Δ5 (Typed.give s19) at16 (Relend.t-sl-relend 𝓤 H A W E LentTilePartEntry.row 𝓣 G22 3 11 1 2 (Syntax.tyRef (Syntax.named 1)
               Syntax.mut LentTilePartEntry.pointee) (Syntax.tyRef Syntax.erased Syntax.mut LentTilePartEntry.pointee) (Row.lease (κs .1 .0) (qs .1 .0)) 0 (λ x. x) (Reads'.as-is 𝓤 H
               A (Mut.mslice LentTilePartEntry.row (Syntax.tyRef (Syntax.named 1) Syntax.mut LentTilePartEntry.pointee) 1)) (Reads'.room-gone 𝓤 H A (Syntax.tyRef Syntax.erased
-              Syntax.mut LentTilePartEntry.pointee)) Path'.refl tt Path'.refl Path'.refl Path'.refl λ b o. tt) d17
+              Syntax.mut LentTilePartEntry.pointee)) Path'.refl tt Path'.refl Path'.refl Path'.refl λ b o. tt) d16
 
-          d19 : Typed.Typed 𝓤 H A 𝓣 E G21 b17 Δ5 at19
-          d19 = Typed.g-pre 𝓤 H A W 𝓣 E G21 G22 b17 Δ5 (λ Ψ. Ψ) at18 (Lifetime.g-begin 𝓤 H A W E G21 2 (
+          d18 : Typed.Typed 𝓤 H A 𝓣 E G21 b17 Δ5 at18
+          d18 = Typed.g-pre 𝓤 H A W 𝓣 E G21 G22 b17 Δ5 (λ Ψ. Ψ) at17 (Lifetime.g-begin 𝓤 H A W E G21 2 (
             tt,
             (
               tt,
@@ -1849,32 +2104,32 @@ module _ (claims· : Claims) where
                 ),
               ),
             ),
-          )) d18
+          )) d17
 
-          d20 : Typed.Typed 𝓤 H A 𝓣 E G20 b18 Δ5 at20
-          d20 = Typed.s-seq 𝓤 H A W 𝓣 E G20 G21 b10 b17 Δ5 (Typed.pass T20 T21 s17) at19 (Scalar.t-use 𝓤 H A W E 𝓣 G20 (Scalar.oFld 8 (List._∷_ (Syntax.field 2) List.[])
+          d19 : Typed.Typed 𝓤 H A 𝓣 E G20 b18 Δ5 at19
+          d19 = Typed.s-seq 𝓤 H A W 𝓣 E G20 G21 b10 b17 Δ5 (Typed.pass T20 T21 s17) at18 (Scalar.t-use 𝓤 H A W E 𝓣 G20 (Scalar.oFld 8 (List._∷_ (Syntax.field 2) List.[])
               (Syntax.tyInt Syntax.w64) 16 (Reads.fieldV Passed.the-type Laws.the-laws 2)) 9 (Rows.sc-here (Row.sInt Syntax.w64)) (Syntax.tyInt Syntax.w64) (Row.valS (Row.sInt
               Syntax.w64)) (Row.sInt Syntax.w64 .of) (Reads.reads-field 𝓤 H A W Passed.the-type Laws.the-laws 2 (Syntax.tyInt Syntax.w64) 16 Path'.refl, Path'.refl)
-              (Reads'.room-gone 𝓤 H A (Syntax.tyInt Syntax.w64)) (Scalar.holds-sc 𝓤 H A W (Row.sInt Syntax.w64)) Path'.refl (λ u. Path'.refl) λ u. tt) d19
+              (Reads'.room-gone 𝓤 H A (Syntax.tyInt Syntax.w64)) (Scalar.holds-sc 𝓤 H A W (Row.sInt Syntax.w64)) Path'.refl (λ u. Path'.refl) λ u. tt) d18
 
-          d21 : Typed.Typed 𝓤 H A 𝓣 E G18 b18 Δ5 at21
-          d21 = Typed.g-pre 𝓤 H A W 𝓣 E G18 G20 b18 Δ5 (Typed.pass T18 T20 s16) at20 (Scalar.g-room 𝓤 H A W E G18 10 Syntax.tyBool (Scalar.room-sc 𝓤 H A W Row.sBool)) d20
+          d20 : Typed.Typed 𝓤 H A 𝓣 E G18 b18 Δ5 at20
+          d20 = Typed.g-pre 𝓤 H A W 𝓣 E G18 G20 b18 Δ5 (Typed.pass T18 T20 s16) at19 (Scalar.g-room 𝓤 H A W E G18 10 Syntax.tyBool (Scalar.room-sc 𝓤 H A W Row.sBool)) d19
 
-          d22 : Typed.Typed 𝓤 H A 𝓣 E G33 b19 Δ5 at22
-          d22 = Typed.t-skip 𝓤 H A W 𝓣 E Δ5 tt
+          d21 : Typed.Typed 𝓤 H A 𝓣 E G33 b19 Δ5 at21
+          d21 = Typed.t-skip 𝓤 H A W 𝓣 E Δ5 tt
 
-          d23 : Typed.Typed 𝓤 H A 𝓣 E G32 b19 Δ5 at23
-          d23 = Typed.g-pre 𝓤 H A W 𝓣 E G32 G33 b19 Δ5 (Typed.pass T32 T33 s29) at22 (Scalar.g-room 𝓤 H A W E G32 10 Syntax.tyBool (Scalar.room-sc 𝓤 H A W Row.sBool)) d22
+          d22 : Typed.Typed 𝓤 H A 𝓣 E G32 b19 Δ5 at22
+          d22 = Typed.g-pre 𝓤 H A W 𝓣 E G32 G33 b19 Δ5 (Typed.pass T32 T33 s29) at21 (Scalar.g-room 𝓤 H A W E G32 10 Syntax.tyBool (Scalar.room-sc 𝓤 H A W Row.sBool)) d21
 
-          d24 : Typed.Typed 𝓤 H A 𝓣 E G18 b19 Δ5 at24
-          d24 = Typed.g-pre 𝓤 H A W 𝓣 E G18 G32 b19 Δ5 (Typed.pass T18 T32 s28) at23 (Scalar.g-room 𝓤 H A W E G18 4 (Syntax.tyInt Syntax.w64) (Scalar.room-sc 𝓤 H A W (Row.sInt
-              Syntax.w64))) d23
+          d23 : Typed.Typed 𝓤 H A 𝓣 E G18 b19 Δ5 at23
+          d23 = Typed.g-pre 𝓤 H A W 𝓣 E G18 G32 b19 Δ5 (Typed.pass T18 T32 s28) at22 (Scalar.g-room 𝓤 H A W E G18 4 (Syntax.tyInt Syntax.w64) (Scalar.room-sc 𝓤 H A W (Row.sInt
+              Syntax.w64))) d22
 
-          d25 : Typed.Typed 𝓤 H A 𝓣 E G18 b20 Δ5 at25
-          d25 = Scalar.t-cond 𝓤 H A W E 𝓣 G18 10 (λ x. x) b18 b19 Δ5 at21 at24 (Scalar.reads-sc 𝓤 H A W Row.sBool) Path'.refl d21 d24
+          d24 : Typed.Typed 𝓤 H A 𝓣 E G18 b20 Δ5 at24
+          d24 = Scalar.t-cond 𝓤 H A W E 𝓣 G18 10 (λ x. x) b18 b19 Δ5 at20 at23 (Scalar.reads-sc 𝓤 H A W Row.sBool) Path'.refl d20 d23
 
-          d26 : Typed.Typed 𝓤 H A 𝓣 E G19 b21 Δ3 at26
-          d26 = Typed.s-typed 𝓤 H A W 𝓣 E G19 b21 Δ3 (λ Ψ. Typed.pass T19 T34 s30 (Typed.pass T34 T35 s31 Ψ)) tt (Typed.g-post 𝓤 H A W 𝓣 E G19 G34 G35 b21 (Typed.pass T19 T34 s30)
+          d25 : Typed.Typed 𝓤 H A 𝓣 E G19 b21 Δ3 at25
+          d25 = Typed.s-typed 𝓤 H A W 𝓣 E G19 b21 Δ3 (λ Ψ. Typed.pass T19 T34 s30 (Typed.pass T34 T35 s31 Ψ)) tt (Typed.g-post 𝓤 H A W 𝓣 E G19 G34 G35 b21 (Typed.pass T19 T34 s30)
               (Typed.pass T34 T35 s31) (Scalar.t-use 𝓤 H A W E 𝓣 G19 (Scalar.oFld 8 (List._∷_ (Syntax.field 0) List.[]) (Syntax.tyInt Syntax.w64) 0 (Reads.fieldV Passed.the-type
               Laws.the-laws 0)) 4 (Rows.sc-here (Row.sInt Syntax.w64)) (Syntax.tyInt Syntax.w64) (Row.valS (Row.sInt Syntax.w64)) (Row.sInt Syntax.w64 .of) (
                 Reads.reads-field 𝓤 H A
@@ -1889,25 +2144,25 @@ module _ (claims· : Claims) where
               (List._∷_ 97 (List._∷_ 115 (List._∷_ 115 (List._∷_ 101 (List._∷_ 100 List.[])))))))))))))))))))) (Syntax.tcons (Syntax.tyInt Syntax.w64) (Syntax.tcons Syntax.tyBool
               (Syntax.tcons (Syntax.tyInt Syntax.w64) Syntax.tnil)))) Path'.refl)))
 
-          d27 : Typed.Typed 𝓤 H A 𝓣 E G18 b22 Δ3 at27
-          d27 = Typed.t-seq 𝓤 H A W 𝓣 E G18 G19 b20 b21 Δ3 at25 at26 d25 d26
+          d26 : Typed.Typed 𝓤 H A 𝓣 E G18 b22 Δ3 at26
+          d26 = Typed.t-seq 𝓤 H A W 𝓣 E G18 G19 b20 b21 Δ3 at24 at25 d24 d25
 
-          d28 : Typed.Typed 𝓤 H A 𝓣 E G7 b23 Δ3 at28
-          d28 = Typed.s-seq 𝓤 H A W 𝓣 E G7 G18 b9 b22 Δ3 (Typed.pass T7 T18 s15) at27 (Scalar.t-use 𝓤 H A W E 𝓣 G7 (Scalar.oFld 8 (List._∷_ (Syntax.field 1) List.[]) Syntax.tyBool
+          d27 : Typed.Typed 𝓤 H A 𝓣 E G8 b23 Δ3 at27
+          d27 = Typed.s-seq 𝓤 H A W 𝓣 E G8 G18 b9 b22 Δ3 (Typed.pass T8 T18 s15) at26 (Scalar.t-use 𝓤 H A W E 𝓣 G8 (Scalar.oFld 8 (List._∷_ (Syntax.field 1) List.[]) Syntax.tyBool
               8 (Reads.fieldV Passed.the-type Laws.the-laws 1)) 10 (Rows.sc-here Row.sBool) Syntax.tyBool (Row.valS Row.sBool) (Row.sBool .of) (
                 Reads.reads-field 𝓤 H A W
                     Passed.the-type Laws.the-laws 1 Syntax.tyBool 8 Path'.refl,
                 Path'.refl,
               ) (Reads'.room-gone 𝓤 H A Syntax.tyBool) (Scalar.holds-sc 𝓤 H A W Row.sBool) Path'.refl (λ u.
-              Path'.refl) λ u. tt) d27
+              Path'.refl) λ u. tt) d26
 
-          d29 : Typed.Typed 𝓤 H A 𝓣 E G6 b24 Δ3 at29
-          d29 = Typed.t-seq 𝓤 H A W 𝓣 E G6 G7 b8 b23 Δ3 at10 at28 d10 d28
+          d28 : Typed.Typed 𝓤 H A 𝓣 E G7 b24 Δ3 at28
+          d28 = Typed.t-seq 𝓤 H A W 𝓣 E G7 G8 b8 b23 Δ3 at9 at27 d9 d27
 
-          d30 : Typed.Typed 𝓤 H A 𝓣 E G5 b25 Δ3 at30
-          d30 = Typed.s-seq 𝓤 H A W 𝓣 E G5 G6 b3 b24 Δ3 (Typed.both s4) at29 (Plain.t-call-plain 𝓤 H A W 𝓣 1 ps·0 r·0 (claims· .0) (claims· .1) "header::walk::walk_step" (known .0)
-              E (λ pos β. β) G5 (record { pos = 1; ty = Syntax.tyRef (Syntax.named 0) Syntax.imm (Syntax.tyInt Syntax.w8); ref = λ x. x }, (Num.vAt 4 λ x. x, tt)) 7 (List._∷_ 0
-              List.[]) (Call.sub-id 𝓤 H A W (G5 .slots)) (
+          d29 : Typed.Typed 𝓤 H A 𝓣 E G6 b25 Δ3 at29
+          d29 = Typed.s-seq 𝓤 H A W 𝓣 E G6 G7 b3 b24 Δ3 (Typed.both s5) at28 (Plain.t-call-plain 𝓤 H A W 𝓣 1 ps·0 r·0 (claims· .0) (claims· .1) "header::walk::walk_step" (known .0)
+              E (λ pos β. β) G6 (record { pos = 1; ty = Syntax.tyRef (Syntax.named 0) Syntax.imm (Syntax.tyInt Syntax.w8); ref = λ x. x }, (Num.vAt 4 λ x. x, tt)) 7 (List._∷_ 0
+              List.[]) (Call.sub-id 𝓤 H A W (G6 .slots)) (
                 ShrSlice.spares-sslice 𝓤 H A W (Referent.rtF (Referent.fInt Syntax.w8)) (Syntax.tyRef (Syntax.named 0) Syntax.imm
                     (Syntax.tyInt Syntax.w8)) 0,
                 Shared.reads-sslice 𝓤 H A W (Referent.rtF (Referent.fInt Syntax.w8)) (Syntax.tyRef (Syntax.named 0) Syntax.imm (Syntax.tyInt Syntax.w8))
@@ -1922,27 +2177,44 @@ module _ (claims· : Claims) where
               (Syntax.tyInt Syntax.w64) (Syntax.tcons Syntax.tyBool (Syntax.tcons (Syntax.tyInt Syntax.w64) Syntax.tnil)))) Syntax.tnil) (Syntax.ttcons Syntax.tnil (Syntax.ttcons
               (Syntax.tcons (Syntax.tyStruct (List._∷_ 116 (List._∷_ 121 (List._∷_ 112 (List._∷_ 101 (List._∷_ 115 (List._∷_ 58 (List._∷_ 58 (List._∷_ 82 (List._∷_ 101 (List._∷_
               102 (List._∷_ 117 (List._∷_ 115 (List._∷_ 97 (List._∷_ 108 List.[])))))))))))))) (Syntax.tcons (Syntax.tyInt Syntax.w32) (Syntax.tcons (Syntax.tyInt Syntax.w64)
-              Syntax.tnil))) Syntax.tnil) Syntax.ttnil))))) (tt, tt) Path'.refl) d29
+              Syntax.tnil))) Syntax.tnil) Syntax.ttnil))))) (tt, tt) Path'.refl) d28
 
-          d31 : Typed.Typed 𝓤 H A 𝓣 E G5 b26 Δ2 at31
-          d31 = Typed.t-loop-by 𝓤 H A W 𝓣 E G5 b25 Δ2 put0 (λ u vs. Inv·0 (Row.get 1 (T5 .locals) u .now) (Row.get 2 (T5 .locals) u) (Row.get 3 (T5 .locals) u .now) (Row.get 4 (T5
-              .locals) u) (Row.get 5 (T5 .locals) u) (Row.get 6 (T5 .locals) u) (vs .0) (vs .1) (vs .2) (vs .3)) (λ u vs. μ·0 (Row.get 1 (T5 .locals) u .now) (Row.get 2 (T5
-              .locals) u) (Row.get 3 (T5 .locals) u .now) (Row.get 4 (T5 .locals) u) (Row.get 5 (T5 .locals) u) (Row.get 6 (T5 .locals) u) (vs .0) (vs .1) (vs .2) (vs .3)) at30 d30
+          d30 : Typed.Typed 𝓤 H A 𝓣 E G6 b26 Δ2 at30
+          d30 = Typed.t-loop-by 𝓤 H A W 𝓣 E G6 b25 Δ2 put0 (λ u vs. Inv·0 (Row.get 1 (T6 .locals) u .now) (Row.get 3 (T6 .locals) u .now) (Row.get 4 (T6 .locals) u) (Row.get 5 (T6
+              .locals) u) (Row.get 6 (T6 .locals) u) (vs .0) (vs .1) (vs .2) (vs .3)) (λ u vs. μ·0 (Row.get 1 (T6 .locals) u .now) (Row.get 3 (T6 .locals) u .now) (Row.get 4 (T6
+              .locals) u) (Row.get 5 (T6 .locals) u) (Row.get 6 (T6 .locals) u) (vs .0) (vs .1) (vs .2) (vs .3)) at29 d29
+
+          d31 : Typed.Typed 𝓤 H A 𝓣 E G6 b27 Δ1 at31
+          d31 = Typed.t-block 𝓤 H A W 𝓣 E G6 b26 Δ1 at30 d30
 
           d32 : Typed.Typed 𝓤 H A 𝓣 E G5 b27 Δ1 at32
-          d32 = Typed.t-block 𝓤 H A W 𝓣 E G5 b26 Δ1 at31 d31
+          d32 = Typed.g-pre 𝓤 H A W 𝓣 E G5 G6 b27 Δ1 (Typed.pass T5 T6 s4) at31 (Scalar.g-room 𝓤 H A W E G5 2 (Syntax.tyStruct (List._∷_ 116 (List._∷_ 121 (List._∷_ 112 (List._∷_
+              101 (List._∷_ 115 (List._∷_ 58 (List._∷_ 58 (List._∷_ 67 (List._∷_ 111 (List._∷_ 100 (List._∷_ 101 (List._∷_ 115 (List._∷_ 116 (List._∷_ 114 (List._∷_ 101 (List._∷_
+              97 (List._∷_ 109 (List._∷_ 79 (List._∷_ 102 (List._∷_ 102 (List._∷_ 115 (List._∷_ 101 (List._∷_ 116 List.[]))))))))))))))))))))))) (Syntax.tcons (Syntax.tyInt
+              Syntax.w64) Syntax.tnil)) (Local.room-whole 𝓤 H A W (Declared'.row CodestreamOffset.the-type) (Syntax.tyStruct (List._∷_ 116 (List._∷_ 121 (List._∷_ 112 (List._∷_ 101
+              (List._∷_ 115 (List._∷_ 58 (List._∷_ 58 (List._∷_ 67 (List._∷_ 111 (List._∷_ 100 (List._∷_ 101 (List._∷_ 115 (List._∷_ 116 (List._∷_ 114 (List._∷_ 101 (List._∷_ 97
+              (List._∷_ 109 (List._∷_ 79 (List._∷_ 102 (List._∷_ 102 (List._∷_ 115 (List._∷_ 101 (List._∷_ 116 List.[]))))))))))))))))))))))) (Syntax.tcons (Syntax.tyInt
+              Syntax.w64) Syntax.tnil)) Path'.refl)) d31
 
           d33 : Typed.Typed 𝓤 H A 𝓣 E G5 b29 Δ0 at33
           d33 = Dead.t-seq-dead 𝓤 H A W 𝓣 E G5 b27 b28 Δ0 at32 d32
 
           d34 : Typed.Typed 𝓤 H A 𝓣 E G4 b30 Δ0 at34
-          d34 = Typed.s-seq 𝓤 H A W 𝓣 E G4 G5 b2 b29 Δ0 (Typed.pass T4 T5 s3) at33 (Scalar.t-use 𝓤 H A W E 𝓣 G4 (Scalar.oAt 2 (Syntax.tyInt Syntax.w64) (Row.valS (Row.sInt
-              Syntax.w64))) 6 (Rows.sc-here (Row.sInt Syntax.w64)) (Syntax.tyInt Syntax.w64) (Row.valS (Row.sInt Syntax.w64)) (Row.sInt Syntax.w64 .of) (
-                Scalar.reads-sc 𝓤 H A W
-                    (Row.sInt Syntax.w64),
-                Path'.refl,
-              ) (Reads'.room-gone 𝓤 H A (Syntax.tyInt Syntax.w64)) (Scalar.holds-sc 𝓤 H A W (Row.sInt Syntax.w64)) Path'.refl (λ u. Path'.refl) λ
-              u. tt) d33
+          d34 = Typed.s-seq 𝓤 H A W 𝓣 E G4 G5 b2 b29 Δ0 (Typed.pass T4 T5 s3) at33 (LocalCopy.t-val-copy 𝓤 H A W E 𝓣 (λ ρ. Unit) G4 2 6 (Declared'.row CodestreamOffset.the-type)
+              (Syntax.tyStruct (List._∷_ 116 (List._∷_ 121 (List._∷_ 112 (List._∷_ 101 (List._∷_ 115 (List._∷_ 58 (List._∷_ 58 (List._∷_ 67 (List._∷_ 111 (List._∷_ 100 (List._∷_
+              101 (List._∷_ 115 (List._∷_ 116 (List._∷_ 114 (List._∷_ 101 (List._∷_ 97 (List._∷_ 109 (List._∷_ 79 (List._∷_ 102 (List._∷_ 102 (List._∷_ 115 (List._∷_ 101 (List._∷_
+              116 List.[]))))))))))))))))))))))) (Syntax.tcons (Syntax.tyInt Syntax.w64) Syntax.tnil)) (Syntax.tyStruct (List._∷_ 116 (List._∷_ 121 (List._∷_ 112 (List._∷_ 101
+              (List._∷_ 115 (List._∷_ 58 (List._∷_ 58 (List._∷_ 67 (List._∷_ 111 (List._∷_ 100 (List._∷_ 101 (List._∷_ 115 (List._∷_ 116 (List._∷_ 114 (List._∷_ 101 (List._∷_ 97
+              (List._∷_ 109 (List._∷_ 79 (List._∷_ 102 (List._∷_ 102 (List._∷_ 115 (List._∷_ 101 (List._∷_ 116 List.[]))))))))))))))))))))))) (Syntax.tcons (Syntax.tyInt
+              Syntax.w64) Syntax.tnil)) (Rows.whole (Declared'.row CodestreamOffset.the-type)) (Rows.whole (Declared'.row CodestreamOffset.the-type)) (λ x. x) (λ x. x) (λ x. x)
+              Path'.refl (Own.told-none 𝓤 H A (G4 .slots)) (Yields.yields-copy 𝓤 H A W (λ ρ. Unit) (Declared'.row CodestreamOffset.the-type) Path'.refl (Copies.cStruct
+              CodestreamOffset.the-type Laws''.the-laws Laws''.the-copy .copy 𝓤 H A W) (Rows.whole (Declared'.row CodestreamOffset.the-type)) (λ x. x) (λ x. x) (λ ρ told.
+              Local.mem-whole 𝓤 H A W (Declared'.row CodestreamOffset.the-type) ρ) λ ρ told. Local.whole-mem 𝓤 H A W (Declared'.row CodestreamOffset.the-type) ρ) (Reads'.room-gone
+              𝓤 H A (Syntax.tyStruct (List._∷_ 116 (List._∷_ 121 (List._∷_ 112 (List._∷_ 101 (List._∷_ 115 (List._∷_ 58 (List._∷_ 58 (List._∷_ 67 (List._∷_ 111 (List._∷_ 100
+              (List._∷_ 101 (List._∷_ 115 (List._∷_ 116 (List._∷_ 114 (List._∷_ 101 (List._∷_ 97 (List._∷_ 109 (List._∷_ 79 (List._∷_ 102 (List._∷_ 102 (List._∷_ 115 (List._∷_ 101
+              (List._∷_ 116 List.[]))))))))))))))))))))))) (Syntax.tcons (Syntax.tyInt Syntax.w64) Syntax.tnil))) (Yields.makes-mem 𝓤 H A W (λ ρ. Unit) (Declared'.row
+              CodestreamOffset.the-type) Path'.refl (Rows.whole (Declared'.row CodestreamOffset.the-type)) (λ x. x) λ ρ told. Local.whole-mem 𝓤 H A W (Declared'.row
+              CodestreamOffset.the-type) ρ) Path'.refl Path'.refl) d33
 
           d35 : Typed.Typed 𝓤 H A 𝓣 E G3 b31 Δ0 at35
           d35 = Typed.s-seq 𝓤 H A W 𝓣 E G3 G4 b1 b30 Δ0 (Typed.pass T3 T4 s2) at34 (Scalar.t-use 𝓤 H A W E 𝓣 G3 (Scalar.oInt Syntax.w64 0) 5 (Rows.sc-here (Row.sInt Syntax.w64))
@@ -1965,15 +2237,30 @@ module _ (claims· : Claims) where
       module _ (κs : Lifetimes.Lfts 2) where
         pub record Args : Type 0 where
           pub codestream : Kinds.Den {n = 2} κs (ShrSlice.pShrS (Referent.rtF (Referent.fInt Syntax.w8)) 0 tt)
-          pub first-sot : Kinds.Den {n = 2} κs (Num.pNum Syntax.w64)
+          pub first-sot : Kinds.Den {n = 2} κs (Value.pVal record {
+            ty = Declared'.row CodestreamOffset.the-type;
+            one = Path'.refl;
+            val = Laws'4.val CodestreamOffset.the-type
+                Laws''.the-laws;
+            tells = Laws'4.tells CodestreamOffset.the-type Laws''.the-laws;
+            still = Laws'4.still CodestreamOffset.the-type Laws''.the-copy Exit.yes;
+            row =
+                Rows.whole (Declared'.row CodestreamOffset.the-type);
+            rd = λ x. x;
+            mk = λ x. x;
+          } λ M 𝓤 H A W. record {
+            copies = Laws'4.copy CodestreamOffset.the-type Laws''.the-copy
+                𝓤 H A W;
+            lawful = Laws'4.lawful CodestreamOffset.the-type Laws''.the-laws 𝓤 H A W;
+            makes = Laws'4.makes CodestreamOffset.the-type Laws''.the-plain 𝓤 H A;
+            in-mem =
+                Local.mem-whole 𝓤 H A W (Declared'.row CodestreamOffset.the-type);
+            of-mem = Local.whole-mem 𝓤 H A W (Declared'.row CodestreamOffset.the-type);
+          })
           pub table : Kinds.Den {n = 2} κs (MutSlice.pMutS LentTilePartEntry.row 1 tt)
 
         abbrev pub dens : (a : Args) → Kinds.Dens κs ps
         dens = λ a. (a .codestream, (a .first-sot, (a .table, tt)))
-
-        module _ (args· : Args) where
-          pub record Ranges : Type 0 where
-            pub first-sot : Val.Fits Syntax.w64 (args· .first-sot)
 
       abbrev pub m0 : (κs : Lifetimes.Lfts 2) → (args : Args κs) → Typed.Mo T0
       m0 = λ κs args. (tt, Enter.partsP κs 1 ps xs (dens κs args))
@@ -1990,7 +2277,6 @@ module _ (claims· : Claims) where
         pub κs : Lifetimes.Lfts 2
         pub args : Args κs
         pub good : Kinds.GoodsP κs ps (dens κs args)
-        pub fits : Ranges κs args
         pub pre : Pre· κs (dens κs args)
 
       abbrev pub m1 : (before : Start) → (given : s0 .gives (m0 (before .κs) (before .args))) → Typed.Mo T2
@@ -2008,6 +2294,9 @@ module _ (claims· : Claims) where
       abbrev W1 : (before : Start) → (given : s0 .gives (m0 (before .κs) (before .args))) → Typed.Want O1
       W1 = λ before given. Dead.wantNone O0 (W0 (before .κs) (before .args))
 
+      abbrev pub m5 : (before : Start) → (given : s0 .gives (m0 (before .κs) (before .args))) → Typed.Mo T6
+      m5 = λ before given. s4 (m4 before given)
+
       abbrev W2 : (before : Start) → (given : s0 .gives (m0 (before .κs) (before .args))) → Typed.Want O2
       W2 = λ before given. Typed.inBlock O1 (W1 before given)
 
@@ -2020,130 +2309,126 @@ module _ (claims· : Claims) where
         pub shared-slice-known : After-shared-slice-known·own before
 
       abbrev pub Need-loop-holds : Type 0
-      Need-loop-holds = (c : After-shared-slice-known) → Inv·0 (Row.get 1 (T5 .locals) (m4 (c .before) (c .shared-slice-known .given)) .now) (Row.get 2 (T5 .locals) (m4 (c .before)
-          (c .shared-slice-known .given))) (Row.get 3 (T5 .locals) (m4 (c .before) (c .shared-slice-known .given)) .now) (Row.get 4 (T5 .locals) (m4 (c .before) (c
-          .shared-slice-known .given))) (Row.get 5 (T5 .locals) (m4 (c .before) (c .shared-slice-known .given))) (Row.get 6 (T5 .locals) (m4 (c .before) (c .shared-slice-known
-          .given))) (Row.get 3 (T5 .locals) (m4 (c .before) (c .shared-slice-known .given)) .now) (Row.get 4 (T5 .locals) (m4 (c .before) (c .shared-slice-known .given))) (Row.get
-          5 (T5 .locals) (m4 (c .before) (c .shared-slice-known .given))) (Row.get 6 (T5 .locals) (m4 (c .before) (c .shared-slice-known .given)))
+      Need-loop-holds = (c : After-shared-slice-known) → Inv·0 (Row.get 1 (T6 .locals) (m5 (c .before) (c .shared-slice-known .given)) .now) (Row.get 3 (T6 .locals) (m5 (c .before)
+          (c .shared-slice-known .given)) .now) (Row.get 4 (T6 .locals) (m5 (c .before) (c .shared-slice-known .given))) (Row.get 5 (T6 .locals) (m5 (c .before) (c
+          .shared-slice-known .given))) (Row.get 6 (T6 .locals) (m5 (c .before) (c .shared-slice-known .given))) (Row.get 3 (T6 .locals) (m5 (c .before) (c .shared-slice-known
+          .given)) .now) (Row.get 4 (T6 .locals) (m5 (c .before) (c .shared-slice-known .given))) (Row.get 5 (T6 .locals) (m5 (c .before) (c .shared-slice-known .given))) (Row.get
+          6 (T6 .locals) (m5 (c .before) (c .shared-slice-known .given)))
 
-      abbrev pub m5 : (before : After-shared-slice-known) → (table : List.List (LentTilePartEntry.row .Denot)) → (at : Rows.sc-here (Row.sInt Syntax.w64) .Mod) → (row :
-          Rows.sc-here (Row.sInt Syntax.w64) .Mod) → (offset : Rows.sc-here (Row.sInt Syntax.w64) .Mod) → Typed.Mo T5
-      m5 = λ before table at row offset. Row.set 6 (6, Rows.sc-here (Row.sInt Syntax.w64)) offset (Row.setRow 5 (5, Rows.sc-here (Row.sInt Syntax.w64)) (Row.setRow 4 (
-        4,
-        Rows.sc-here (Row.sInt Syntax.w64),
-      ) (Row.setRow 3 (3, Mut.mslice LentTilePartEntry.row (Syntax.tyRef (Syntax.named 1) Syntax.mut LentTilePartEntry.pointee) 1) (T5
-          .locals)))) (Row.set 5 (5, Rows.sc-here (Row.sInt Syntax.w64)) row (Row.setRow 4 (4, Rows.sc-here (Row.sInt Syntax.w64)) (Row.setRow 3 (
+      abbrev pub m6 : (before : After-shared-slice-known) → (table : List.List (LentTilePartEntry.row .Denot)) → (at : Rows.sc-here (Row.sInt Syntax.w64) .Mod) → (row :
+          Rows.sc-here (Row.sInt Syntax.w64) .Mod) → (offset : Rows.whole (Declared'.row CodestreamOffset.the-type) .Mod) → Typed.Mo T6
+      m6 = λ before table at row offset. Row.set 6 (6, Rows.whole (Declared'.row CodestreamOffset.the-type)) offset (Row.setRow 5 (5, Rows.sc-here (Row.sInt Syntax.w64))
+          (Row.setRow 4 (4, Rows.sc-here (Row.sInt Syntax.w64)) (Row.setRow 3 (
             3,
-            Mut.mslice
-                LentTilePartEntry.row (Syntax.tyRef (Syntax.named 1) Syntax.mut LentTilePartEntry.pointee) 1,
-          ) (T5 .locals))) (Row.set 4 (4, Rows.sc-here (Row.sInt Syntax.w64)) at
-          (Row.setRow 3 (3, Mut.mslice LentTilePartEntry.row (Syntax.tyRef (Syntax.named 1) Syntax.mut LentTilePartEntry.pointee) 1) (T5 .locals)) (Row.set 3 (
+            Mut.mslice LentTilePartEntry.row (Syntax.tyRef (Syntax.named 1) Syntax.mut
+                LentTilePartEntry.pointee) 1,
+          ) (T6 .locals)))) (Row.set 5 (5, Rows.sc-here (Row.sInt Syntax.w64)) row (Row.setRow 4 (4, Rows.sc-here (Row.sInt Syntax.w64)) (Row.setRow 3
+          (3, Mut.mslice LentTilePartEntry.row (Syntax.tyRef (Syntax.named 1) Syntax.mut LentTilePartEntry.pointee) 1) (T6 .locals))) (Row.set 4 (
+            4,
+            Rows.sc-here (Row.sInt
+                Syntax.w64),
+          ) at (Row.setRow 3 (3, Mut.mslice LentTilePartEntry.row (Syntax.tyRef (Syntax.named 1) Syntax.mut LentTilePartEntry.pointee) 1) (T6 .locals)) (Row.set 3 (
             3,
-            Mut.mslice
-                LentTilePartEntry.row (Syntax.tyRef (Syntax.named 1) Syntax.mut LentTilePartEntry.pointee) 1,
+            Mut.mslice LentTilePartEntry.row (Syntax.tyRef (Syntax.named 1) Syntax.mut LentTilePartEntry.pointee) 1,
           ) record {
-            ptr = Row.get 3 (T5 .locals) (m4 (before .before) (before
-                .shared-slice-known .given)) .ptr;
-            name = Row.get 3 (T5 .locals) (m4 (before .before) (before .shared-slice-known .given)) .name;
+            ptr = Row.get 3 (T6 .locals) (m5 (before .before)
+                (before .shared-slice-known .given)) .ptr;
+            name = Row.get 3 (T6 .locals) (m5 (before .before) (before .shared-slice-known .given)) .name;
             now = table;
-          } (T5 .locals) (m4 (before
-          .before) (before .shared-slice-known .given)))))
+          } (T6 .locals) (m5
+          (before .before) (before .shared-slice-known .given)))))
 
       abbrev W3 : (before : After-shared-slice-known) → (table : List.List (LentTilePartEntry.row .Denot)) → (at : Rows.sc-here (Row.sInt Syntax.w64) .Mod) → (row : Rows.sc-here
-          (Row.sInt Syntax.w64) .Mod) → (offset : Rows.sc-here (Row.sInt Syntax.w64) .Mod) → Typed.Want O3
-      W3 = λ before table at row offset. Typed.inLoop T5 O2 (Typed.Round T5 O2 put0 (λ u vs. Inv·0 (Row.get 1 (T5 .locals) u .now) (Row.get 2 (T5 .locals) u) (Row.get 3 (T5
-          .locals) u .now) (Row.get 4 (T5 .locals) u) (Row.get 5 (T5 .locals) u) (Row.get 6 (T5 .locals) u) (vs .0) (vs .1) (vs .2) (vs .3)) (λ u vs. μ·0 (Row.get 1 (T5 .locals) u
-          .now) (Row.get 2 (T5 .locals) u) (Row.get 3 (T5 .locals) u .now) (Row.get 4 (T5 .locals) u) (Row.get 5 (T5 .locals) u) (Row.get 6 (T5 .locals) u) (vs .0) (vs .1) (vs .2)
-          (vs .3)) at30 (m4 (before .before) (before .shared-slice-known .given)) (table, at, row, offset)) (W2 (before .before) (before .shared-slice-known .given))
+          (Row.sInt Syntax.w64) .Mod) → (offset : Rows.whole (Declared'.row CodestreamOffset.the-type) .Mod) → Typed.Want O3
+      W3 = λ before table at row offset. Typed.inLoop T6 O2 (Typed.Round T6 O2 put0 (λ u vs. Inv·0 (Row.get 1 (T6 .locals) u .now) (Row.get 3 (T6 .locals) u .now) (Row.get 4 (T6
+          .locals) u) (Row.get 5 (T6 .locals) u) (Row.get 6 (T6 .locals) u) (vs .0) (vs .1) (vs .2) (vs .3)) (λ u vs. μ·0 (Row.get 1 (T6 .locals) u .now) (Row.get 3 (T6 .locals) u
+          .now) (Row.get 4 (T6 .locals) u) (Row.get 5 (T6 .locals) u) (Row.get 6 (T6 .locals) u) (vs .0) (vs .1) (vs .2) (vs .3)) at29 (m5 (before .before) (before
+          .shared-slice-known .given)) (table, at, row, offset)) (W2 (before .before) (before .shared-slice-known .given))
 
       module _ (before· : After-shared-slice-known) where
         pub record At-loop·own : Type 0 where
           pub table : List.List (LentTilePartEntry.row .Denot)
           pub at : Rows.sc-here (Row.sInt Syntax.w64) .Mod
           pub row : Rows.sc-here (Row.sInt Syntax.w64) .Mod
-          pub offset : Rows.sc-here (Row.sInt Syntax.w64) .Mod
-          pub inv : Inv·0 (Row.get 1 (T5 .locals) (m4 (before· .before) (before· .shared-slice-known .given)) .now) (Row.get 2 (T5 .locals) (m4 (before· .before) (before·
-              .shared-slice-known .given))) (Row.get 3 (T5 .locals) (m4 (before· .before) (before· .shared-slice-known .given)) .now) (Row.get 4 (T5 .locals) (m4 (before· .before)
-              (before· .shared-slice-known .given))) (Row.get 5 (T5 .locals) (m4 (before· .before) (before· .shared-slice-known .given))) (Row.get 6 (T5 .locals) (m4 (before·
-              .before) (before· .shared-slice-known .given))) table at row offset
+          pub offset : Rows.whole (Declared'.row CodestreamOffset.the-type) .Mod
+          pub inv : Inv·0 (Row.get 1 (T6 .locals) (m5 (before· .before) (before· .shared-slice-known .given)) .now) (Row.get 3 (T6 .locals) (m5 (before· .before) (before·
+              .shared-slice-known .given)) .now) (Row.get 4 (T6 .locals) (m5 (before· .before) (before· .shared-slice-known .given))) (Row.get 5 (T6 .locals) (m5 (before· .before)
+              (before· .shared-slice-known .given))) (Row.get 6 (T6 .locals) (m5 (before· .before) (before· .shared-slice-known .given))) table at row offset
 
       pub record At-loop : Type 0 where
         pub before : After-shared-slice-known
         pub loop : At-loop·own before
 
       abbrev pub Need-walk-step-requires : Type 0
-      Need-walk-step-requires = (c : At-loop) → s4 .asks (m5 (c .before) (c .loop .table) (c .loop .at) (c .loop .row) (c .loop .offset))
+      Need-walk-step-requires = (c : At-loop) → s5 .asks (m6 (c .before) (c .loop .table) (c .loop .at) (c .loop .row) (c .loop .offset))
 
-      abbrev pub m6 : (before : At-loop) → (given : s4 .gives (m5 (before .before) (before .loop .table) (before .loop .at) (before .loop .row) (before .loop .offset))) → Typed.Mo
-          T6
-      m6 = λ before given. s4 .next (m5 (before .before) (before .loop .table) (before .loop .at) (before .loop .row) (before .loop .offset)) given
+      abbrev pub m7 : (before : At-loop) → (given : s5 .gives (m6 (before .before) (before .loop .table) (before .loop .at) (before .loop .row) (before .loop .offset))) → Typed.Mo
+          T7
+      m7 = λ before given. s5 .next (m6 (before .before) (before .loop .table) (before .loop .at) (before .loop .row) (before .loop .offset)) given
 
       module _ (before· : At-loop) where
         abbrev pub After-walk-step·own : Type 0
-        After-walk-step·own = Called.Called ps·0 r·0 (claims· .1) T5 (
+        After-walk-step·own = Called.Called ps·0 r·0 (claims· .1) T6 (
           record { pos = 1; ty = Syntax.tyRef (Syntax.named 0) Syntax.imm (Syntax.tyInt Syntax.w8); ref = λ x. x },
           (Num.vAt 4 λ x. x, tt),
-        ) (m5 (before· .before) (before· .loop .table) (before· .loop .at) (before· .loop .row) (before· .loop .offset))
+        ) (m6 (before· .before) (before· .loop .table) (before· .loop .at) (before· .loop .row) (before· .loop .offset))
 
       pub record After-walk-step : Type 0 where
         pub before : At-loop
         pub walk-step : After-walk-step·own before
 
-      abbrev pub After-walk-step·gave : (c : After-walk-step) → s4 .gives (m5 (c .before .before) (c .before .loop .table) (c .before .loop .at) (c .before .loop .row) (c .before
+      abbrev pub After-walk-step·gave : (c : After-walk-step) → s5 .gives (m6 (c .before .before) (c .before .loop .table) (c .before .loop .at) (c .before .loop .row) (c .before
           .loop .offset))
-      After-walk-step·gave = λ c. Called.given ps·0 r·0 (claims· .1) T5 (
+      After-walk-step·gave = λ c. Called.given ps·0 r·0 (claims· .1) T6 (
         record { pos = 1; ty = Syntax.tyRef (Syntax.named 0) Syntax.imm (Syntax.tyInt Syntax.w8); ref = λ x. x },
         (Num.vAt 4 λ x. x, tt),
-      ) (m5 (c .before .before) (c .before .loop .table) (c .before .loop .at) (c .before .loop .row) (c .before .loop .offset)) (c .walk-step)
+      ) (m6 (c .before .before) (c .before .loop .table) (c .before .loop .at) (c .before .loop .row) (c .before .loop .offset)) (c .walk-step)
 
-      abbrev W4 : (before : At-loop) → (given : s4 .gives (m5 (before .before) (before .loop .table) (before .loop .at) (before .loop .row) (before .loop .offset))) → Typed.Want O4
-      W4 = λ before given. Typed.wantNext T7 O3 (at28 (W3 (before .before) (before .loop .table) (before .loop .at) (before .loop .row) (before .loop .offset))) (W3 (before
+      abbrev W4 : (before : At-loop) → (given : s5 .gives (m6 (before .before) (before .loop .table) (before .loop .at) (before .loop .row) (before .loop .offset))) → Typed.Want O4
+      W4 = λ before given. Typed.wantNext T8 O3 (at27 (W3 (before .before) (before .loop .table) (before .loop .at) (before .loop .row) (before .loop .offset))) (W3 (before
           .before) (before .loop .table) (before .loop .at) (before .loop .row) (before .loop .offset))
 
       module _ (before· : After-walk-step) where
         pub record At-match-keys1·own : Type 0 where
-          pub keys1 : Run.OneOf (List._∷_ 0 List.[]) (Declared.tagOf WalkStep.the-type (Row.get 7 (T6 .locals) (m6 (before· .before) (After-walk-step·gave before·))))
+          pub keys1 : Run.OneOf (List._∷_ 0 List.[]) (Declared.tagOf WalkStep.the-type (Row.get 7 (T7 .locals) (m7 (before· .before) (After-walk-step·gave before·))))
 
       pub record At-match-keys1 : Type 0 where
         pub before : After-walk-step
         pub match : At-match-keys1·own before
 
       abbrev pub Need-enum-known-step : Type 0
-      Need-enum-known-step = (c : At-match-keys1) → s5 .asks (m6 (c .before .before) (After-walk-step·gave (c .before)))
+      Need-enum-known-step = (c : At-match-keys1) → s6 .asks (m7 (c .before .before) (After-walk-step·gave (c .before)))
 
-      abbrev pub m7 : (before : At-match-keys1) → (given : s5 .gives (m6 (before .before .before) (After-walk-step·gave (before .before)))) → Typed.Mo T8
-      m7 = λ before given. s5 .next (m6 (before .before .before) (After-walk-step·gave (before .before))) given
+      abbrev pub m8 : (before : At-match-keys1) → (given : s6 .gives (m7 (before .before .before) (After-walk-step·gave (before .before)))) → Typed.Mo T9
+      m8 = λ before given. s6 .next (m7 (before .before .before) (After-walk-step·gave (before .before))) given
 
       module _ (before· : At-match-keys1) where
         pub record After-step·own : Type 0 where
-          pub given : s5 .gives (m6 (before· .before .before) (After-walk-step·gave (before· .before)))
+          pub given : s6 .gives (m7 (before· .before .before) (After-walk-step·gave (before· .before)))
 
       pub record After-step : Type 0 where
         pub before : At-match-keys1
         pub step : After-step·own before
 
-      abbrev pub m8 : (before : After-step) → (given : s6 .gives (m7 (before .before) (before .step .given))) → Typed.Mo T9
-      m8 = λ before given. s6 .next (m7 (before .before) (before .step .given)) given
+      abbrev pub m9 : (before : After-step) → (given : s7 .gives (m8 (before .before) (before .step .given))) → Typed.Mo T10
+      m9 = λ before given. s7 .next (m8 (before .before) (before .step .given)) given
 
-      abbrev pub m9 : (before : After-step) → (given : s6 .gives (m7 (before .before) (before .step .given))) → Typed.Mo T10
-      m9 = λ before given. s7 (m8 before given)
-
-      abbrev pub m10 : (before : After-step) → (given : s6 .gives (m7 (before .before) (before .step .given))) → Typed.Mo T11
+      abbrev pub m10 : (before : After-step) → (given : s7 .gives (m8 (before .before) (before .step .given))) → Typed.Mo T11
       m10 = λ before given. s8 (m9 before given)
+
+      abbrev pub m11 : (before : After-step) → (given : s7 .gives (m8 (before .before) (before .step .given))) → Typed.Mo T12
+      m11 = λ before given. s9 (m10 before given)
 
       module _ (before· : After-step) where
         pub record After-known-told·own : Type 0 where
-          pub given : s6 .gives (m7 (before· .before) (before· .step .given))
+          pub given : s7 .gives (m8 (before· .before) (before· .step .given))
 
       pub record After-known-told : Type 0 where
         pub before : After-step
         pub known-told : After-known-told·own before
 
-      abbrev pub m11 : (before : After-walk-step) → Typed.Mo T12
-      m11 = λ before. s9 (m6 (before .before) (After-walk-step·gave before))
-
       abbrev pub m12 : (before : After-walk-step) → Typed.Mo T13
-      m12 = λ before. s10 (m11 before)
+      m12 = λ before. s10 (m7 (before .before) (After-walk-step·gave before))
 
       abbrev pub m13 : (before : After-walk-step) → Typed.Mo T14
       m13 = λ before. s11 (m12 before)
@@ -2159,7 +2444,7 @@ module _ (claims· : Claims) where
 
       module _ (before· : After-walk-step) where
         pub record At-match-keys2·own : Type 0 where
-          pub keys2 : Run.OneOf (List._∷_ 1 (List._∷_ 2 List.[])) (Declared.tagOf WalkStep.the-type (Row.get 7 (T6 .locals) (m6 (before· .before) (After-walk-step·gave before·))))
+          pub keys2 : Run.OneOf (List._∷_ 1 (List._∷_ 2 List.[])) (Declared.tagOf WalkStep.the-type (Row.get 7 (T7 .locals) (m7 (before· .before) (After-walk-step·gave before·))))
 
       pub record At-match-keys2 : Type 0 where
         pub before : After-walk-step
@@ -2175,11 +2460,11 @@ module _ (claims· : Claims) where
           .before .before .before .before .κs) (c .before .before .before .before .args)) (Enter.lastsP (c .before .before .before .before .κs) 1 ps xs (dens (c .before .before
           .before .before .κs) (c .before .before .before .before .args)) (m16 (c .before) .1)))
 
-      abbrev pub m17 : (before : After-step) → (given : s6 .gives (m7 (before .before) (before .step .given))) → Typed.Mo T18
-      m17 = λ before given. s15 (m10 before given)
+      abbrev pub m17 : (before : After-step) → (given : s7 .gives (m8 (before .before) (before .step .given))) → Typed.Mo T18
+      m17 = λ before given. s15 (m11 before given)
 
-      abbrev W5 : (before : After-step) → (given : s6 .gives (m7 (before .before) (before .step .given))) → Typed.Want O5
-      W5 = λ before given. Typed.wantNext T19 O3 (at26 (W3 (before .before .before .before .before) (before .before .before .before .loop .table) (before .before .before .before
+      abbrev W5 : (before : After-step) → (given : s7 .gives (m8 (before .before) (before .step .given))) → Typed.Want O5
+      W5 = λ before given. Typed.wantNext T19 O3 (at25 (W3 (before .before .before .before .before) (before .before .before .before .loop .table) (before .before .before .before
           .loop .at) (before .before .before .before .loop .row) (before .before .before .before .loop .offset))) (W3 (before .before .before .before .before) (before .before
           .before .before .loop .table) (before .before .before .before .loop .at) (before .before .before .before .loop .row) (before .before .before .before .loop .offset))
 
@@ -2226,9 +2511,14 @@ module _ (claims· : Claims) where
             (
               Num.vAt 9 λ x. x,
               (
-                Num.vAt 6 λ x. x,
+                record { pos = 6; st = List.[]; d = 0; at = λ x. x },
                 (
-                  record { pos = 12; ty = Syntax.tyRef Syntax.erased Syntax.mut LentTilePartEntry.pointee; ref = λ x. x },
+                  record {
+                    pos = 12;
+                    ty = Syntax.tyRef Syntax.erased Syntax.mut
+                        LentTilePartEntry.pointee;
+                    ref = λ x. x;
+                  },
                   (Num.vAt 5 λ x. x, tt),
                 ),
               ),
@@ -2252,9 +2542,14 @@ module _ (claims· : Claims) where
           (
             Num.vAt 9 λ x. x,
             (
-              Num.vAt 6 λ x. x,
+              record { pos = 6; st = List.[]; d = 0; at = λ x. x },
               (
-                record { pos = 12; ty = Syntax.tyRef Syntax.erased Syntax.mut LentTilePartEntry.pointee; ref = λ x. x },
+                record {
+                  pos = 12;
+                  ty = Syntax.tyRef Syntax.erased Syntax.mut
+                      LentTilePartEntry.pointee;
+                  ref = λ x. x;
+                },
                 (Num.vAt 5 λ x. x, tt),
               ),
             ),
@@ -2306,38 +2601,34 @@ module _ (claims· : Claims) where
       m30 = λ before given. s31 (m29 before given)
 
       abbrev pub Need-loop-less : Type 0
-      Need-loop-less = (c : After-table) → Nat._<_ (μ·0 (Row.get 1 (T5 .locals) (m4 (c .before .before .before .before .before .before .before .before .before .before) (c .before
-          .before .before .before .before .before .before .before .before .shared-slice-known .given)) .now) (Row.get 2 (T5 .locals) (m4 (c .before .before .before .before .before
-          .before .before .before .before .before) (c .before .before .before .before .before .before .before .before .before .shared-slice-known .given))) (Row.get 3 (T5 .locals)
-          (m4 (c .before .before .before .before .before .before .before .before .before .before) (c .before .before .before .before .before .before .before .before .before
-          .shared-slice-known .given)) .now) (Row.get 4 (T5 .locals) (m4 (c .before .before .before .before .before .before .before .before .before .before) (c .before .before
-          .before .before .before .before .before .before .before .shared-slice-known .given))) (Row.get 5 (T5 .locals) (m4 (c .before .before .before .before .before .before
-          .before .before .before .before) (c .before .before .before .before .before .before .before .before .before .shared-slice-known .given))) (Row.get 6 (T5 .locals) (m4 (c
-          .before .before .before .before .before .before .before .before .before .before) (c .before .before .before .before .before .before .before .before .before
-          .shared-slice-known .given))) (Row.get 3 (T5 .locals) (m30 (c .before) (c .table .given)) .now) (Row.get 4 (T5 .locals) (m30 (c .before) (c .table .given))) (Row.get 5
-          (T5 .locals) (m30 (c .before) (c .table .given))) (Row.get 6 (T5 .locals) (m30 (c .before) (c .table .given)))) (μ·0 (Row.get 1 (T5 .locals) (m4 (c .before .before
-          .before .before .before .before .before .before .before .before) (c .before .before .before .before .before .before .before .before .before .shared-slice-known .given))
-          .now) (Row.get 2 (T5 .locals) (m4 (c .before .before .before .before .before .before .before .before .before .before) (c .before .before .before .before .before .before
-          .before .before .before .shared-slice-known .given))) (Row.get 3 (T5 .locals) (m4 (c .before .before .before .before .before .before .before .before .before .before) (c
-          .before .before .before .before .before .before .before .before .before .shared-slice-known .given)) .now) (Row.get 4 (T5 .locals) (m4 (c .before .before .before .before
-          .before .before .before .before .before .before) (c .before .before .before .before .before .before .before .before .before .shared-slice-known .given))) (Row.get 5 (T5
-          .locals) (m4 (c .before .before .before .before .before .before .before .before .before .before) (c .before .before .before .before .before .before .before .before
-          .before .shared-slice-known .given))) (Row.get 6 (T5 .locals) (m4 (c .before .before .before .before .before .before .before .before .before .before) (c .before .before
-          .before .before .before .before .before .before .before .shared-slice-known .given))) (c .before .before .before .before .before .before .before .before .loop .table) (c
-          .before .before .before .before .before .before .before .before .loop .at) (c .before .before .before .before .before .before .before .before .loop .row) (c .before
-          .before .before .before .before .before .before .before .loop .offset))
+      Need-loop-less = (c : After-table) → Nat._<_ (μ·0 (Row.get 1 (T6 .locals) (m5 (c .before .before .before .before .before .before .before .before .before .before) (c .before
+          .before .before .before .before .before .before .before .before .shared-slice-known .given)) .now) (Row.get 3 (T6 .locals) (m5 (c .before .before .before .before .before
+          .before .before .before .before .before) (c .before .before .before .before .before .before .before .before .before .shared-slice-known .given)) .now) (Row.get 4 (T6
+          .locals) (m5 (c .before .before .before .before .before .before .before .before .before .before) (c .before .before .before .before .before .before .before .before
+          .before .shared-slice-known .given))) (Row.get 5 (T6 .locals) (m5 (c .before .before .before .before .before .before .before .before .before .before) (c .before .before
+          .before .before .before .before .before .before .before .shared-slice-known .given))) (Row.get 6 (T6 .locals) (m5 (c .before .before .before .before .before .before
+          .before .before .before .before) (c .before .before .before .before .before .before .before .before .before .shared-slice-known .given))) (Row.get 3 (T6 .locals) (m30 (c
+          .before) (c .table .given)) .now) (Row.get 4 (T6 .locals) (m30 (c .before) (c .table .given))) (Row.get 5 (T6 .locals) (m30 (c .before) (c .table .given))) (Row.get 6 (T6
+          .locals) (m30 (c .before) (c .table .given)))) (μ·0 (Row.get 1 (T6 .locals) (m5 (c .before .before .before .before .before .before .before .before .before .before) (c
+          .before .before .before .before .before .before .before .before .before .shared-slice-known .given)) .now) (Row.get 3 (T6 .locals) (m5 (c .before .before .before .before
+          .before .before .before .before .before .before) (c .before .before .before .before .before .before .before .before .before .shared-slice-known .given)) .now) (Row.get 4
+          (T6 .locals) (m5 (c .before .before .before .before .before .before .before .before .before .before) (c .before .before .before .before .before .before .before .before
+          .before .shared-slice-known .given))) (Row.get 5 (T6 .locals) (m5 (c .before .before .before .before .before .before .before .before .before .before) (c .before .before
+          .before .before .before .before .before .before .before .shared-slice-known .given))) (Row.get 6 (T6 .locals) (m5 (c .before .before .before .before .before .before
+          .before .before .before .before) (c .before .before .before .before .before .before .before .before .before .shared-slice-known .given))) (c .before .before .before
+          .before .before .before .before .before .loop .table) (c .before .before .before .before .before .before .before .before .loop .at) (c .before .before .before .before
+          .before .before .before .before .loop .row) (c .before .before .before .before .before .before .before .before .loop .offset))
 
       abbrev pub Need-loop-again : Type 0
-      Need-loop-again = (c : After-table) → Inv·0 (Row.get 1 (T5 .locals) (m4 (c .before .before .before .before .before .before .before .before .before .before) (c .before .before
-          .before .before .before .before .before .before .before .shared-slice-known .given)) .now) (Row.get 2 (T5 .locals) (m4 (c .before .before .before .before .before .before
-          .before .before .before .before) (c .before .before .before .before .before .before .before .before .before .shared-slice-known .given))) (Row.get 3 (T5 .locals) (m4 (c
-          .before .before .before .before .before .before .before .before .before .before) (c .before .before .before .before .before .before .before .before .before
-          .shared-slice-known .given)) .now) (Row.get 4 (T5 .locals) (m4 (c .before .before .before .before .before .before .before .before .before .before) (c .before .before
-          .before .before .before .before .before .before .before .shared-slice-known .given))) (Row.get 5 (T5 .locals) (m4 (c .before .before .before .before .before .before
-          .before .before .before .before) (c .before .before .before .before .before .before .before .before .before .shared-slice-known .given))) (Row.get 6 (T5 .locals) (m4 (c
-          .before .before .before .before .before .before .before .before .before .before) (c .before .before .before .before .before .before .before .before .before
-          .shared-slice-known .given))) (Row.get 3 (T5 .locals) (m30 (c .before) (c .table .given)) .now) (Row.get 4 (T5 .locals) (m30 (c .before) (c .table .given))) (Row.get 5
-          (T5 .locals) (m30 (c .before) (c .table .given))) (Row.get 6 (T5 .locals) (m30 (c .before) (c .table .given)))
+      Need-loop-again = (c : After-table) → Inv·0 (Row.get 1 (T6 .locals) (m5 (c .before .before .before .before .before .before .before .before .before .before) (c .before .before
+          .before .before .before .before .before .before .before .shared-slice-known .given)) .now) (Row.get 3 (T6 .locals) (m5 (c .before .before .before .before .before .before
+          .before .before .before .before) (c .before .before .before .before .before .before .before .before .before .shared-slice-known .given)) .now) (Row.get 4 (T6 .locals) (m5
+          (c .before .before .before .before .before .before .before .before .before .before) (c .before .before .before .before .before .before .before .before .before
+          .shared-slice-known .given))) (Row.get 5 (T6 .locals) (m5 (c .before .before .before .before .before .before .before .before .before .before) (c .before .before .before
+          .before .before .before .before .before .before .shared-slice-known .given))) (Row.get 6 (T6 .locals) (m5 (c .before .before .before .before .before .before .before
+          .before .before .before) (c .before .before .before .before .before .before .before .before .before .shared-slice-known .given))) (Row.get 3 (T6 .locals) (m30 (c .before)
+          (c .table .given)) .now) (Row.get 4 (T6 .locals) (m30 (c .before) (c .table .given))) (Row.get 5 (T6 .locals) (m30 (c .before) (c .table .given))) (Row.get 6 (T6 .locals)
+          (m30 (c .before) (c .table .given)))
 
       abbrev pub m31 : (before : After-known-told) → Typed.Mo T34
       m31 = λ before. s30 (m28 before)
@@ -2346,109 +2637,103 @@ module _ (claims· : Claims) where
       m32 = λ before. s31 (m31 before)
 
       abbrev pub Need-loop-less-2 : Type 0
-      Need-loop-less-2 = (c : Else1) → Nat._<_ (μ·0 (Row.get 1 (T5 .locals) (m4 (c .before .before .before .before .before .before .before) (c .before .before .before .before
-          .before .before .shared-slice-known .given)) .now) (Row.get 2 (T5 .locals) (m4 (c .before .before .before .before .before .before .before) (c .before .before .before
-          .before .before .before .shared-slice-known .given))) (Row.get 3 (T5 .locals) (m4 (c .before .before .before .before .before .before .before) (c .before .before .before
-          .before .before .before .shared-slice-known .given)) .now) (Row.get 4 (T5 .locals) (m4 (c .before .before .before .before .before .before .before) (c .before .before
-          .before .before .before .before .shared-slice-known .given))) (Row.get 5 (T5 .locals) (m4 (c .before .before .before .before .before .before .before) (c .before .before
-          .before .before .before .before .shared-slice-known .given))) (Row.get 6 (T5 .locals) (m4 (c .before .before .before .before .before .before .before) (c .before .before
-          .before .before .before .before .shared-slice-known .given))) (Row.get 3 (T5 .locals) (m32 (c .before)) .now) (Row.get 4 (T5 .locals) (m32 (c .before))) (Row.get 5 (T5
-          .locals) (m32 (c .before))) (Row.get 6 (T5 .locals) (m32 (c .before)))) (μ·0 (Row.get 1 (T5 .locals) (m4 (c .before .before .before .before .before .before .before) (c
-          .before .before .before .before .before .before .shared-slice-known .given)) .now) (Row.get 2 (T5 .locals) (m4 (c .before .before .before .before .before .before .before)
-          (c .before .before .before .before .before .before .shared-slice-known .given))) (Row.get 3 (T5 .locals) (m4 (c .before .before .before .before .before .before .before)
-          (c .before .before .before .before .before .before .shared-slice-known .given)) .now) (Row.get 4 (T5 .locals) (m4 (c .before .before .before .before .before .before
-          .before) (c .before .before .before .before .before .before .shared-slice-known .given))) (Row.get 5 (T5 .locals) (m4 (c .before .before .before .before .before .before
-          .before) (c .before .before .before .before .before .before .shared-slice-known .given))) (Row.get 6 (T5 .locals) (m4 (c .before .before .before .before .before .before
+      Need-loop-less-2 = (c : Else1) → Nat._<_ (μ·0 (Row.get 1 (T6 .locals) (m5 (c .before .before .before .before .before .before .before) (c .before .before .before .before
+          .before .before .shared-slice-known .given)) .now) (Row.get 3 (T6 .locals) (m5 (c .before .before .before .before .before .before .before) (c .before .before .before
+          .before .before .before .shared-slice-known .given)) .now) (Row.get 4 (T6 .locals) (m5 (c .before .before .before .before .before .before .before) (c .before .before
+          .before .before .before .before .shared-slice-known .given))) (Row.get 5 (T6 .locals) (m5 (c .before .before .before .before .before .before .before) (c .before .before
+          .before .before .before .before .shared-slice-known .given))) (Row.get 6 (T6 .locals) (m5 (c .before .before .before .before .before .before .before) (c .before .before
+          .before .before .before .before .shared-slice-known .given))) (Row.get 3 (T6 .locals) (m32 (c .before)) .now) (Row.get 4 (T6 .locals) (m32 (c .before))) (Row.get 5 (T6
+          .locals) (m32 (c .before))) (Row.get 6 (T6 .locals) (m32 (c .before)))) (μ·0 (Row.get 1 (T6 .locals) (m5 (c .before .before .before .before .before .before .before) (c
+          .before .before .before .before .before .before .shared-slice-known .given)) .now) (Row.get 3 (T6 .locals) (m5 (c .before .before .before .before .before .before .before)
+          (c .before .before .before .before .before .before .shared-slice-known .given)) .now) (Row.get 4 (T6 .locals) (m5 (c .before .before .before .before .before .before
+          .before) (c .before .before .before .before .before .before .shared-slice-known .given))) (Row.get 5 (T6 .locals) (m5 (c .before .before .before .before .before .before
+          .before) (c .before .before .before .before .before .before .shared-slice-known .given))) (Row.get 6 (T6 .locals) (m5 (c .before .before .before .before .before .before
           .before) (c .before .before .before .before .before .before .shared-slice-known .given))) (c .before .before .before .before .before .loop .table) (c .before .before
           .before .before .before .loop .at) (c .before .before .before .before .before .loop .row) (c .before .before .before .before .before .loop .offset))
 
       abbrev pub Need-loop-again-2 : Type 0
-      Need-loop-again-2 = (c : Else1) → Inv·0 (Row.get 1 (T5 .locals) (m4 (c .before .before .before .before .before .before .before) (c .before .before .before .before .before
-          .before .shared-slice-known .given)) .now) (Row.get 2 (T5 .locals) (m4 (c .before .before .before .before .before .before .before) (c .before .before .before .before
-          .before .before .shared-slice-known .given))) (Row.get 3 (T5 .locals) (m4 (c .before .before .before .before .before .before .before) (c .before .before .before .before
-          .before .before .shared-slice-known .given)) .now) (Row.get 4 (T5 .locals) (m4 (c .before .before .before .before .before .before .before) (c .before .before .before
-          .before .before .before .shared-slice-known .given))) (Row.get 5 (T5 .locals) (m4 (c .before .before .before .before .before .before .before) (c .before .before .before
-          .before .before .before .shared-slice-known .given))) (Row.get 6 (T5 .locals) (m4 (c .before .before .before .before .before .before .before) (c .before .before .before
-          .before .before .before .shared-slice-known .given))) (Row.get 3 (T5 .locals) (m32 (c .before)) .now) (Row.get 4 (T5 .locals) (m32 (c .before))) (Row.get 5 (T5 .locals)
-          (m32 (c .before))) (Row.get 6 (T5 .locals) (m32 (c .before)))
+      Need-loop-again-2 = (c : Else1) → Inv·0 (Row.get 1 (T6 .locals) (m5 (c .before .before .before .before .before .before .before) (c .before .before .before .before .before
+          .before .shared-slice-known .given)) .now) (Row.get 3 (T6 .locals) (m5 (c .before .before .before .before .before .before .before) (c .before .before .before .before
+          .before .before .shared-slice-known .given)) .now) (Row.get 4 (T6 .locals) (m5 (c .before .before .before .before .before .before .before) (c .before .before .before
+          .before .before .before .shared-slice-known .given))) (Row.get 5 (T6 .locals) (m5 (c .before .before .before .before .before .before .before) (c .before .before .before
+          .before .before .before .shared-slice-known .given))) (Row.get 6 (T6 .locals) (m5 (c .before .before .before .before .before .before .before) (c .before .before .before
+          .before .before .before .shared-slice-known .given))) (Row.get 3 (T6 .locals) (m32 (c .before)) .now) (Row.get 4 (T6 .locals) (m32 (c .before))) (Row.get 5 (T6 .locals)
+          (m32 (c .before))) (Row.get 6 (T6 .locals) (m32 (c .before)))
 
       module _ (loop-holds : Need-loop-holds) (walk-step-requires : Need-walk-step-requires) (enum-known-step : Need-enum-known-step) (same-length : Need-same-length) (returns :
           Need-returns) (fill-segment-requires : Need-fill-segment-requires) (add-row : Need-add-row) (loop-less : Need-loop-less) (loop-again : Need-loop-again) (loop-less-2 :
           Need-loop-less-2) (loop-again-2 : Need-loop-again-2) where
-        lay5 : (c : Else1) → at26 (W3 (c .before .before .before .before .before .before) (c .before .before .before .before .before .loop .table) (c .before .before .before
+        lay5 : (c : Else1) → at25 (W3 (c .before .before .before .before .before .before) (c .before .before .before .before .before .loop .table) (c .before .before .before
             .before .before .loop .at) (c .before .before .before .before .before .loop .row) (c .before .before .before .before .before .loop .offset)) (m28 (c .before))
         lay5 = λ c. (
-          μ·0 (Row.get 1 (T5 .locals) (m4 (c .before .before .before .before .before .before .before) (c .before .before .before .before .before .before
-              .shared-slice-known .given)) .now) (Row.get 2 (T5 .locals) (m4 (c .before .before .before .before .before .before .before) (c .before .before .before .before .before
-              .before .shared-slice-known .given))) (Row.get 3 (T5 .locals) (m4 (c .before .before .before .before .before .before .before) (c .before .before .before .before .before
-              .before .shared-slice-known .given)) .now) (Row.get 4 (T5 .locals) (m4 (c .before .before .before .before .before .before .before) (c .before .before .before .before
-              .before .before .shared-slice-known .given))) (Row.get 5 (T5 .locals) (m4 (c .before .before .before .before .before .before .before) (c .before .before .before .before
-              .before .before .shared-slice-known .given))) (Row.get 6 (T5 .locals) (m4 (c .before .before .before .before .before .before .before) (c .before .before .before .before
-              .before .before .shared-slice-known .given))) (Row.get 3 (T5 .locals) (m32 (c .before)) .now) (Row.get 4 (T5 .locals) (m32 (c .before))) (Row.get 5 (T5 .locals) (m32 (c
-              .before))) (Row.get 6 (T5 .locals) (m32 (c .before))),
+          μ·0 (Row.get 1 (T6 .locals) (m5 (c .before .before .before .before .before .before .before) (c .before .before .before .before .before .before
+              .shared-slice-known .given)) .now) (Row.get 3 (T6 .locals) (m5 (c .before .before .before .before .before .before .before) (c .before .before .before .before .before
+              .before .shared-slice-known .given)) .now) (Row.get 4 (T6 .locals) (m5 (c .before .before .before .before .before .before .before) (c .before .before .before .before
+              .before .before .shared-slice-known .given))) (Row.get 5 (T6 .locals) (m5 (c .before .before .before .before .before .before .before) (c .before .before .before .before
+              .before .before .shared-slice-known .given))) (Row.get 6 (T6 .locals) (m5 (c .before .before .before .before .before .before .before) (c .before .before .before .before
+              .before .before .shared-slice-known .given))) (Row.get 3 (T6 .locals) (m32 (c .before)) .now) (Row.get 4 (T6 .locals) (m32 (c .before))) (Row.get 5 (T6 .locals) (m32 (c
+              .before))) (Row.get 6 (T6 .locals) (m32 (c .before))),
           loop-less-2 record { before = c .before; if1 = c .if1 },
           (
             (
-              Row.get 3 (T5 .locals) (m32 (c .before)) .now,
+              Row.get 3 (T6 .locals) (m32 (c .before)) .now,
               Row.get
-                  4 (T5 .locals) (m32 (c .before)),
-              Row.get 5 (T5 .locals) (m32 (c .before)),
-              Row.get 6 (T5 .locals) (m32 (c .before)),
+                  4 (T6 .locals) (m32 (c .before)),
+              Row.get 5 (T6 .locals) (m32 (c .before)),
+              Row.get 6 (T6 .locals) (m32 (c .before)),
             ),
             Path'.refl {a = m32 (c .before)},
             loop-again-2
                 record { before = c .before; if1 = c .if1 },
-            Path'.refl {a = μ·0 (Row.get 1 (T5 .locals) (m4 (c .before .before .before .before .before .before .before) (c .before
-                .before .before .before .before .before .shared-slice-known .given)) .now) (Row.get 2 (T5 .locals) (m4 (c .before .before .before .before .before .before .before) (c
-                .before .before .before .before .before .before .shared-slice-known .given))) (Row.get 3 (T5 .locals) (m4 (c .before .before .before .before .before .before .before) (c
-                .before .before .before .before .before .before .shared-slice-known .given)) .now) (Row.get 4 (T5 .locals) (m4 (c .before .before .before .before .before .before
-                .before) (c .before .before .before .before .before .before .shared-slice-known .given))) (Row.get 5 (T5 .locals) (m4 (c .before .before .before .before .before .before
-                .before) (c .before .before .before .before .before .before .shared-slice-known .given))) (Row.get 6 (T5 .locals) (m4 (c .before .before .before .before .before .before
-                .before) (c .before .before .before .before .before .before .shared-slice-known .given))) (Row.get 3 (T5 .locals) (m32 (c .before)) .now) (Row.get 4 (T5 .locals) (m32
-                (c .before))) (Row.get 5 (T5 .locals) (m32 (c .before))) (Row.get 6 (T5 .locals) (m32 (c .before)))},
+            Path'.refl {a = μ·0 (Row.get 1 (T6 .locals) (m5 (c .before .before .before .before .before .before .before) (c .before
+                .before .before .before .before .before .shared-slice-known .given)) .now) (Row.get 3 (T6 .locals) (m5 (c .before .before .before .before .before .before .before) (c
+                .before .before .before .before .before .before .shared-slice-known .given)) .now) (Row.get 4 (T6 .locals) (m5 (c .before .before .before .before .before .before
+                .before) (c .before .before .before .before .before .before .shared-slice-known .given))) (Row.get 5 (T6 .locals) (m5 (c .before .before .before .before .before .before
+                .before) (c .before .before .before .before .before .before .shared-slice-known .given))) (Row.get 6 (T6 .locals) (m5 (c .before .before .before .before .before .before
+                .before) (c .before .before .before .before .before .before .shared-slice-known .given))) (Row.get 3 (T6 .locals) (m32 (c .before)) .now) (Row.get 4 (T6 .locals) (m32
+                (c .before))) (Row.get 5 (T6 .locals) (m32 (c .before))) (Row.get 6 (T6 .locals) (m32 (c .before)))},
           ),
         )
 
-        lay4 : (c : After-table) → at26 (W3 (c .before .before .before .before .before .before .before .before .before) (c .before .before .before .before .before .before .before
+        lay4 : (c : After-table) → at25 (W3 (c .before .before .before .before .before .before .before .before .before) (c .before .before .before .before .before .before .before
             .before .loop .table) (c .before .before .before .before .before .before .before .before .loop .at) (c .before .before .before .before .before .before .before .before
             .loop .row) (c .before .before .before .before .before .before .before .before .loop .offset)) (m26 (c .before) (c .table .given))
         lay4 = λ c. (
-          μ·0 (Row.get 1 (T5 .locals) (m4 (c .before .before .before .before .before .before .before .before .before .before) (c .before .before .before .before .before
-              .before .before .before .before .shared-slice-known .given)) .now) (Row.get 2 (T5 .locals) (m4 (c .before .before .before .before .before .before .before .before
-              .before .before) (c .before .before .before .before .before .before .before .before .before .shared-slice-known .given))) (Row.get 3 (T5 .locals) (m4 (c .before .before
-              .before .before .before .before .before .before .before .before) (c .before .before .before .before .before .before .before .before .before .shared-slice-known .given))
-              .now) (Row.get 4 (T5 .locals) (m4 (c .before .before .before .before .before .before .before .before .before .before) (c .before .before .before .before .before .before
-              .before .before .before .shared-slice-known .given))) (Row.get 5 (T5 .locals) (m4 (c .before .before .before .before .before .before .before .before .before .before) (c
-              .before .before .before .before .before .before .before .before .before .shared-slice-known .given))) (Row.get 6 (T5 .locals) (m4 (c .before .before .before .before
-              .before .before .before .before .before .before) (c .before .before .before .before .before .before .before .before .before .shared-slice-known .given))) (Row.get 3 (T5
-              .locals) (m30 (c .before) (c .table .given)) .now) (Row.get 4 (T5 .locals) (m30 (c .before) (c .table .given))) (Row.get 5 (T5 .locals) (m30 (c .before) (c .table
-              .given))) (Row.get 6 (T5 .locals) (m30 (c .before) (c .table .given))),
+          μ·0 (Row.get 1 (T6 .locals) (m5 (c .before .before .before .before .before .before .before .before .before .before) (c .before .before .before .before .before
+              .before .before .before .before .shared-slice-known .given)) .now) (Row.get 3 (T6 .locals) (m5 (c .before .before .before .before .before .before .before .before
+              .before .before) (c .before .before .before .before .before .before .before .before .before .shared-slice-known .given)) .now) (Row.get 4 (T6 .locals) (m5 (c .before
+              .before .before .before .before .before .before .before .before .before) (c .before .before .before .before .before .before .before .before .before .shared-slice-known
+              .given))) (Row.get 5 (T6 .locals) (m5 (c .before .before .before .before .before .before .before .before .before .before) (c .before .before .before .before .before
+              .before .before .before .before .shared-slice-known .given))) (Row.get 6 (T6 .locals) (m5 (c .before .before .before .before .before .before .before .before .before
+              .before) (c .before .before .before .before .before .before .before .before .before .shared-slice-known .given))) (Row.get 3 (T6 .locals) (m30 (c .before) (c .table
+              .given)) .now) (Row.get 4 (T6 .locals) (m30 (c .before) (c .table .given))) (Row.get 5 (T6 .locals) (m30 (c .before) (c .table .given))) (Row.get 6 (T6 .locals) (m30 (c
+              .before) (c .table .given))),
           loop-less record { before = c .before; table = c .table },
           (
             (
-              Row.get 3 (T5 .locals) (m30 (c
-                  .before) (c .table .given)) .now,
-              Row.get 4 (T5 .locals) (m30 (c .before) (c .table .given)),
-              Row.get 5 (T5 .locals) (m30 (c .before) (c .table .given)),
-              Row.get 6 (T5
-                  .locals) (m30 (c .before) (c .table .given)),
+              Row.get 3 (T6 .locals) (m30 (c .before) (c .table .given)) .now,
+              Row.get 4
+                  (T6 .locals) (m30 (c .before) (c .table .given)),
+              Row.get 5 (T6 .locals) (m30 (c .before) (c .table .given)),
+              Row.get 6 (T6 .locals) (m30 (c .before) (c .table
+                  .given)),
             ),
             Path'.refl {a = m30 (c .before) (c .table .given)},
             loop-again record { before = c .before; table = c .table },
-            Path'.refl {a = μ·0 (Row.get 1 (T5 .locals) (m4 (c .before .before .before .before .before .before .before .before .before .before) (c .before .before .before .before
-                .before .before .before .before .before .shared-slice-known .given)) .now) (Row.get 2 (T5 .locals) (m4 (c .before .before .before .before .before .before .before
-                .before .before .before) (c .before .before .before .before .before .before .before .before .before .shared-slice-known .given))) (Row.get 3 (T5 .locals) (m4 (c .before
-                .before .before .before .before .before .before .before .before .before) (c .before .before .before .before .before .before .before .before .before .shared-slice-known
-                .given)) .now) (Row.get 4 (T5 .locals) (m4 (c .before .before .before .before .before .before .before .before .before .before) (c .before .before .before .before
-                .before .before .before .before .before .shared-slice-known .given))) (Row.get 5 (T5 .locals) (m4 (c .before .before .before .before .before .before .before .before
-                .before .before) (c .before .before .before .before .before .before .before .before .before .shared-slice-known .given))) (Row.get 6 (T5 .locals) (m4 (c .before .before
-                .before .before .before .before .before .before .before .before) (c .before .before .before .before .before .before .before .before .before .shared-slice-known
-                .given))) (Row.get 3 (T5 .locals) (m30 (c .before) (c .table .given)) .now) (Row.get 4 (T5 .locals) (m30 (c .before) (c .table .given))) (Row.get 5 (T5 .locals) (m30 (c
-                .before) (c .table .given))) (Row.get 6 (T5 .locals) (m30 (c .before) (c .table .given)))},
+            Path'.refl {a = μ·0 (Row.get 1 (T6 .locals)
+                (m5 (c .before .before .before .before .before .before .before .before .before .before) (c .before .before .before .before .before .before .before .before .before
+                .shared-slice-known .given)) .now) (Row.get 3 (T6 .locals) (m5 (c .before .before .before .before .before .before .before .before .before .before) (c .before .before
+                .before .before .before .before .before .before .before .shared-slice-known .given)) .now) (Row.get 4 (T6 .locals) (m5 (c .before .before .before .before .before
+                .before .before .before .before .before) (c .before .before .before .before .before .before .before .before .before .shared-slice-known .given))) (Row.get 5 (T6
+                .locals) (m5 (c .before .before .before .before .before .before .before .before .before .before) (c .before .before .before .before .before .before .before .before
+                .before .shared-slice-known .given))) (Row.get 6 (T6 .locals) (m5 (c .before .before .before .before .before .before .before .before .before .before) (c .before .before
+                .before .before .before .before .before .before .before .shared-slice-known .given))) (Row.get 3 (T6 .locals) (m30 (c .before) (c .table .given)) .now) (Row.get 4 (T6
+                .locals) (m30 (c .before) (c .table .given))) (Row.get 5 (T6 .locals) (m30 (c .before) (c .table .given))) (Row.get 6 (T6 .locals) (m30 (c .before) (c .table
+                .given)))},
           ),
         )
 
-        lay3 : (c : After-fill-segment) → at15 (W5 (c .before .before .before .before) (c .before .before .before .known-told .given)) (m22 (c .before) (After-fill-segment·gave c))
+        lay3 : (c : After-fill-segment) → at14 (W5 (c .before .before .before .before) (c .before .before .before .known-told .given)) (m22 (c .before) (After-fill-segment·gave c))
         lay3 = λ c. (
           Path'.refl,
           λ g. (
@@ -2460,8 +2745,8 @@ module _ (claims· : Claims) where
           ),
         )
 
-        lay2 : (c : After-known-told) → at28 (W3 (c .before .before .before .before .before) (c .before .before .before .before .loop .table) (c .before .before .before .before
-            .loop .at) (c .before .before .before .before .loop .row) (c .before .before .before .before .loop .offset)) (m10 (c .before) (c .known-told .given))
+        lay2 : (c : After-known-told) → at27 (W3 (c .before .before .before .before .before) (c .before .before .before .before .loop .table) (c .before .before .before .before
+            .loop .at) (c .before .before .before .before .loop .row) (c .before .before .before .before .loop .offset)) (m11 (c .before) (c .known-told .given))
         lay2 = λ c. (
           λ taken. λ g. (
             Path'.refl,
@@ -2499,35 +2784,35 @@ module _ (claims· : Claims) where
                     (
                       Num.vAt 9 λ x. x,
                       (
-                        Num.vAt 6 λ x. x,
-                        (
-                          record {
-                            pos = 12;
-                            ty = Syntax.tyRef Syntax.erased Syntax.mut LentTilePartEntry.pointee;
-                            ref = λ x. x;
-                          },
-                          (Num.vAt 5 λ x. x, tt),
-                        ),
+                        record {
+                          pos = 6;
+                          st = List.[];
+                          d =
+                              0;
+                          at = λ x. x;
+                        },
+                        (record { pos = 12; ty = Syntax.tyRef Syntax.erased Syntax.mut LentTilePartEntry.pointee; ref = λ x. x }, (Num.vAt 5 λ x. x, tt)),
                       ),
                     ),
                   ),
                 ) (m21 record {
-                  before = record {
-                    before = c .before;
-                    known-told = c .known-told;
-                  };
+                  before = record { before = c .before; known-told = c .known-told };
                   if1 = record { taken = taken };
                 } g) g';
               },
             ),
           ),
           λ left. lay5 record {
-            before = record { before = c .before; known-told = c .known-told };
+            before = record {
+              before = c
+                  .before;
+              known-told = c .known-told;
+            };
             if1 = record { left = left };
           },
         )
 
-        lay1 : (c : After-walk-step) → at29 (W3 (c .before .before) (c .before .loop .table) (c .before .loop .at) (c .before .loop .row) (c .before .loop .offset)) (m6 (c .before)
+        lay1 : (c : After-walk-step) → at28 (W3 (c .before .before) (c .before .loop .table) (c .before .loop .at) (c .before .loop .row) (c .before .loop .offset)) (m7 (c .before)
             (After-walk-step·gave c))
         lay1 = λ c. (
           λ k. (
@@ -2568,17 +2853,17 @@ module _ (claims· : Claims) where
               },
             ),
             Match.each-below 3 (λ j. (Unit {0} × (Run.OneOf (List._∷_ 0 List.[]) j → ⊥)) × (Run.OneOf (List._∷_ 1 (List._∷_ 2 List.[])) j → ⊥) →
-                ⊥) (λ n. n .1 (Logic.inr Path'.refl), (λ n. n .1 (Logic.inl Path'.refl), (λ n. n .0 .1 Path'.refl, tt))) (Declared.tagOf WalkStep.the-type (Row.get 7 (T6 .locals) (m6
-                (c .before) (After-walk-step·gave c)))) (Match.tag-small WalkStep.the-type (Row.get 7 (T6 .locals) (m6 (c .before) (After-walk-step·gave c)))),
+                ⊥) (λ n. n .1 (Logic.inr Path'.refl), (λ n. n .1 (Logic.inl Path'.refl), (λ n. n .0 .1 Path'.refl, tt))) (Declared.tagOf WalkStep.the-type (Row.get 7 (T7 .locals) (m7
+                (c .before) (After-walk-step·gave c)))) (Match.tag-small WalkStep.the-type (Row.get 7 (T7 .locals) (m7 (c .before) (After-walk-step·gave c)))),
           ),
         )
 
         pub laid : (c : Start) → at37 (W0 (c .κs) (c .args)) (m0 (c .κs) (c .args))
         laid = λ c. λ g. (
           (
-            (Row.get 3 (T5 .locals) (m4 c g) .now, Row.get 4 (T5 .locals) (m4 c g), Row.get 5 (T5 .locals) (m4 c g), Row.get 6 (T5 .locals) (m4 c g)),
+            (Row.get 3 (T6 .locals) (m5 c g) .now, Row.get 4 (T6 .locals) (m5 c g), Row.get 5 (T6 .locals) (m5 c g), Row.get 6 (T6 .locals) (m5 c g)),
             Path'.refl {a
-                = m4 c g},
+                = m5 c g},
             loop-holds record { before = c; shared-slice-known = record { given = g } },
           ),
           λ vs inv. (
@@ -2592,14 +2877,14 @@ module _ (claims· : Claims) where
             λ g'. lay1 record {
               before = record
                   { before = record { before = c; shared-slice-known = record { given = g } }; loop = record { table = vs .0; at = vs .1; row = vs .2; offset = vs .3; inv = inv } };
-              walk-step = Called.called ps·0 r·0 (claims· .1) T5 (
+              walk-step = Called.called ps·0 r·0 (claims· .1) T6 (
                 record { pos = 1; ty = Syntax.tyRef (Syntax.named 0) Syntax.imm (Syntax.tyInt Syntax.w8); ref = λ x. x },
                 (
                   Num.vAt
                       4 λ x. x,
                   tt,
                 ),
-              ) (m5 record { before = c; shared-slice-known = record { given = g } } (vs .0) (vs .1) (vs .2) (vs .3)) g';
+              ) (m6 record { before = c; shared-slice-known = record { given = g } } (vs .0) (vs .1) (vs .2) (vs .3)) g';
             },
           ),
         )
@@ -2607,16 +2892,7 @@ module _ (claims· : Claims) where
         module _ (κs : Lifetimes.Lfts 2) (qs : Lifetimes.Shares 2) where
           pub asked : (a : Kinds.Dens κs ps) → (good : Kinds.GoodsP κs ps a) → (pre : Pre· κs a) → (bs : List.List Nat.ℕ) → Φ (Any.wantQ 2 ps r xs m κs qs a (Post· κs a))
               (Function.init 2 ps r xs m κs qs a)
-          asked = λ a good pre bs. laid record {
-            κs = κs;
-            args = record { codestream = a .0; first-sot = a .1 .0; table = a .1 .1 .0 };
-            good = good;
-            fits = record {
-              first-sot =
-                  record { fits = good .1 .0 .1 };
-            };
-            pre = pre;
-          }
+          asked = λ a good pre bs. laid record { κs = κs; args = record { codestream = a .0; first-sot = a .1 .0; table = a .1 .1 .0 }; good = good; pre = pre }
 
         module _ {M : Type 1} (𝓤 : URA.URA M) (H : Wp.Heap 𝓤) (A : Atoms.Atoms 𝓤) (W : Kit.Given 𝓤 H A) (𝓣 : Wp.Tables 𝓤 H) (known0 : Plain.Known 𝓤 H A W 𝓣 1 ps·0 r·0 (claims· .0)
             (claims· .1) "header::walk::walk_step") (known1 : Plain.Known 𝓤 H A W 𝓣 2 ps·1 r·1 (claims· .2) (claims· .3) "records::main_header::fill_segment") where

@@ -40,11 +40,10 @@ use borrow.Struct.Behind
 use borrow.Struct.CopyOut
 use borrow.Struct.Inner
 use borrow.Struct.Make
-use borrow.Struct.Reads
 use borrow.Struct.Way as Way'
 use borrow.Table.Copies
 use borrow.Table.Own
-use borrow.Table.Reads as Reads'
+use borrow.Table.Reads
 use borrow.Table.Referent
 use borrow.Table.Row
 use borrow.Table.Rows
@@ -151,7 +150,26 @@ r·0 = Value.rVal record {
     }
 
 abbrev pub ps·1 : List.List (Kinds.PK 2)
-ps·1 = List._∷_ (ShrSlice.pShrS (Referent.rtF (Referent.fInt Syntax.w8)) 0 tt) (List._∷_ (Num.pNum Syntax.w64) (List._∷_ (MutSlice.pMutS LentTilePartEntry.row 1 tt) List.[]))
+ps·1 = List._∷_ (ShrSlice.pShrS (Referent.rtF (Referent.fInt Syntax.w8)) 0 tt) (List._∷_ (Value.pVal record {
+  ty = Declared'.row CodestreamOffset.the-type;
+  one = Path'.refl;
+  val =
+      Laws'4.val CodestreamOffset.the-type Laws''.the-laws;
+  tells = Laws'4.tells CodestreamOffset.the-type Laws''.the-laws;
+  still = Laws'4.still CodestreamOffset.the-type
+      Laws''.the-copy Exit.yes;
+  row = Rows.whole (Declared'.row CodestreamOffset.the-type);
+  rd = λ x. x;
+  mk = λ x. x;
+} λ M 𝓤 H A W. record {
+  copies = Laws'4.copy
+      CodestreamOffset.the-type Laws''.the-copy 𝓤 H A W;
+  lawful = Laws'4.lawful CodestreamOffset.the-type Laws''.the-laws 𝓤 H A W;
+  makes = Laws'4.makes CodestreamOffset.the-type
+      Laws''.the-plain 𝓤 H A;
+  in-mem = Local.mem-whole 𝓤 H A W (Declared'.row CodestreamOffset.the-type);
+  of-mem = Local.whole-mem 𝓤 H A W (Declared'.row CodestreamOffset.the-type);
+}) (List._∷_ (MutSlice.pMutS LentTilePartEntry.row 1 tt) List.[]))
 
 abbrev pub r·1 : Kinds.RK 2
 r·1 = Unit'.rUnit
@@ -210,8 +228,8 @@ b12 = Syntax.assign (Syntax.place 13 List.[]) (Syntax.aggregate (List._∷_ (Syn
     List.[]))) List.[])))
 
 abbrev b13 : Syntax.Body
-b13 = Syntax.call "records::main_header::fill_table" (List._∷_ (Syntax.copy (Syntax.place 1 List.[])) (List._∷_ (Syntax.copy (Syntax.place 6 (List._∷_ (Syntax.field 0) List.[])))
-    (List._∷_ (Syntax.copy (Syntax.place 13 List.[])) List.[]))) (Syntax.place 11 List.[])
+b13 = Syntax.call "records::main_header::fill_table" (List._∷_ (Syntax.copy (Syntax.place 1 List.[])) (List._∷_ (Syntax.copy (Syntax.place 6 List.[])) (List._∷_ (Syntax.copy
+    (Syntax.place 13 List.[])) List.[]))) (Syntax.place 11 List.[])
 
 abbrev b14 : Syntax.Body
 b14 = Syntax.assign (Syntax.place 14 List.[]) (Syntax.addrOf (Syntax.place 3 (List._∷_ (Syntax.field 0) (List._∷_ (Syntax.deref (Syntax.tyInt Syntax.w8)) List.[]))))
@@ -1995,18 +2013,12 @@ module _ (claims· : Claims) where
   s23 = λ bs. Call.callB ps·1 r·1 (claims· .2) (claims· .3) T25 (
     record { pos = 1; ty = Syntax.tyRef (Syntax.named 0) Syntax.imm (Syntax.tyInt Syntax.w8); ref = λ x. x },
     (
-      Num.vFld 6 (List._∷_ (Syntax.field 0) List.[]) 0 λ x. CodestreamOffset.struct .as-values x .0,
-      (
-        record {
-          pos = 13;
-          ty = Syntax.tyRef Syntax.erased Syntax.mut
-              LentTilePartEntry.pointee;
-          ref = λ x. x;
-        },
-        tt,
-      ),
+      record
+          { pos = 6; st = List.[]; d = 0; at = λ x. x },
+      (record { pos = 13; ty = Syntax.tyRef Syntax.erased Syntax.mut LentTilePartEntry.pointee; ref = λ x. x }, tt),
     ),
-  ) 11 (List._∷_ 0 (List._∷_ 3 List.[])) Syntax.tyUnit
+  ) 11 (List._∷_ 0
+      (List._∷_ 3 List.[])) Syntax.tyUnit
 
   abbrev s24 : (bs : List.List Nat.ℕ) → Typed.Mo T26 → Typed.Mo T27
   s24 = λ bs. Scalar.n-room T26 6 (Syntax.tyStruct (List._∷_ 116 (List._∷_ 121 (List._∷_ 112 (List._∷_ 101 (List._∷_ 115 (List._∷_ 58 (List._∷_ 58 (List._∷_ 67 (List._∷_ 111
@@ -3070,7 +3082,7 @@ module _ (claims· : Claims) where
               (List._∷_ 102 (List._∷_ 115 (List._∷_ 101 (List._∷_ 116 List.[]))))))))))))))))))))))) (Syntax.tcons (Syntax.tyInt Syntax.w64) Syntax.tnil)) (Syntax.tcons
               (Syntax.tyInt Syntax.w64) (Syntax.tcons (Syntax.tyInt Syntax.w64) Syntax.tnil)))) 8 λ v. Laws'4.val MainHeaderInfo.the-type Laws'.the-laws (v .0)) (λ m. m .1 .1 .1 .1
               .0 .0) (λ m. Laws'3.Fields (Declared.variants MainHeader.the-type) (Laws'3.spellss (MainHeader.enum .parts) Laws.the-laws) (MainHeader.the-type .to (Known.at
-              MainHeader.enum 0 (m .1 .1 .1 .1 .0)))) (Reads'.room-gone 𝓤 H A (Syntax.tyStruct (List._∷_ 104 (List._∷_ 101 (List._∷_ 97 (List._∷_ 100 (List._∷_ 101 (List._∷_ 114
+              MainHeader.enum 0 (m .1 .1 .1 .1 .0)))) (Reads.room-gone 𝓤 H A (Syntax.tyStruct (List._∷_ 104 (List._∷_ 101 (List._∷_ 97 (List._∷_ 100 (List._∷_ 101 (List._∷_ 114
               (List._∷_ 58 (List._∷_ 58 (List._∷_ 112 (List._∷_ 97 (List._∷_ 114 (List._∷_ 115 (List._∷_ 101 (List._∷_ 58 (List._∷_ 58 (List._∷_ 77 (List._∷_ 97 (List._∷_ 105
               (List._∷_ 110 (List._∷_ 72 (List._∷_ 101 (List._∷_ 97 (List._∷_ 100 (List._∷_ 101 (List._∷_ 114 (List._∷_ 73 (List._∷_ 110 (List._∷_ 102 (List._∷_ 111
               List.[]))))))))))))))))))))))))))))) (Syntax.tcons (Syntax.tyStruct (List._∷_ 116 (List._∷_ 121 (List._∷_ 112 (List._∷_ 101 (List._∷_ 115 (List._∷_ 58 (List._∷_ 58
@@ -3089,15 +3101,15 @@ module _ (claims· : Claims) where
               ) Path'.refl (λ ρ m.
               Make.tells-row 𝓤 H A W E ρ (Row.out 5 (G15 .locals)) m 4 (Laws'3.Fields (Declared.variants MainHeader.the-type) (Laws'3.spellss (MainHeader.enum .parts)
               Laws.the-laws) (MainHeader.the-type .to (Known.at MainHeader.enum 0 (m .1 .1 .1 .1 .0)))) (Known.known-is 𝓤 H A W E MainHeader.enum 0 Laws.the-laws ρ 4 (m .1 .1 .1 .1
-              .0))) (λ m k wa. Path'.refl) λ m k wa. k .0) (Known.g-enum-whole 𝓤 H A W E MainHeader.enum 0 G16 4 (λ x. x) (Reads'.as-is 𝓤 H A (Rows.whole (Known.Known
+              .0))) (λ m k wa. Path'.refl) λ m k wa. k .0) (Known.g-enum-whole 𝓤 H A W E MainHeader.enum 0 G16 4 (λ x. x) (Reads.as-is 𝓤 H A (Rows.whole (Known.Known
               MainHeader.enum 0)))))
 
           d1 : Typed.Typed 𝓤 H A 𝓣 E G14 b5 Δ1 (at1 bs)
-          d1 = Typed.g-pre 𝓤 H A W 𝓣 E G14 G15 b5 Δ1 (Typed.give (s12 bs)) (at0 bs) (Known.g-known-told 𝓤 H A W E MainHeader.enum 0 G14 4 Laws.the-laws (λ x. x) (Reads'.as-is 𝓤 H A
+          d1 = Typed.g-pre 𝓤 H A W 𝓣 E G14 G15 b5 Δ1 (Typed.give (s12 bs)) (at0 bs) (Known.g-known-told 𝓤 H A W E MainHeader.enum 0 G14 4 Laws.the-laws (λ x. x) (Reads.as-is 𝓤 H A
               (Rows.whole (Known.Known MainHeader.enum 0)))) d0
 
           d2 : Typed.Typed 𝓤 H A 𝓣 E G13 b5 Δ1 (at2 bs)
-          d2 = Typed.g-pre 𝓤 H A W 𝓣 E G13 G14 b5 Δ1 (Typed.both (s11 bs)) (at1 bs) (Known.g-enum-known 𝓤 H A W E MainHeader.enum 0 G13 4 (λ x. x) (Reads'.as-is 𝓤 H A (Rows.whole
+          d2 = Typed.g-pre 𝓤 H A W 𝓣 E G13 G14 b5 Δ1 (Typed.both (s11 bs)) (at1 bs) (Known.g-enum-known 𝓤 H A W E MainHeader.enum 0 G13 4 (λ x. x) (Reads.as-is 𝓤 H A (Rows.whole
               (Declared.row MainHeader.the-type)))) d1
 
           d3 : Typed.Typed 𝓤 H A 𝓣 E G20 b7 Δ1 (at3 bs)
@@ -3156,7 +3168,7 @@ module _ (claims· : Claims) where
               Syntax.tnil) Syntax.ttnil))) (Rows.whole (Declared.row MainHeader.the-type)) (Rows.whole (Declared.row MainHeader.the-type)) (λ x. x) (λ x. x) (λ x. x) Path'.refl
               (Own.told-none 𝓤 H A (G18 .slots)) (Yields.yields-copy 𝓤 H A W (λ ρ. Unit) (Declared.row MainHeader.the-type) Path'.refl (Copies.cEnum MainHeader.the-type
               Laws.the-laws Laws.the-copy .copy 𝓤 H A W) (Rows.whole (Declared.row MainHeader.the-type)) (λ x. x) (λ x. x) (λ ρ told. Local.mem-whole 𝓤 H A W (Declared.row
-              MainHeader.the-type) ρ) λ ρ told. Local.whole-mem 𝓤 H A W (Declared.row MainHeader.the-type) ρ) (Reads'.room-gone 𝓤 H A (Syntax.tyEnum (List._∷_ 104 (List._∷_ 101
+              MainHeader.the-type) ρ) λ ρ told. Local.whole-mem 𝓤 H A W (Declared.row MainHeader.the-type) ρ) (Reads.room-gone 𝓤 H A (Syntax.tyEnum (List._∷_ 104 (List._∷_ 101
               (List._∷_ 97 (List._∷_ 100 (List._∷_ 101 (List._∷_ 114 (List._∷_ 58 (List._∷_ 58 (List._∷_ 112 (List._∷_ 97 (List._∷_ 114 (List._∷_ 115 (List._∷_ 101 (List._∷_ 58
               (List._∷_ 58 (List._∷_ 77 (List._∷_ 97 (List._∷_ 105 (List._∷_ 110 (List._∷_ 72 (List._∷_ 101 (List._∷_ 97 (List._∷_ 100 (List._∷_ 101 (List._∷_ 114
               List.[]))))))))))))))))))))))))) (Syntax.ttcons (Syntax.tcons (Syntax.tyStruct (List._∷_ 104 (List._∷_ 101 (List._∷_ 97 (List._∷_ 100 (List._∷_ 101 (List._∷_ 114
@@ -3247,7 +3259,7 @@ module _ (claims· : Claims) where
               Syntax.tnil) Syntax.ttnil))) (Rows.whole (Declared.row MainHeader.the-type)) (Rows.whole (Declared.row MainHeader.the-type)) (λ x. x) (λ x. x) (λ x. x) Path'.refl
               (Own.told-none 𝓤 H A (G40 .slots)) (Yields.yields-copy 𝓤 H A W (λ ρ. Unit) (Declared.row MainHeader.the-type) Path'.refl (Copies.cEnum MainHeader.the-type
               Laws.the-laws Laws.the-copy .copy 𝓤 H A W) (Rows.whole (Declared.row MainHeader.the-type)) (λ x. x) (λ x. x) (λ ρ told. Local.mem-whole 𝓤 H A W (Declared.row
-              MainHeader.the-type) ρ) λ ρ told. Local.whole-mem 𝓤 H A W (Declared.row MainHeader.the-type) ρ) (Reads'.room-gone 𝓤 H A (Syntax.tyEnum (List._∷_ 104 (List._∷_ 101
+              MainHeader.the-type) ρ) λ ρ told. Local.whole-mem 𝓤 H A W (Declared.row MainHeader.the-type) ρ) (Reads.room-gone 𝓤 H A (Syntax.tyEnum (List._∷_ 104 (List._∷_ 101
               (List._∷_ 97 (List._∷_ 100 (List._∷_ 101 (List._∷_ 114 (List._∷_ 58 (List._∷_ 58 (List._∷_ 112 (List._∷_ 97 (List._∷_ 114 (List._∷_ 115 (List._∷_ 101 (List._∷_ 58
               (List._∷_ 58 (List._∷_ 77 (List._∷_ 97 (List._∷_ 105 (List._∷_ 110 (List._∷_ 72 (List._∷_ 101 (List._∷_ 97 (List._∷_ 100 (List._∷_ 101 (List._∷_ 114
               List.[]))))))))))))))))))))))))) (Syntax.ttcons (Syntax.tcons (Syntax.tyStruct (List._∷_ 104 (List._∷_ 101 (List._∷_ 97 (List._∷_ 100 (List._∷_ 101 (List._∷_ 114
@@ -3267,15 +3279,15 @@ module _ (claims· : Claims) where
 
           d14 : Typed.Typed 𝓤 H A 𝓣 E G38 b19 Δ0 (at14 bs)
           d14 = Typed.g-pre 𝓤 H A W 𝓣 E G38 G39 b19 Δ0 (Typed.give (s36 bs)) (at13 bs) (Know.g-sl-known 𝓤 H A W (Referent.fInt Syntax.w8) E G38 3 2 (Syntax.tyRef (Syntax.named 2)
-              Syntax.mut (Syntax.tyInt Syntax.w8)) (Row.lease (κs .1 .1 .0) (qs .1 .1 .0)) 0 (λ x. x) record { fits = Dec'.lit< tt } (Reads'.as-is 𝓤 H A (Mut.mslice (Referent.rtF
+              Syntax.mut (Syntax.tyInt Syntax.w8)) (Row.lease (κs .1 .1 .0) (qs .1 .1 .0)) 0 (λ x. x) record { fits = Dec'.lit< tt } (Reads.as-is 𝓤 H A (Mut.mslice (Referent.rtF
               (Referent.fInt Syntax.w8)) (Syntax.tyRef (Syntax.named 2) Syntax.mut (Syntax.tyInt Syntax.w8)) 2)) Path'.refl tt) d13
 
           d15 : Typed.Typed 𝓤 H A 𝓣 E G37 b19 Δ0 (at15 bs)
           d15 = Typed.g-pre 𝓤 H A W 𝓣 E G37 G38 b19 Δ0 (Typed.both (s35 bs)) (at14 bs) (Relend.g-back-sl 𝓤 H A W E (Referent.rtF (Referent.fInt Syntax.w8)) G37 15 3 2 4
               (Syntax.tyRef (Syntax.named 2) Syntax.mut (Syntax.tyInt Syntax.w8)) (Syntax.tyRef Syntax.erased Syntax.mut (Syntax.tyInt Syntax.w8)) (Row.lease (κs .1 .1 .0) (qs .1
-              .1 .0)) (λ x. x) (λ x. x) (Reads'.as-is 𝓤 H A (Mut.msleft (Referent.rtF (Referent.fInt Syntax.w8)) (Syntax.tyRef Syntax.erased Syntax.mut (Syntax.tyInt Syntax.w8))))
-              (Reads'.as-is 𝓤 H A (Relend.mslice-owed (Referent.rtF (Referent.fInt Syntax.w8)) (Syntax.tyRef (Syntax.named 2) Syntax.mut (Syntax.tyInt Syntax.w8)) 2 4 (Row.lease
-              (κs .1 .1 .0) (qs .1 .1 .0)))) Path'.refl Path'.refl) d14
+              .1 .0)) (λ x. x) (λ x. x) (Reads.as-is 𝓤 H A (Mut.msleft (Referent.rtF (Referent.fInt Syntax.w8)) (Syntax.tyRef Syntax.erased Syntax.mut (Syntax.tyInt Syntax.w8))))
+              (Reads.as-is 𝓤 H A (Relend.mslice-owed (Referent.rtF (Referent.fInt Syntax.w8)) (Syntax.tyRef (Syntax.named 2) Syntax.mut (Syntax.tyInt Syntax.w8)) 2 4 (Row.lease (κs
+              .1 .1 .0) (qs .1 .1 .0)))) Path'.refl Path'.refl) d14
 
           d16 : Typed.Typed 𝓤 H A 𝓣 E G36 b19 Δ0 (at16 bs)
           d16 = Typed.g-pre 𝓤 H A W 𝓣 E G36 G37 b19 Δ0 (λ Ψ. Ψ) (at15 bs) (Lifetime.g-end 𝓤 H A W E G36 4 Path'.refl) d15
@@ -3302,20 +3314,20 @@ module _ (claims· : Claims) where
                     H A W (Referent.rtF (Referent.fInt Syntax.w8)) (Syntax.tyRef (Syntax.named 0) Syntax.imm (Syntax.tyInt Syntax.w8)) 0,
                 Path'.refl,
                 (
-                  Reads'.as-is 𝓤 H A (Mut.mslice
+                  Reads.as-is 𝓤 H A (Mut.mslice
                       (Referent.rtF (Referent.fInt Syntax.w8)) (Syntax.tyRef Syntax.erased Syntax.mut (Syntax.tyInt Syntax.w8)) 4),
                   Mut.reads-mslice 𝓤 H A W (Referent.rtF (Referent.fInt
                       Syntax.w8)) (Syntax.tyRef Syntax.erased Syntax.mut (Syntax.tyInt Syntax.w8)) 4,
                   Path'.refl,
                   tt,
                 ),
-              ) (Reads'.room-gone 𝓤 H A Syntax.tyUnit) (tt, (tt, tt)) Path'.refl) d17
+              ) (Reads.room-gone 𝓤 H A Syntax.tyUnit) (tt, (tt, tt)) Path'.refl) d17
 
           d19 : Typed.Typed 𝓤 H A 𝓣 E G33 b21 Δ0 (at19 bs)
           d19 = Typed.s-seq 𝓤 H A W 𝓣 E G33 G34 b15 b20 Δ0 (Typed.ask (s31 bs)) (at18 bs) (Relend.t-sl-aggregate 𝓤 H A W E (Referent.rtF (Referent.fInt Syntax.w8)) 𝓣 (Relend.asMut
               (Referent.rtF (Referent.fInt Syntax.w8))) G33 14 15 4 (Syntax.tyRef Syntax.erased Syntax.mut (Syntax.tyInt Syntax.w8)) (Syntax.tyRef Syntax.erased Syntax.mut
-              (Syntax.tyInt Syntax.w8)) (λ x. x) (Scalar.oFld 3 (List._∷_ (Syntax.field 1) List.[]) (Syntax.tyInt Syntax.w64) 8 λ v. Shared.lenV (v .0)) (Reads'.as-is 𝓤 H A
-              (Relend.msptr (Referent.rtF (Referent.fInt Syntax.w8)) (Syntax.tyRef Syntax.erased Syntax.mut (Syntax.tyInt Syntax.w8)) 4)) (Reads'.room-gone 𝓤 H A (Syntax.tyStruct
+              (Syntax.tyInt Syntax.w8)) (λ x. x) (Scalar.oFld 3 (List._∷_ (Syntax.field 1) List.[]) (Syntax.tyInt Syntax.w64) 8 λ v. Shared.lenV (v .0)) (Reads.as-is 𝓤 H A
+              (Relend.msptr (Referent.rtF (Referent.fInt Syntax.w8)) (Syntax.tyRef Syntax.erased Syntax.mut (Syntax.tyInt Syntax.w8)) 4)) (Reads.room-gone 𝓤 H A (Syntax.tyStruct
               (List._∷_ 38 (List._∷_ 91 (List._∷_ 93 List.[]))) (Syntax.tcons (Syntax.tyRef Syntax.erased Syntax.mut (Syntax.tyInt Syntax.w8)) (Syntax.tcons (Syntax.tyInt
               Syntax.w64) Syntax.tnil)))) (
                 Relend.reads-owed-len 𝓤 H A W (Referent.rtF (Referent.fInt Syntax.w8)) (Syntax.tyRef (Syntax.named 2) Syntax.mut (Syntax.tyInt
@@ -3326,8 +3338,8 @@ module _ (claims· : Claims) where
           d20 : Typed.Typed 𝓤 H A 𝓣 E G32 b22 Δ0 (at20 bs)
           d20 = Typed.s-seq 𝓤 H A W 𝓣 E G32 G33 b14 b21 Δ0 (Typed.give (s30 bs)) (at19 bs) (Relend.t-sl-relend 𝓤 H A W E (Referent.rtF (Referent.fInt Syntax.w8)) 𝓣 G32 3 14 2 4
               (Syntax.tyRef (Syntax.named 2) Syntax.mut (Syntax.tyInt Syntax.w8)) (Syntax.tyRef Syntax.erased Syntax.mut (Syntax.tyInt Syntax.w8)) (Row.lease (κs .1 .1 .0) (qs .1
-              .1 .0)) 0 (λ x. x) (Reads'.as-is 𝓤 H A (Mut.mslice (Referent.rtF (Referent.fInt Syntax.w8)) (Syntax.tyRef (Syntax.named 2) Syntax.mut (Syntax.tyInt Syntax.w8)) 2))
-              (Reads'.room-gone 𝓤 H A (Syntax.tyRef Syntax.erased Syntax.mut (Syntax.tyInt Syntax.w8))) Path'.refl tt Path'.refl Path'.refl Path'.refl λ b o. tt) d19
+              .1 .0)) 0 (λ x. x) (Reads.as-is 𝓤 H A (Mut.mslice (Referent.rtF (Referent.fInt Syntax.w8)) (Syntax.tyRef (Syntax.named 2) Syntax.mut (Syntax.tyInt Syntax.w8)) 2))
+              (Reads.room-gone 𝓤 H A (Syntax.tyRef Syntax.erased Syntax.mut (Syntax.tyInt Syntax.w8))) Path'.refl tt Path'.refl Path'.refl Path'.refl λ b o. tt) d19
 
           d21 : Typed.Typed 𝓤 H A 𝓣 E G31 b22 Δ0 (at21 bs)
           d21 = Typed.g-pre 𝓤 H A W 𝓣 E G31 G32 b22 Δ0 (λ Ψ. Ψ) (at20 bs) (Lifetime.g-begin 𝓤 H A W E G31 4 (
@@ -3380,7 +3392,7 @@ module _ (claims· : Claims) where
           d23 : Typed.Typed 𝓤 H A 𝓣 E G29 b22 Δ0 (at23 bs)
           d23 = Typed.g-pre 𝓤 H A W 𝓣 E G29 G30 b22 Δ0 (Typed.both (s27 bs)) (at22 bs) (Relend.g-back-sl 𝓤 H A W E LentTilePartEntry.row G29 13 2 1 3 (Syntax.tyRef (Syntax.named 1)
               Syntax.mut LentTilePartEntry.pointee) (Syntax.tyRef Syntax.erased Syntax.mut LentTilePartEntry.pointee) (Row.lease (κs .1 .0) (qs .1 .0)) (λ x. x) (λ x. x)
-              (Reads'.as-is 𝓤 H A (Mut.msleft LentTilePartEntry.row (Syntax.tyRef Syntax.erased Syntax.mut LentTilePartEntry.pointee))) (Reads'.as-is 𝓤 H A (Relend.mslice-owed
+              (Reads.as-is 𝓤 H A (Mut.msleft LentTilePartEntry.row (Syntax.tyRef Syntax.erased Syntax.mut LentTilePartEntry.pointee))) (Reads.as-is 𝓤 H A (Relend.mslice-owed
               LentTilePartEntry.row (Syntax.tyRef (Syntax.named 1) Syntax.mut LentTilePartEntry.pointee) 1 3 (Row.lease (κs .1 .0) (qs .1 .0)))) Path'.refl Path'.refl) d22
 
           d24 : Typed.Typed 𝓤 H A 𝓣 E G28 b22 Δ0 (at24 bs)
@@ -3408,45 +3420,45 @@ module _ (claims· : Claims) where
                       x;
                 },
                 (
-                  Num.vFld 6 (List._∷_ (Syntax.field 0) List.[]) 0 λ x. CodestreamOffset.struct .as-values x .0,
+                  record { pos = 6; st = List.[]; d = 0; at = λ x. x },
                   (
                     record {
                       pos = 13;
-                      ty = Syntax.tyRef Syntax.erased Syntax.mut
-                          LentTilePartEntry.pointee;
+                      ty = Syntax.tyRef Syntax.erased Syntax.mut LentTilePartEntry.pointee;
                       ref = λ x. x;
                     },
                     tt,
                   ),
                 ),
               ) 11 (List._∷_ 0 (List._∷_ 3 List.[])) (Call.sub-id 𝓤 H A W (G25 .slots)) (
-                ShrSlice.spares-sslice 𝓤 H A W
-                    (Referent.rtF (Referent.fInt Syntax.w8)) (Syntax.tyRef (Syntax.named 0) Syntax.imm (Syntax.tyInt Syntax.w8)) 0,
-                Shared.reads-sslice 𝓤 H A W (Referent.rtF
-                    (Referent.fInt Syntax.w8)) (Syntax.tyRef (Syntax.named 0) Syntax.imm (Syntax.tyInt Syntax.w8)) 0,
+                ShrSlice.spares-sslice 𝓤 H A W (Referent.rtF (Referent.fInt Syntax.w8))
+                    (Syntax.tyRef (Syntax.named 0) Syntax.imm (Syntax.tyInt Syntax.w8)) 0,
+                Shared.reads-sslice 𝓤 H A W (Referent.rtF (Referent.fInt Syntax.w8)) (Syntax.tyRef
+                    (Syntax.named 0) Syntax.imm (Syntax.tyInt Syntax.w8)) 0,
                 Path'.refl,
                 (
                   (
-                    Reads.reads-field 𝓤 H A W CodestreamOffset.the-type
-                        Laws''.the-laws 0 (Syntax.tyInt Syntax.w64) 0 Path'.refl,
+                    Yields.yields-copy 𝓤 H A W (λ ρ. Unit) (Declared'.row CodestreamOffset.the-type) Path'.refl
+                        (Copies.cStruct CodestreamOffset.the-type Laws''.the-laws Laws''.the-copy .copy 𝓤 H A W) (Rows.whole (Declared'.row CodestreamOffset.the-type)) (λ x. x) (λ x. x) (λ ρ
+                        told. Local.mem-whole 𝓤 H A W (Declared'.row CodestreamOffset.the-type) ρ) λ ρ told. Local.whole-mem 𝓤 H A W (Declared'.row CodestreamOffset.the-type) ρ,
                     Path'.refl,
                   ),
                   (
-                    Reads'.as-is 𝓤 H A (Mut.mslice LentTilePartEntry.row (Syntax.tyRef Syntax.erased Syntax.mut
-                        LentTilePartEntry.pointee) 3),
-                    Mut.reads-mslice 𝓤 H A W LentTilePartEntry.row (Syntax.tyRef Syntax.erased Syntax.mut LentTilePartEntry.pointee) 3,
+                    Reads.as-is 𝓤 H A (Mut.mslice LentTilePartEntry.row (Syntax.tyRef Syntax.erased Syntax.mut LentTilePartEntry.pointee) 3),
+                    Mut.reads-mslice 𝓤 H A W
+                        LentTilePartEntry.row (Syntax.tyRef Syntax.erased Syntax.mut LentTilePartEntry.pointee) 3,
                     Path'.refl,
                     tt,
                   ),
                 ),
-              )
-              (Reads'.room-gone 𝓤 H A Syntax.tyUnit) (tt, (tt, tt)) Path'.refl) d26
+              ) (Reads.room-gone 𝓤 H A Syntax.tyUnit) (tt, (tt, tt))
+              Path'.refl) d26
 
           d28 : Typed.Typed 𝓤 H A 𝓣 E G24 b24 Δ0 (at28 bs)
           d28 = Typed.s-seq 𝓤 H A W 𝓣 E G24 G25 b12 b23 Δ0 (Typed.ask (s22 bs)) (at27 bs) (Relend.t-sl-aggregate 𝓤 H A W E LentTilePartEntry.row 𝓣 (Relend.asMut
               LentTilePartEntry.row) G24 12 13 3 (Syntax.tyRef Syntax.erased Syntax.mut LentTilePartEntry.pointee) (Syntax.tyRef Syntax.erased Syntax.mut LentTilePartEntry.pointee)
-              (λ x. x) (Scalar.oFld 2 (List._∷_ (Syntax.field 1) List.[]) (Syntax.tyInt Syntax.w64) 8 λ v. Shared.lenV (v .0)) (Reads'.as-is 𝓤 H A (Relend.msptr
-              LentTilePartEntry.row (Syntax.tyRef Syntax.erased Syntax.mut LentTilePartEntry.pointee) 3)) (Reads'.room-gone 𝓤 H A (Syntax.tyStruct (List._∷_ 38 (List._∷_ 91
+              (λ x. x) (Scalar.oFld 2 (List._∷_ (Syntax.field 1) List.[]) (Syntax.tyInt Syntax.w64) 8 λ v. Shared.lenV (v .0)) (Reads.as-is 𝓤 H A (Relend.msptr
+              LentTilePartEntry.row (Syntax.tyRef Syntax.erased Syntax.mut LentTilePartEntry.pointee) 3)) (Reads.room-gone 𝓤 H A (Syntax.tyStruct (List._∷_ 38 (List._∷_ 91
               (List._∷_ 93 List.[]))) (Syntax.tcons (Syntax.tyRef Syntax.erased Syntax.mut LentTilePartEntry.pointee) (Syntax.tcons (Syntax.tyInt Syntax.w64) Syntax.tnil)))) (
                 Relend.reads-owed-len 𝓤 H A W LentTilePartEntry.row (Syntax.tyRef (Syntax.named 1) Syntax.mut LentTilePartEntry.pointee) 1 3 (Row.lease (κs .1 .0) (qs .1 .0)) 8
                     Path'.refl,
@@ -3456,7 +3468,7 @@ module _ (claims· : Claims) where
           d29 : Typed.Typed 𝓤 H A 𝓣 E G23 b25 Δ0 (at29 bs)
           d29 = Typed.s-seq 𝓤 H A W 𝓣 E G23 G24 b11 b24 Δ0 (Typed.give (s21 bs)) (at28 bs) (Relend.t-sl-relend 𝓤 H A W E LentTilePartEntry.row 𝓣 G23 2 12 1 3 (Syntax.tyRef
               (Syntax.named 1) Syntax.mut LentTilePartEntry.pointee) (Syntax.tyRef Syntax.erased Syntax.mut LentTilePartEntry.pointee) (Row.lease (κs .1 .0) (qs .1 .0)) 0 (λ x. x)
-              (Reads'.as-is 𝓤 H A (Mut.mslice LentTilePartEntry.row (Syntax.tyRef (Syntax.named 1) Syntax.mut LentTilePartEntry.pointee) 1)) (Reads'.room-gone 𝓤 H A (Syntax.tyRef
+              (Reads.as-is 𝓤 H A (Mut.mslice LentTilePartEntry.row (Syntax.tyRef (Syntax.named 1) Syntax.mut LentTilePartEntry.pointee) 1)) (Reads.room-gone 𝓤 H A (Syntax.tyRef
               Syntax.erased Syntax.mut LentTilePartEntry.pointee)) Path'.refl tt Path'.refl Path'.refl Path'.refl λ b o. tt) d28
 
           d30 : Typed.Typed 𝓤 H A 𝓣 E G22 b25 Δ0 (at30 bs)
@@ -3558,8 +3570,8 @@ module _ (claims· : Claims) where
                 Row.hd 0
                     (Row.tl (Row.tl (Row.tl (Row.tl (Row.tl bs))))),
                 0,
-              ) (u .1 .1 .1 .1 .1 .0) (MainHeaderInfo.struct .as-values (u .1 .1 .1 .1 .1 .0)) Path'.refl)) (Reads'.room-gone 𝓤 H
-              A (Syntax.tyStruct (List._∷_ 116 (List._∷_ 121 (List._∷_ 112 (List._∷_ 101 (List._∷_ 115 (List._∷_ 58 (List._∷_ 58 (List._∷_ 67 (List._∷_ 111 (List._∷_ 100 (List._∷_
+              ) (u .1 .1 .1 .1 .1 .0) (MainHeaderInfo.struct .as-values (u .1 .1 .1 .1 .1 .0)) Path'.refl)) (Reads.room-gone 𝓤 H A
+              (Syntax.tyStruct (List._∷_ 116 (List._∷_ 121 (List._∷_ 112 (List._∷_ 101 (List._∷_ 115 (List._∷_ 58 (List._∷_ 58 (List._∷_ 67 (List._∷_ 111 (List._∷_ 100 (List._∷_
               101 (List._∷_ 115 (List._∷_ 116 (List._∷_ 114 (List._∷_ 101 (List._∷_ 97 (List._∷_ 109 (List._∷_ 79 (List._∷_ 102 (List._∷_ 102 (List._∷_ 115 (List._∷_ 101 (List._∷_
               116 List.[]))))))))))))))))))))))) (Syntax.tcons (Syntax.tyInt Syntax.w64) Syntax.tnil))) (Yields.makes-mem 𝓤 H A W (λ ρ. Unit) (Declared'.row
               CodestreamOffset.the-type) Path'.refl (Rows.whole (Declared'.row CodestreamOffset.the-type)) (λ x. x) λ ρ told. Local.whole-mem 𝓤 H A W (Declared'.row
@@ -3596,7 +3608,7 @@ module _ (claims· : Claims) where
                     tt,
                   ),
                 ),
-              ) (Reads'.room-gone 𝓤 H A (Syntax.tyEnum (List._∷_ 104 (List._∷_ 101 (List._∷_ 97 (List._∷_ 100 (List._∷_ 101 (List._∷_ 114 (List._∷_ 58 (List._∷_ 58
+              ) (Reads.room-gone 𝓤 H A (Syntax.tyEnum (List._∷_ 104 (List._∷_ 101 (List._∷_ 97 (List._∷_ 100 (List._∷_ 101 (List._∷_ 114 (List._∷_ 58 (List._∷_ 58
               (List._∷_ 112 (List._∷_ 97 (List._∷_ 114 (List._∷_ 115 (List._∷_ 101 (List._∷_ 58 (List._∷_ 58 (List._∷_ 77 (List._∷_ 97 (List._∷_ 105 (List._∷_ 110 (List._∷_ 72
               (List._∷_ 101 (List._∷_ 97 (List._∷_ 100 (List._∷_ 101 (List._∷_ 114 List.[]))))))))))))))))))))))))) (Syntax.ttcons (Syntax.tcons (Syntax.tyStruct (List._∷_ 104
               (List._∷_ 101 (List._∷_ 97 (List._∷_ 100 (List._∷_ 101 (List._∷_ 114 (List._∷_ 58 (List._∷_ 58 (List._∷_ 112 (List._∷_ 97 (List._∷_ 114 (List._∷_ 115 (List._∷_ 101
@@ -3619,14 +3631,14 @@ module _ (claims· : Claims) where
                 Scalar.reads-sc
                     𝓤 H A W (Row.sInt Syntax.w64),
                 Path'.refl,
-              ) (Reads'.room-gone 𝓤 H A (Syntax.tyInt Syntax.w64)) (Scalar.holds-sc 𝓤 H A W (Row.sInt Syntax.w64)) Path'.refl (λ u.
+              ) (Reads.room-gone 𝓤 H A (Syntax.tyInt Syntax.w64)) (Scalar.holds-sc 𝓤 H A W (Row.sInt Syntax.w64)) Path'.refl (λ u.
               Path'.refl) λ u. tt) d35
 
           d37 : Typed.Typed 𝓤 H A 𝓣 E G6 b30 Δ0 (at37 bs)
           d37 = Typed.s-seq 𝓤 H A W 𝓣 E G6 G7 b2 b29 Δ0 (Typed.pass T6 T7 (s5 bs)) (at36 bs) (Scalar.t-use 𝓤 H A W E 𝓣 G6 (Scalar.oFld 3 (List._∷_ (Syntax.field 1) List.[])
               (Syntax.tyInt Syntax.w64) 8 Shared.lenV) 9 (Rows.sc-here (Row.sInt Syntax.w64)) (Syntax.tyInt Syntax.w64) (Row.valS (Row.sInt Syntax.w64)) (Row.sInt Syntax.w64 .of)
               (Mut.reads-mslice-len 𝓤 H A W (Referent.rtF (Referent.fInt Syntax.w8)) (Syntax.tyRef (Syntax.named 2) Syntax.mut (Syntax.tyInt Syntax.w8)) 2 8 Path'.refl, Path'.refl)
-              (Reads'.room-gone 𝓤 H A (Syntax.tyInt Syntax.w64)) (Scalar.holds-sc 𝓤 H A W (Row.sInt Syntax.w64)) Path'.refl (λ u. Path'.refl) λ u. tt) d36
+              (Reads.room-gone 𝓤 H A (Syntax.tyInt Syntax.w64)) (Scalar.holds-sc 𝓤 H A W (Row.sInt Syntax.w64)) Path'.refl (λ u. Path'.refl) λ u. tt) d36
 
           d38 : Typed.Typed 𝓤 H A 𝓣 E G5 b30 Δ0 (at38 bs)
           d38 = Typed.g-pre 𝓤 H A W 𝓣 E G5 G6 b30 Δ0 (Typed.pass T5 T6 (s4 bs)) (at37 bs) (Scalar.g-room 𝓤 H A W E G5 7 (Syntax.tyInt Syntax.w64) (Scalar.room-sc 𝓤 H A W (Row.sInt
@@ -3638,23 +3650,23 @@ module _ (claims· : Claims) where
                 Scalar.reads-sc 𝓤
                     H A W (Row.sInt Syntax.w64),
                 Path'.refl,
-              ) (Reads'.room-gone 𝓤 H A (Syntax.tyInt Syntax.w64)) (Scalar.holds-sc 𝓤 H A W (Row.sInt Syntax.w64)) Path'.refl (λ u.
+              ) (Reads.room-gone 𝓤 H A (Syntax.tyInt Syntax.w64)) (Scalar.holds-sc 𝓤 H A W (Row.sInt Syntax.w64)) Path'.refl (λ u.
               Path'.refl) λ u. tt) d38
 
           d40 : Typed.Typed 𝓤 H A 𝓣 E G3 b32 Δ0 (at40 bs)
           d40 = Typed.s-seq 𝓤 H A W 𝓣 E G3 G4 b0 b31 Δ0 (Typed.pass T3 T4 (s2 bs)) (at39 bs) (Scalar.t-use 𝓤 H A W E 𝓣 G3 (Scalar.oFld 2 (List._∷_ (Syntax.field 1) List.[])
               (Syntax.tyInt Syntax.w64) 8 Shared.lenV) 7 (Rows.sc-here (Row.sInt Syntax.w64)) (Syntax.tyInt Syntax.w64) (Row.valS (Row.sInt Syntax.w64)) (Row.sInt Syntax.w64 .of)
-              (Mut.reads-mslice-len 𝓤 H A W LentTilePartEntry.row (Syntax.tyRef (Syntax.named 1) Syntax.mut LentTilePartEntry.pointee) 1 8 Path'.refl, Path'.refl) (Reads'.room-gone
+              (Mut.reads-mslice-len 𝓤 H A W LentTilePartEntry.row (Syntax.tyRef (Syntax.named 1) Syntax.mut LentTilePartEntry.pointee) 1 8 Path'.refl, Path'.refl) (Reads.room-gone
               𝓤 H A (Syntax.tyInt Syntax.w64)) (Scalar.holds-sc 𝓤 H A W (Row.sInt Syntax.w64)) Path'.refl (λ u. Path'.refl) λ u. tt) d39
 
           d41 : Typed.Typed 𝓤 H A 𝓣 E G2 b32 Δ0 (at41 bs)
           d41 = Typed.g-pre 𝓤 H A W 𝓣 E G2 G3 b32 Δ0 (Typed.give (s1 bs)) (at40 bs) (Know.g-sl-known 𝓤 H A W (Referent.fInt Syntax.w8) E G2 3 2 (Syntax.tyRef (Syntax.named 2)
-              Syntax.mut (Syntax.tyInt Syntax.w8)) (Row.lease (κs .1 .1 .0) (qs .1 .1 .0)) 0 (λ x. x) record { fits = Dec'.lit< tt } (Reads'.as-is 𝓤 H A (Mut.mslice (Referent.rtF
+              Syntax.mut (Syntax.tyInt Syntax.w8)) (Row.lease (κs .1 .1 .0) (qs .1 .1 .0)) 0 (λ x. x) record { fits = Dec'.lit< tt } (Reads.as-is 𝓤 H A (Mut.mslice (Referent.rtF
               (Referent.fInt Syntax.w8)) (Syntax.tyRef (Syntax.named 2) Syntax.mut (Syntax.tyInt Syntax.w8)) 2)) Path'.refl tt) d40
 
           d42 : Typed.Typed 𝓤 H A 𝓣 E G0 b32 Δ0 (at42 bs)
           d42 = Typed.g-pre 𝓤 H A W 𝓣 E G0 G2 b32 Δ0 (Typed.give (s0 bs)) (at41 bs) (Know.g-shs-known 𝓤 H A W (Referent.fInt Syntax.w8) E G0 1 0 (Syntax.tyRef (Syntax.named 0)
-              Syntax.imm (Syntax.tyInt Syntax.w8)) (Row.lease (κs .0) (qs .0)) 0 (λ x. x) record { fits = Dec'.lit< tt } (Reads'.as-is 𝓤 H A (Rows.sslice (Referent.rtF
+              Syntax.imm (Syntax.tyInt Syntax.w8)) (Row.lease (κs .0) (qs .0)) 0 (λ x. x) record { fits = Dec'.lit< tt } (Reads.as-is 𝓤 H A (Rows.sslice (Referent.rtF
               (Referent.fInt Syntax.w8)) (Syntax.tyRef (Syntax.named 0) Syntax.imm (Syntax.tyInt Syntax.w8)) 0)) Path'.refl tt) d41
 
           pub typed : Typed.Typed 𝓤 H A 𝓣 E (Function.Γin 3 ps r xs m κs qs) b32 (Function.Δret 3 ps r xs m κs qs) (Φ bs)
@@ -3885,19 +3897,9 @@ module _ (claims· : Claims) where
         abbrev pub After-fill-table·own : Type 0
         After-fill-table·own = Called.Called ps·1 r·1 (claims· .3) T25 (
           record { pos = 1; ty = Syntax.tyRef (Syntax.named 0) Syntax.imm (Syntax.tyInt Syntax.w8); ref = λ x. x },
-          (
-            Num.vFld 6 (List._∷_ (Syntax.field 0) List.[]) 0 λ x. CodestreamOffset.struct .as-values x .0,
-            (
-              record {
-                pos = 13;
-                ty = Syntax.tyRef Syntax.erased Syntax.mut
-                    LentTilePartEntry.pointee;
-                ref = λ x. x;
-              },
-              tt,
-            ),
-          ),
-        ) (m22 (before· .before) (before· .fill-table-arg .given))
+          (record { pos = 6; st = List.[]; d = 0; at = λ x. x }, (record { pos = 13; ty = Syntax.tyRef Syntax.erased Syntax.mut LentTilePartEntry.pointee; ref = λ x. x }, tt)),
+        )
+            (m22 (before· .before) (before· .fill-table-arg .given))
 
       pub record After-fill-table : Type 0 where
         pub before : After-fill-table-arg
@@ -3911,19 +3913,9 @@ module _ (claims· : Claims) where
           ty = Syntax.tyRef (Syntax.named 0) Syntax.imm (Syntax.tyInt Syntax.w8);
           ref = λ x. x;
         },
-        (
-          Num.vFld 6 (List._∷_ (Syntax.field 0) List.[]) 0 λ x. CodestreamOffset.struct .as-values x .0,
-          (
-            record {
-              pos = 13;
-              ty = Syntax.tyRef Syntax.erased Syntax.mut
-                  LentTilePartEntry.pointee;
-              ref = λ x. x;
-            },
-            tt,
-          ),
-        ),
-      ) (m22 (c .before .before) (c .before .fill-table-arg .given)) (c .fill-table)
+        (record { pos = 6; st = List.[]; d = 0; at = λ x. x }, (record { pos = 13; ty = Syntax.tyRef Syntax.erased Syntax.mut LentTilePartEntry.pointee; ref = λ x. x }, tt)),
+      )
+          (m22 (c .before .before) (c .before .fill-table-arg .given)) (c .fill-table)
 
       abbrev pub m24 : (before : After-fill-table-arg) → (given : s23 (before .before .before .before .before .before .before .before .before .blocks) .gives (m22 (before .before)
           (before .fill-table-arg .given))) → Typed.Mo T27
@@ -4181,12 +4173,14 @@ module _ (claims· : Claims) where
                 fill-table = Called.called ps·1 r·1 (claims· .3) T25 (
                   record { pos = 1; ty = Syntax.tyRef (Syntax.named 0) Syntax.imm (Syntax.tyInt Syntax.w8); ref = λ x. x },
                   (
-                    Num.vFld 6 (List._∷_ (Syntax.field 0) List.[]) 0 λ x.
-                        CodestreamOffset.struct .as-values x .0,
+                    record { pos = 6; st = List.[]; d = 0; at = λ x. x },
                     (record { pos = 13; ty = Syntax.tyRef Syntax.erased Syntax.mut LentTilePartEntry.pointee; ref = λ x. x }, tt),
                   ),
                 ) (m22 record {
-                  before = record { before = c .before; known-told = c .known-told };
+                  before = record {
+                    before = c .before;
+                    known-told = c .known-told;
+                  };
                   first-sot = record { given = g };
                 } g') g'';
               },

@@ -3,6 +3,8 @@ use Rattle.types.proofs.lent.TilePartEntry as LentTilePartEntry
 use Prim.Native.Nat
 use Rattle.parts.proofs.scan.Scanned
 use Rattle.parts.proofs.scan.Scanned.Laws
+use Rattle.types.proofs.CodestreamOffset
+use Rattle.types.proofs.CodestreamOffset.Laws as Laws'
 use borrow.Author.Called
 use borrow.Enum.Known
 use borrow.Enum.Match
@@ -38,8 +40,10 @@ use borrow.Table.Rows
 use borrow.Table.Typed
 use contract.Lifetimes
 use denote.Enum.Declared
-use denote.Enum.Laws as Laws'
+use denote.Enum.Laws as Laws''
 use denote.Exit
+use denote.Struct.Declared as Declared'
+use denote.Struct.Laws as Laws'3
 use denote.Triple.Clauses
 use denote.Triple.Statement
 use ghost.Atoms
@@ -55,23 +59,43 @@ use types.Kit
 use types.Run
 
 abbrev pub ps : List.List (Kinds.PK 2)
-ps = List._∷_ (ShrSlice.pShrS (Referent.rtF (Referent.fInt Syntax.w8)) 0 tt) (List._∷_ (Num.pNum Syntax.w64) (List._∷_ (MutSlice.pMutS LentTilePartEntry.row 1 tt) List.[]))
+ps = List._∷_ (ShrSlice.pShrS (Referent.rtF (Referent.fInt Syntax.w8)) 0 tt) (List._∷_ (Value.pVal record {
+  ty = Declared'.row CodestreamOffset.the-type;
+  one = Path'.refl;
+  val =
+      Laws'3.val CodestreamOffset.the-type Laws'.the-laws;
+  tells = Laws'3.tells CodestreamOffset.the-type Laws'.the-laws;
+  still = Laws'3.still CodestreamOffset.the-type
+      Laws'.the-copy Exit.yes;
+  row = Rows.whole (Declared'.row CodestreamOffset.the-type);
+  rd = λ x. x;
+  mk = λ x. x;
+} λ M 𝓤 H A W. record {
+  copies = Laws'3.copy
+      CodestreamOffset.the-type Laws'.the-copy 𝓤 H A W;
+  lawful = Laws'3.lawful CodestreamOffset.the-type Laws'.the-laws 𝓤 H A W;
+  makes = Laws'3.makes CodestreamOffset.the-type
+      Laws'.the-plain 𝓤 H A;
+  in-mem = Local.mem-whole 𝓤 H A W (Declared'.row CodestreamOffset.the-type);
+  of-mem = Local.whole-mem 𝓤 H A W (Declared'.row CodestreamOffset.the-type);
+}) (List._∷_ (MutSlice.pMutS LentTilePartEntry.row 1 tt) List.[]))
 
 abbrev pub r : Kinds.RK 2
 r = Value.rVal record {
   ty = Declared.row Scanned.the-type;
   one = Path'.refl;
-  val = Laws'.val Scanned.the-type Laws.the-laws;
-  tells = Laws'.tells Scanned.the-type Laws.the-laws;
-  still = Laws'.still Scanned.the-type Laws.the-copy Exit.yes;
+  val = Laws''.val Scanned.the-type Laws.the-laws;
+  tells = Laws''.tells Scanned.the-type Laws.the-laws;
+  still = Laws''.still Scanned.the-type Laws.the-copy Exit.yes;
   row = Rows.whole (Declared.row Scanned.the-type);
   rd = λ x. x;
   mk = λ x. x;
 } λ M 𝓤 H A W. record {
   copies =
-      Laws'.copy Scanned.the-type Laws.the-copy 𝓤 H A W;
-  lawful = Laws'.lawful Scanned.the-type Laws.the-laws 𝓤 H A W tt;
-  makes = Laws'.makes Scanned.the-type Laws.the-plain 𝓤 H A;
+      Laws''.copy Scanned.the-type Laws.the-copy 𝓤 H A W;
+  lawful = Laws''.lawful Scanned.the-type Laws.the-laws 𝓤 H A W tt;
+  makes = Laws''.makes Scanned.the-type Laws.the-plain 𝓤 H
+      A;
   in-mem = Local.mem-whole 𝓤 H A W (Declared.row Scanned.the-type);
   of-mem = Local.whole-mem 𝓤 H A W (Declared.row Scanned.the-type);
 }
@@ -90,33 +114,78 @@ abbrev pub m : Nat.ℕ
 m = 1
 
 abbrev pub ps·0 : List.List (Kinds.PK 1)
-ps·0 = List._∷_ (ShrSlice.pShrS (Referent.rtF (Referent.fInt Syntax.w8)) 0 tt) (List._∷_ (Num.pNum Syntax.w64) (List._∷_ (Num.pNum Syntax.w64) List.[]))
+ps·0 = List._∷_ (ShrSlice.pShrS (Referent.rtF (Referent.fInt Syntax.w8)) 0 tt) (List._∷_ (Value.pVal record {
+  ty = Declared'.row CodestreamOffset.the-type;
+  one = Path'.refl;
+  val =
+      Laws'3.val CodestreamOffset.the-type Laws'.the-laws;
+  tells = Laws'3.tells CodestreamOffset.the-type Laws'.the-laws;
+  still = Laws'3.still CodestreamOffset.the-type
+      Laws'.the-copy Exit.yes;
+  row = Rows.whole (Declared'.row CodestreamOffset.the-type);
+  rd = λ x. x;
+  mk = λ x. x;
+} λ M 𝓤 H A W. record {
+  copies = Laws'3.copy
+      CodestreamOffset.the-type Laws'.the-copy 𝓤 H A W;
+  lawful = Laws'3.lawful CodestreamOffset.the-type Laws'.the-laws 𝓤 H A W;
+  makes = Laws'3.makes CodestreamOffset.the-type
+      Laws'.the-plain 𝓤 H A;
+  in-mem = Local.mem-whole 𝓤 H A W (Declared'.row CodestreamOffset.the-type);
+  of-mem = Local.whole-mem 𝓤 H A W (Declared'.row CodestreamOffset.the-type);
+}) (List._∷_ (Num.pNum Syntax.w64) List.[]))
 
 abbrev pub r·0 : Kinds.RK 1
 r·0 = Value.rVal record {
   ty = Declared.row Scanned.the-type;
   one = Path'.refl;
-  val = Laws'.val Scanned.the-type Laws.the-laws;
-  tells = Laws'.tells Scanned.the-type Laws.the-laws;
-  still = Laws'.still Scanned.the-type Laws.the-copy Exit.yes;
+  val = Laws''.val Scanned.the-type Laws.the-laws;
+  tells = Laws''.tells Scanned.the-type
+      Laws.the-laws;
+  still = Laws''.still Scanned.the-type Laws.the-copy Exit.yes;
   row = Rows.whole (Declared.row Scanned.the-type);
   rd = λ x. x;
   mk = λ x. x;
 } λ M 𝓤 H A W. record {
-  copies =
-      Laws'.copy Scanned.the-type Laws.the-copy 𝓤 H A W;
-  lawful = Laws'.lawful Scanned.the-type Laws.the-laws 𝓤 H A W tt;
-  makes = Laws'.makes Scanned.the-type Laws.the-plain 𝓤 H A;
+  copies = Laws''.copy Scanned.the-type Laws.the-copy 𝓤 H A W;
+  lawful = Laws''.lawful Scanned.the-type Laws.the-laws 𝓤 H A W tt;
+  makes = Laws''.makes Scanned.the-type
+      Laws.the-plain 𝓤 H A;
   in-mem = Local.mem-whole 𝓤 H A W (Declared.row Scanned.the-type);
   of-mem = Local.whole-mem 𝓤 H A W (Declared.row Scanned.the-type);
 }
 
-abbrev pub ps·1 : List.List (Kinds.PK 2)
-ps·1 = List._∷_ (ShrSlice.pShrS (Referent.rtF (Referent.fInt Syntax.w8)) 0 tt) (List._∷_ (Num.pNum Syntax.w64) (List._∷_ (Num.pNum Syntax.w64) (List._∷_ (MutSlice.pMutS
+abbrev pub ps·1 : List.List (Kinds.PK 0)
+ps·1 = List._∷_ (Value.pVal record {
+  ty = Declared'.row CodestreamOffset.the-type;
+  one = Path'.refl;
+  val = Laws'3.val CodestreamOffset.the-type Laws'.the-laws;
+  tells = Laws'3.tells
+      CodestreamOffset.the-type Laws'.the-laws;
+  still = Laws'3.still CodestreamOffset.the-type Laws'.the-copy Exit.yes;
+  row = Rows.whole (Declared'.row CodestreamOffset.the-type);
+  rd
+      = λ x. x;
+  mk = λ x. x;
+} λ M 𝓤 H A W. record {
+  copies = Laws'3.copy CodestreamOffset.the-type Laws'.the-copy 𝓤 H A W;
+  lawful = Laws'3.lawful CodestreamOffset.the-type
+      Laws'.the-laws 𝓤 H A W;
+  makes = Laws'3.makes CodestreamOffset.the-type Laws'.the-plain 𝓤 H A;
+  in-mem = Local.mem-whole 𝓤 H A W (Declared'.row CodestreamOffset.the-type);
+  of-mem
+      = Local.whole-mem 𝓤 H A W (Declared'.row CodestreamOffset.the-type);
+}) List.[]
+
+abbrev pub r·1 : Kinds.RK 0
+r·1 = Num.rNum Syntax.w64
+
+abbrev pub ps·2 : List.List (Kinds.PK 2)
+ps·2 = List._∷_ (ShrSlice.pShrS (Referent.rtF (Referent.fInt Syntax.w8)) 0 tt) (List._∷_ (Num.pNum Syntax.w64) (List._∷_ (Num.pNum Syntax.w64) (List._∷_ (MutSlice.pMutS
     LentTilePartEntry.row 1 tt) List.[])))
 
-abbrev pub r·1 : Kinds.RK 2
-r·1 = Unit'.rUnit
+abbrev pub r·2 : Kinds.RK 2
+r·2 = Unit'.rUnit
 
 abbrev pub hs : List.List Syntax.Home
 hs = List._∷_ Syntax.valueLocal (List._∷_ Syntax.valueLocal (List._∷_ Syntax.valueLocal (List._∷_ Syntax.valueLocal (List._∷_ Syntax.valueLocal (List._∷_ Syntax.valueLocal
@@ -150,7 +219,7 @@ b7 = Syntax.switch (Syntax.copy (Syntax.place 4 (List._∷_ (Syntax.variant 0) (
     List.[]) b6 Syntax.noDefault))
 
 abbrev b8 : Syntax.Body
-b8 = Syntax.assign (Syntax.place 6 List.[]) (Syntax.rvOpd (Syntax.copy (Syntax.place 2 List.[])))
+b8 = Syntax.call "types::CodestreamOffset::position" (List._∷_ (Syntax.copy (Syntax.place 2 List.[])) List.[]) (Syntax.place 6 List.[])
 
 abbrev b9 : Syntax.Body
 b9 = Syntax.assign (Syntax.place 9 List.[]) (Syntax.rvOpd (Syntax.copy (Syntax.place 5 List.[])))
@@ -206,7 +275,7 @@ abbrev pub body : Syntax.Body
 body = b24
 
 abbrev pub Claims : Type 1
-Claims = Kinds.In 1 ps·0 × Kinds.Out 1 ps·0 r·0 × Kinds.In 2 ps·1 × Kinds.Out 2 ps·1 r·1
+Claims = Kinds.In 1 ps·0 × Kinds.Out 1 ps·0 r·0 × Kinds.In 0 ps·1 × Kinds.Out 0 ps·1 r·1 × Kinds.In 2 ps·2 × Kinds.Out 2 ps·2 r·2
 
 abbrev pub t0 : List.List Row.Entry
 t0 = List._∷_ (
@@ -220,7 +289,7 @@ t0 = List._∷_ (
   1,
   Rows.sslice (Referent.rtF (Referent.fInt
       Syntax.w8)) (Syntax.tyRef (Syntax.named 0) Syntax.imm (Syntax.tyInt Syntax.w8)) 0,
-) (List._∷_ (2, Rows.sc-here (Row.sInt Syntax.w64)) (List._∷_ (
+) (List._∷_ (2, Rows.whole (Declared'.row CodestreamOffset.the-type)) (List._∷_ (
   3,
   Mut.mslice
       LentTilePartEntry.row (Syntax.tyRef (Syntax.named 1) Syntax.mut LentTilePartEntry.pointee) 1,
@@ -251,29 +320,35 @@ t1 = List._∷_ (0, Rows.whole (Declared.row Scanned.the-type)) (List._∷_ (
   1,
   Rows.sslice (Referent.rtF (Referent.fInt Syntax.w8)) (Syntax.tyRef (Syntax.named 0) Syntax.imm
       (Syntax.tyInt Syntax.w8)) 0,
-) (List._∷_ (2, Rows.any-gone (Syntax.tyInt Syntax.w64)) (List._∷_ (
+) (List._∷_ (
+  2,
+  Rows.any-gone (Syntax.tyStruct (List._∷_ 116 (List._∷_ 121 (List._∷_ 112 (List._∷_ 101 (List._∷_ 115 (List._∷_ 58 (List._∷_ 58
+      (List._∷_ 67 (List._∷_ 111 (List._∷_ 100 (List._∷_ 101 (List._∷_ 115 (List._∷_ 116 (List._∷_ 114 (List._∷_ 101 (List._∷_ 97 (List._∷_ 109 (List._∷_ 79 (List._∷_ 102 (List._∷_
+      102 (List._∷_ 115 (List._∷_ 101 (List._∷_ 116 List.[]))))))))))))))))))))))) (Syntax.tcons (Syntax.tyInt Syntax.w64) Syntax.tnil)),
+) (List._∷_ (
   3,
-  Mut.mslice LentTilePartEntry.row (Syntax.tyRef (Syntax.named 1) Syntax.mut
-      LentTilePartEntry.pointee) 1,
+  Mut.mslice
+      LentTilePartEntry.row (Syntax.tyRef (Syntax.named 1) Syntax.mut LentTilePartEntry.pointee) 1,
 ) (List._∷_ (
   4,
-  Rows.any-gone (Syntax.tyEnum (List._∷_ 112 (List._∷_ 97 (List._∷_ 114 (List._∷_ 116 (List._∷_ 115 (List._∷_ 58 (List._∷_ 58
-      (List._∷_ 115 (List._∷_ 99 (List._∷_ 97 (List._∷_ 110 (List._∷_ 58 (List._∷_ 58 (List._∷_ 83 (List._∷_ 99 (List._∷_ 97 (List._∷_ 110 (List._∷_ 110 (List._∷_ 101 (List._∷_ 100
-      List.[])))))))))))))))))))) (Syntax.ttcons (Syntax.tcons (Syntax.tyInt Syntax.w64) Syntax.tnil) (Syntax.ttcons (Syntax.tcons (Syntax.tyStruct (List._∷_ 116 (List._∷_ 121
-      (List._∷_ 112 (List._∷_ 101 (List._∷_ 115 (List._∷_ 58 (List._∷_ 58 (List._∷_ 82 (List._∷_ 101 (List._∷_ 102 (List._∷_ 117 (List._∷_ 115 (List._∷_ 97 (List._∷_ 108
-      List.[])))))))))))))) (Syntax.tcons (Syntax.tyInt Syntax.w32) (Syntax.tcons (Syntax.tyInt Syntax.w64) Syntax.tnil))) Syntax.tnil) Syntax.ttnil))),
-) (List._∷_ (
-  5,
+  Rows.any-gone (Syntax.tyEnum (List._∷_ 112 (List._∷_ 97 (List._∷_
+      114 (List._∷_ 116 (List._∷_ 115 (List._∷_ 58 (List._∷_ 58 (List._∷_ 115 (List._∷_ 99 (List._∷_ 97 (List._∷_ 110 (List._∷_ 58 (List._∷_ 58 (List._∷_ 83 (List._∷_ 99 (List._∷_ 97
+      (List._∷_ 110 (List._∷_ 110 (List._∷_ 101 (List._∷_ 100 List.[])))))))))))))))))))) (Syntax.ttcons (Syntax.tcons (Syntax.tyInt Syntax.w64) Syntax.tnil) (Syntax.ttcons
+      (Syntax.tcons (Syntax.tyStruct (List._∷_ 116 (List._∷_ 121 (List._∷_ 112 (List._∷_ 101 (List._∷_ 115 (List._∷_ 58 (List._∷_ 58 (List._∷_ 82 (List._∷_ 101 (List._∷_ 102
+      (List._∷_ 117 (List._∷_ 115 (List._∷_ 97 (List._∷_ 108 List.[])))))))))))))) (Syntax.tcons (Syntax.tyInt Syntax.w32) (Syntax.tcons (Syntax.tyInt Syntax.w64) Syntax.tnil)))
+      Syntax.tnil) Syntax.ttnil))),
+) (List._∷_ (5, Rows.any-gone (Syntax.tyInt Syntax.w64)) (List._∷_ (6, Rows.any-gone (Syntax.tyInt Syntax.w64)) (List._∷_ (
+  7,
   Rows.any-gone
       (Syntax.tyInt Syntax.w64),
-) (List._∷_ (6, Rows.any-gone (Syntax.tyInt Syntax.w64)) (List._∷_ (7, Rows.any-gone (Syntax.tyInt Syntax.w64)) (List._∷_ (
-  8,
-  Rows.any-gone
-      Syntax.tyUnit,
-) (List._∷_ (9, Rows.any-gone (Syntax.tyInt Syntax.w64)) (List._∷_ (10, Rows.any-gone (Syntax.tyRef Syntax.erased Syntax.mut LentTilePartEntry.pointee)) (List._∷_ (
+) (List._∷_ (8, Rows.any-gone Syntax.tyUnit) (List._∷_ (9, Rows.any-gone (Syntax.tyInt Syntax.w64)) (List._∷_ (
+  10,
+  Rows.any-gone (Syntax.tyRef
+      Syntax.erased Syntax.mut LentTilePartEntry.pointee),
+) (List._∷_ (
   11,
-  Rows.any-gone (Syntax.tyStruct (List._∷_ 38 (List._∷_ 91 (List._∷_ 93 List.[]))) (Syntax.tcons (Syntax.tyRef Syntax.erased Syntax.mut LentTilePartEntry.pointee)
-      (Syntax.tcons (Syntax.tyInt Syntax.w64) Syntax.tnil))),
+  Rows.any-gone (Syntax.tyStruct (List._∷_ 38 (List._∷_ 91 (List._∷_ 93 List.[]))) (Syntax.tcons (Syntax.tyRef
+      Syntax.erased Syntax.mut LentTilePartEntry.pointee) (Syntax.tcons (Syntax.tyInt Syntax.w64) Syntax.tnil))),
 ) List.[])))))))))))
 
 abbrev pub t2 : List.List Row.Entry
@@ -288,7 +363,7 @@ t2 = List._∷_ (
   1,
   Rows.sslice (Referent.rtF (Referent.fInt
       Syntax.w8)) (Syntax.tyRef (Syntax.named 0) Syntax.imm (Syntax.tyInt Syntax.w8)) 0,
-) (List._∷_ (2, Rows.sc-here (Row.sInt Syntax.w64)) (List._∷_ (
+) (List._∷_ (2, Rows.whole (Declared'.row CodestreamOffset.the-type)) (List._∷_ (
   3,
   Mut.mslice
       LentTilePartEntry.row (Syntax.tyRef (Syntax.named 1) Syntax.mut LentTilePartEntry.pointee) 1,
@@ -326,7 +401,7 @@ t3 = List._∷_ (
   1,
   Rows.sslice (Referent.rtF (Referent.fInt
       Syntax.w8)) (Syntax.tyRef (Syntax.named 0) Syntax.imm (Syntax.tyInt Syntax.w8)) 0,
-) (List._∷_ (2, Rows.sc-here (Row.sInt Syntax.w64)) (List._∷_ (
+) (List._∷_ (2, Rows.whole (Declared'.row CodestreamOffset.the-type)) (List._∷_ (
   3,
   Mut.mslice
       LentTilePartEntry.row (Syntax.tyRef (Syntax.named 1) Syntax.mut LentTilePartEntry.pointee) 1,
@@ -364,7 +439,7 @@ t4 = List._∷_ (
   1,
   Rows.sslice (Referent.rtF (Referent.fInt
       Syntax.w8)) (Syntax.tyRef (Syntax.named 0) Syntax.imm (Syntax.tyInt Syntax.w8)) 0,
-) (List._∷_ (2, Rows.sc-here (Row.sInt Syntax.w64)) (List._∷_ (
+) (List._∷_ (2, Rows.whole (Declared'.row CodestreamOffset.the-type)) (List._∷_ (
   3,
   Mut.mslice
       LentTilePartEntry.row (Syntax.tyRef (Syntax.named 1) Syntax.mut LentTilePartEntry.pointee) 1,
@@ -402,7 +477,7 @@ t5 = List._∷_ (
   1,
   Rows.sslice (Referent.rtF (Referent.fInt
       Syntax.w8)) (Syntax.tyRef (Syntax.named 0) Syntax.imm (Syntax.tyInt Syntax.w8)) 0,
-) (List._∷_ (2, Rows.sc-here (Row.sInt Syntax.w64)) (List._∷_ (
+) (List._∷_ (2, Rows.whole (Declared'.row CodestreamOffset.the-type)) (List._∷_ (
   3,
   Mut.mslice
       LentTilePartEntry.row (Syntax.tyRef (Syntax.named 1) Syntax.mut LentTilePartEntry.pointee) 1,
@@ -431,7 +506,7 @@ t6 = List._∷_ (
   1,
   Rows.sslice (Referent.rtF (Referent.fInt
       Syntax.w8)) (Syntax.tyRef (Syntax.named 0) Syntax.imm (Syntax.tyInt Syntax.w8)) 0,
-) (List._∷_ (2, Rows.sc-here (Row.sInt Syntax.w64)) (List._∷_ (
+) (List._∷_ (2, Rows.whole (Declared'.row CodestreamOffset.the-type)) (List._∷_ (
   3,
   Mut.mslice
       LentTilePartEntry.row (Syntax.tyRef (Syntax.named 1) Syntax.mut LentTilePartEntry.pointee) 1,
@@ -460,7 +535,7 @@ t7 = List._∷_ (
   1,
   Rows.sslice (Referent.rtF (Referent.fInt
       Syntax.w8)) (Syntax.tyRef (Syntax.named 0) Syntax.imm (Syntax.tyInt Syntax.w8)) 0,
-) (List._∷_ (2, Rows.sc-here (Row.sInt Syntax.w64)) (List._∷_ (
+) (List._∷_ (2, Rows.whole (Declared'.row CodestreamOffset.the-type)) (List._∷_ (
   3,
   Mut.mslice
       LentTilePartEntry.row (Syntax.tyRef (Syntax.named 1) Syntax.mut LentTilePartEntry.pointee) 1,
@@ -492,7 +567,7 @@ t8 = List._∷_ (
   1,
   Rows.sslice (Referent.rtF (Referent.fInt
       Syntax.w8)) (Syntax.tyRef (Syntax.named 0) Syntax.imm (Syntax.tyInt Syntax.w8)) 0,
-) (List._∷_ (2, Rows.sc-here (Row.sInt Syntax.w64)) (List._∷_ (
+) (List._∷_ (2, Rows.whole (Declared'.row CodestreamOffset.the-type)) (List._∷_ (
   3,
   Mut.mslice
       LentTilePartEntry.row (Syntax.tyRef (Syntax.named 1) Syntax.mut LentTilePartEntry.pointee) 1,
@@ -522,7 +597,7 @@ t9 = List._∷_ (
   1,
   Rows.sslice (Referent.rtF (Referent.fInt
       Syntax.w8)) (Syntax.tyRef (Syntax.named 0) Syntax.imm (Syntax.tyInt Syntax.w8)) 0,
-) (List._∷_ (2, Rows.sc-here (Row.sInt Syntax.w64)) (List._∷_ (
+) (List._∷_ (2, Rows.whole (Declared'.row CodestreamOffset.the-type)) (List._∷_ (
   3,
   Mut.mslice
       LentTilePartEntry.row (Syntax.tyRef (Syntax.named 1) Syntax.mut LentTilePartEntry.pointee) 1,
@@ -538,57 +613,69 @@ t9 = List._∷_ (
     ) List.[])))))))))))
 
 abbrev pub t10 : List.List Row.Entry
-t10 = List._∷_ (0, Rows.whole (Declared.row Scanned.the-type)) (List._∷_ (
+t10 = List._∷_ (
+  0,
+  Rows.any-gone (Syntax.tyEnum (List._∷_ 112 (List._∷_ 97 (List._∷_ 114 (List._∷_ 116 (List._∷_ 115 (List._∷_ 58 (List._∷_ 58 (List._∷_ 115 (List._∷_ 99 (List._∷_
+      97 (List._∷_ 110 (List._∷_ 58 (List._∷_ 58 (List._∷_ 83 (List._∷_ 99 (List._∷_ 97 (List._∷_ 110 (List._∷_ 110 (List._∷_ 101 (List._∷_ 100 List.[]))))))))))))))))))))
+      (Syntax.ttcons (Syntax.tcons (Syntax.tyInt Syntax.w64) Syntax.tnil) (Syntax.ttcons (Syntax.tcons (Syntax.tyStruct (List._∷_ 116 (List._∷_ 121 (List._∷_ 112 (List._∷_ 101
+      (List._∷_ 115 (List._∷_ 58 (List._∷_ 58 (List._∷_ 82 (List._∷_ 101 (List._∷_ 102 (List._∷_ 117 (List._∷_ 115 (List._∷_ 97 (List._∷_ 108 List.[])))))))))))))) (Syntax.tcons
+      (Syntax.tyInt Syntax.w32) (Syntax.tcons (Syntax.tyInt Syntax.w64) Syntax.tnil))) Syntax.tnil) Syntax.ttnil))),
+) (List._∷_ (
   1,
-  Rows.sslice (Referent.rtF (Referent.fInt Syntax.w8)) (Syntax.tyRef (Syntax.named 0) Syntax.imm
-      (Syntax.tyInt Syntax.w8)) 0,
-) (List._∷_ (2, Rows.sc-here (Row.sInt Syntax.w64)) (List._∷_ (
-  3,
-  Mut.mslice LentTilePartEntry.row (Syntax.tyRef (Syntax.named 1) Syntax.mut
-      LentTilePartEntry.pointee) 1,
-) (List._∷_ (4, Rows.whole (Declared.row Scanned.the-type)) (List._∷_ (5, Rows.any-gone (Syntax.tyInt Syntax.w64)) (List._∷_ (
-  6,
-  Rows.any-gone
-      (Syntax.tyInt Syntax.w64),
-) (List._∷_ (7, Rows.any-gone (Syntax.tyInt Syntax.w64)) (List._∷_ (8, Rows.any-gone Syntax.tyUnit) (List._∷_ (
-  9,
+  Rows.sslice (Referent.rtF (Referent.fInt
+      Syntax.w8)) (Syntax.tyRef (Syntax.named 0) Syntax.imm (Syntax.tyInt Syntax.w8)) 0,
+) (List._∷_ (
+  2,
+  Rows.any-gone (Syntax.tyStruct (List._∷_ 116 (List._∷_ 121 (List._∷_ 112
+      (List._∷_ 101 (List._∷_ 115 (List._∷_ 58 (List._∷_ 58 (List._∷_ 67 (List._∷_ 111 (List._∷_ 100 (List._∷_ 101 (List._∷_ 115 (List._∷_ 116 (List._∷_ 114 (List._∷_ 101 (List._∷_
+      97 (List._∷_ 109 (List._∷_ 79 (List._∷_ 102 (List._∷_ 102 (List._∷_ 115 (List._∷_ 101 (List._∷_ 116 List.[]))))))))))))))))))))))) (Syntax.tcons (Syntax.tyInt Syntax.w64)
+      Syntax.tnil)),
+) (List._∷_ (3, Mut.mslice LentTilePartEntry.row (Syntax.tyRef (Syntax.named 1) Syntax.mut LentTilePartEntry.pointee) 1) (List._∷_ (
+  4,
+  Rows.whole (Declared.row
+      Scanned.the-type),
+) (List._∷_ (5, Rows.any-gone (Syntax.tyInt Syntax.w64)) (List._∷_ (6, Rows.any-gone (Syntax.tyInt Syntax.w64)) (List._∷_ (
+  7,
   Rows.any-gone (Syntax.tyInt
       Syntax.w64),
-) (List._∷_ (10, Rows.any-gone (Syntax.tyRef Syntax.erased Syntax.mut LentTilePartEntry.pointee)) (List._∷_ (
+) (List._∷_ (8, Rows.any-gone Syntax.tyUnit) (List._∷_ (9, Rows.any-gone (Syntax.tyInt Syntax.w64)) (List._∷_ (
+  10,
+  Rows.any-gone (Syntax.tyRef Syntax.erased
+      Syntax.mut LentTilePartEntry.pointee),
+) (List._∷_ (
   11,
-  Rows.any-gone (Syntax.tyStruct (List._∷_ 38
-      (List._∷_ 91 (List._∷_ 93 List.[]))) (Syntax.tcons (Syntax.tyRef Syntax.erased Syntax.mut LentTilePartEntry.pointee) (Syntax.tcons (Syntax.tyInt Syntax.w64) Syntax.tnil))),
-)
-    List.[])))))))))))
+  Rows.any-gone (Syntax.tyStruct (List._∷_ 38 (List._∷_ 91 (List._∷_ 93 List.[]))) (Syntax.tcons (Syntax.tyRef Syntax.erased
+      Syntax.mut LentTilePartEntry.pointee) (Syntax.tcons (Syntax.tyInt Syntax.w64) Syntax.tnil))),
+) List.[])))))))))))
 
 abbrev pub t11 : List.List Row.Entry
 t11 = List._∷_ (0, Rows.whole (Declared.row Scanned.the-type)) (List._∷_ (
   1,
   Rows.sslice (Referent.rtF (Referent.fInt Syntax.w8)) (Syntax.tyRef (Syntax.named 0) Syntax.imm
       (Syntax.tyInt Syntax.w8)) 0,
-) (List._∷_ (2, Rows.sc-here (Row.sInt Syntax.w64)) (List._∷_ (
+) (List._∷_ (
+  2,
+  Rows.any-gone (Syntax.tyStruct (List._∷_ 116 (List._∷_ 121 (List._∷_ 112 (List._∷_ 101 (List._∷_ 115 (List._∷_ 58 (List._∷_ 58
+      (List._∷_ 67 (List._∷_ 111 (List._∷_ 100 (List._∷_ 101 (List._∷_ 115 (List._∷_ 116 (List._∷_ 114 (List._∷_ 101 (List._∷_ 97 (List._∷_ 109 (List._∷_ 79 (List._∷_ 102 (List._∷_
+      102 (List._∷_ 115 (List._∷_ 101 (List._∷_ 116 List.[]))))))))))))))))))))))) (Syntax.tcons (Syntax.tyInt Syntax.w64) Syntax.tnil)),
+) (List._∷_ (
   3,
-  Mut.mslice LentTilePartEntry.row (Syntax.tyRef (Syntax.named 1) Syntax.mut
-      LentTilePartEntry.pointee) 1,
-) (List._∷_ (
-  4,
-  Rows.any-gone (Syntax.tyEnum (List._∷_ 112 (List._∷_ 97 (List._∷_ 114 (List._∷_ 116 (List._∷_ 115 (List._∷_ 58 (List._∷_ 58
-      (List._∷_ 115 (List._∷_ 99 (List._∷_ 97 (List._∷_ 110 (List._∷_ 58 (List._∷_ 58 (List._∷_ 83 (List._∷_ 99 (List._∷_ 97 (List._∷_ 110 (List._∷_ 110 (List._∷_ 101 (List._∷_ 100
-      List.[])))))))))))))))))))) (Syntax.ttcons (Syntax.tcons (Syntax.tyInt Syntax.w64) Syntax.tnil) (Syntax.ttcons (Syntax.tcons (Syntax.tyStruct (List._∷_ 116 (List._∷_ 121
-      (List._∷_ 112 (List._∷_ 101 (List._∷_ 115 (List._∷_ 58 (List._∷_ 58 (List._∷_ 82 (List._∷_ 101 (List._∷_ 102 (List._∷_ 117 (List._∷_ 115 (List._∷_ 97 (List._∷_ 108
-      List.[])))))))))))))) (Syntax.tcons (Syntax.tyInt Syntax.w32) (Syntax.tcons (Syntax.tyInt Syntax.w64) Syntax.tnil))) Syntax.tnil) Syntax.ttnil))),
-) (List._∷_ (
+  Mut.mslice
+      LentTilePartEntry.row (Syntax.tyRef (Syntax.named 1) Syntax.mut LentTilePartEntry.pointee) 1,
+) (List._∷_ (4, Rows.whole (Declared.row Scanned.the-type)) (List._∷_ (
   5,
-  Rows.any-gone
-      (Syntax.tyInt Syntax.w64),
+  Rows.any-gone (Syntax.tyInt Syntax.w64),
 ) (List._∷_ (6, Rows.any-gone (Syntax.tyInt Syntax.w64)) (List._∷_ (7, Rows.any-gone (Syntax.tyInt Syntax.w64)) (List._∷_ (
   8,
-  Rows.any-gone
-      Syntax.tyUnit,
-) (List._∷_ (9, Rows.any-gone (Syntax.tyInt Syntax.w64)) (List._∷_ (10, Rows.any-gone (Syntax.tyRef Syntax.erased Syntax.mut LentTilePartEntry.pointee)) (List._∷_ (
+  Rows.any-gone Syntax.tyUnit,
+) (List._∷_ (9, Rows.any-gone (Syntax.tyInt Syntax.w64)) (List._∷_ (
+  10,
+  Rows.any-gone (Syntax.tyRef Syntax.erased Syntax.mut
+      LentTilePartEntry.pointee),
+) (List._∷_ (
   11,
-  Rows.any-gone (Syntax.tyStruct (List._∷_ 38 (List._∷_ 91 (List._∷_ 93 List.[]))) (Syntax.tcons (Syntax.tyRef Syntax.erased Syntax.mut LentTilePartEntry.pointee)
-      (Syntax.tcons (Syntax.tyInt Syntax.w64) Syntax.tnil))),
+  Rows.any-gone (Syntax.tyStruct (List._∷_ 38 (List._∷_ 91 (List._∷_ 93 List.[]))) (Syntax.tcons (Syntax.tyRef Syntax.erased Syntax.mut
+      LentTilePartEntry.pointee) (Syntax.tcons (Syntax.tyInt Syntax.w64) Syntax.tnil))),
 ) List.[])))))))))))
 
 abbrev pub t12 : List.List Row.Entry
@@ -603,7 +690,7 @@ t12 = List._∷_ (
   1,
   Rows.sslice (Referent.rtF (Referent.fInt
       Syntax.w8)) (Syntax.tyRef (Syntax.named 0) Syntax.imm (Syntax.tyInt Syntax.w8)) 0,
-) (List._∷_ (2, Rows.sc-here (Row.sInt Syntax.w64)) (List._∷_ (
+) (List._∷_ (2, Rows.whole (Declared'.row CodestreamOffset.the-type)) (List._∷_ (
   3,
   Mut.mslice
       LentTilePartEntry.row (Syntax.tyRef (Syntax.named 1) Syntax.mut LentTilePartEntry.pointee) 1,
@@ -632,22 +719,26 @@ t13 = List._∷_ (
   1,
   Rows.sslice (Referent.rtF (Referent.fInt
       Syntax.w8)) (Syntax.tyRef (Syntax.named 0) Syntax.imm (Syntax.tyInt Syntax.w8)) 0,
-) (List._∷_ (2, Rows.sc-here (Row.sInt Syntax.w64)) (List._∷_ (
-  3,
-  Mut.mslice
-      LentTilePartEntry.row (Syntax.tyRef (Syntax.named 1) Syntax.mut LentTilePartEntry.pointee) 1,
-) (List._∷_ (4, Rows.whole (Declared.row Scanned.the-type)) (List._∷_ (
-  5,
-  Rows.sc-here (Row.sInt Syntax.w64),
-) (List._∷_ (6, Rows.sc-here (Row.sInt Syntax.w64)) (List._∷_ (7, Rows.any-gone (Syntax.tyInt Syntax.w64)) (List._∷_ (
-  8,
-  Rows.any-gone
-      Syntax.tyUnit,
-) (List._∷_ (9, Rows.sc-here (Row.sInt Syntax.w64)) (List._∷_ (10, Rows.any-gone (Syntax.tyRef Syntax.erased Syntax.mut LentTilePartEntry.pointee)) (List._∷_ (
-  11,
-  Rows.any-gone (Syntax.tyStruct (List._∷_ 38 (List._∷_ 91 (List._∷_ 93 List.[]))) (Syntax.tcons (Syntax.tyRef Syntax.erased Syntax.mut LentTilePartEntry.pointee) (Syntax.tcons
-      (Syntax.tyInt Syntax.w64) Syntax.tnil))),
-) List.[])))))))))))
+) (List._∷_ (
+  2,
+  Rows.any-gone (Syntax.tyStruct (List._∷_ 116 (List._∷_ 121 (List._∷_ 112
+      (List._∷_ 101 (List._∷_ 115 (List._∷_ 58 (List._∷_ 58 (List._∷_ 67 (List._∷_ 111 (List._∷_ 100 (List._∷_ 101 (List._∷_ 115 (List._∷_ 116 (List._∷_ 114 (List._∷_ 101 (List._∷_
+      97 (List._∷_ 109 (List._∷_ 79 (List._∷_ 102 (List._∷_ 102 (List._∷_ 115 (List._∷_ 101 (List._∷_ 116 List.[]))))))))))))))))))))))) (Syntax.tcons (Syntax.tyInt Syntax.w64)
+      Syntax.tnil)),
+) (List._∷_ (3, Mut.mslice LentTilePartEntry.row (Syntax.tyRef (Syntax.named 1) Syntax.mut LentTilePartEntry.pointee) 1) (List._∷_ (
+  4,
+  Rows.whole (Declared.row
+      Scanned.the-type),
+) (List._∷_ (5, Rows.sc-here (Row.sInt Syntax.w64)) (List._∷_ (6, Rows.sc-here (Row.sInt Syntax.w64)) (List._∷_ (7, Rows.any-gone (Syntax.tyInt Syntax.w64))
+    (List._∷_ (8, Rows.any-gone Syntax.tyUnit) (List._∷_ (9, Rows.any-gone (Syntax.tyInt Syntax.w64)) (List._∷_ (
+      10,
+      Rows.any-gone (Syntax.tyRef Syntax.erased Syntax.mut
+          LentTilePartEntry.pointee),
+    ) (List._∷_ (
+      11,
+      Rows.any-gone (Syntax.tyStruct (List._∷_ 38 (List._∷_ 91 (List._∷_ 93 List.[]))) (Syntax.tcons (Syntax.tyRef Syntax.erased Syntax.mut
+          LentTilePartEntry.pointee) (Syntax.tcons (Syntax.tyInt Syntax.w64) Syntax.tnil))),
+    ) List.[])))))))))))
 
 abbrev pub t14 : List.List Row.Entry
 t14 = List._∷_ (
@@ -661,26 +752,26 @@ t14 = List._∷_ (
   1,
   Rows.sslice (Referent.rtF (Referent.fInt
       Syntax.w8)) (Syntax.tyRef (Syntax.named 0) Syntax.imm (Syntax.tyInt Syntax.w8)) 0,
-) (List._∷_ (2, Rows.sc-here (Row.sInt Syntax.w64)) (List._∷_ (
-  3,
-  Relend.mslice-owed
-      LentTilePartEntry.row (Syntax.tyRef (Syntax.named 1) Syntax.mut LentTilePartEntry.pointee) 1 2 Row.off,
-) (List._∷_ (4, Rows.whole (Declared.row Scanned.the-type)) (List._∷_ (
-  5,
-  Rows.sc-here (Row.sInt Syntax.w64),
-) (List._∷_ (6, Rows.sc-here (Row.sInt Syntax.w64)) (List._∷_ (7, Rows.any-gone (Syntax.tyInt Syntax.w64)) (List._∷_ (
-  8,
-  Rows.any-gone
-      Syntax.tyUnit,
-) (List._∷_ (9, Rows.sc-here (Row.sInt Syntax.w64)) (List._∷_ (
-  10,
-  Relend.msptr LentTilePartEntry.row (Syntax.tyRef Syntax.erased Syntax.mut
-      LentTilePartEntry.pointee) 2,
 ) (List._∷_ (
-  11,
-  Rows.any-gone (Syntax.tyStruct (List._∷_ 38 (List._∷_ 91 (List._∷_ 93 List.[]))) (Syntax.tcons (Syntax.tyRef Syntax.erased
-      Syntax.mut LentTilePartEntry.pointee) (Syntax.tcons (Syntax.tyInt Syntax.w64) Syntax.tnil))),
-) List.[])))))))))))
+  2,
+  Rows.any-gone (Syntax.tyStruct (List._∷_ 116 (List._∷_ 121 (List._∷_ 112
+      (List._∷_ 101 (List._∷_ 115 (List._∷_ 58 (List._∷_ 58 (List._∷_ 67 (List._∷_ 111 (List._∷_ 100 (List._∷_ 101 (List._∷_ 115 (List._∷_ 116 (List._∷_ 114 (List._∷_ 101 (List._∷_
+      97 (List._∷_ 109 (List._∷_ 79 (List._∷_ 102 (List._∷_ 102 (List._∷_ 115 (List._∷_ 101 (List._∷_ 116 List.[]))))))))))))))))))))))) (Syntax.tcons (Syntax.tyInt Syntax.w64)
+      Syntax.tnil)),
+) (List._∷_ (3, Mut.mslice LentTilePartEntry.row (Syntax.tyRef (Syntax.named 1) Syntax.mut LentTilePartEntry.pointee) 1) (List._∷_ (
+  4,
+  Rows.whole (Declared.row
+      Scanned.the-type),
+) (List._∷_ (5, Rows.sc-here (Row.sInt Syntax.w64)) (List._∷_ (6, Rows.sc-here (Row.sInt Syntax.w64)) (List._∷_ (7, Rows.any-gone (Syntax.tyInt Syntax.w64))
+    (List._∷_ (8, Rows.any-gone Syntax.tyUnit) (List._∷_ (9, Rows.sc-here (Row.sInt Syntax.w64)) (List._∷_ (
+      10,
+      Rows.any-gone (Syntax.tyRef Syntax.erased Syntax.mut
+          LentTilePartEntry.pointee),
+    ) (List._∷_ (
+      11,
+      Rows.any-gone (Syntax.tyStruct (List._∷_ 38 (List._∷_ 91 (List._∷_ 93 List.[]))) (Syntax.tcons (Syntax.tyRef Syntax.erased Syntax.mut
+          LentTilePartEntry.pointee) (Syntax.tcons (Syntax.tyInt Syntax.w64) Syntax.tnil))),
+    ) List.[])))))))))))
 
 abbrev pub t15 : List.List Row.Entry
 t15 = List._∷_ (
@@ -694,20 +785,28 @@ t15 = List._∷_ (
   1,
   Rows.sslice (Referent.rtF (Referent.fInt
       Syntax.w8)) (Syntax.tyRef (Syntax.named 0) Syntax.imm (Syntax.tyInt Syntax.w8)) 0,
-) (List._∷_ (2, Rows.sc-here (Row.sInt Syntax.w64)) (List._∷_ (
-  3,
-  Relend.mslice-owed
-      LentTilePartEntry.row (Syntax.tyRef (Syntax.named 1) Syntax.mut LentTilePartEntry.pointee) 1 2 Row.off,
-) (List._∷_ (4, Rows.whole (Declared.row Scanned.the-type)) (List._∷_ (
-  5,
-  Rows.sc-here (Row.sInt Syntax.w64),
-) (List._∷_ (6, Rows.sc-here (Row.sInt Syntax.w64)) (List._∷_ (7, Rows.any-gone (Syntax.tyInt Syntax.w64)) (List._∷_ (
-  8,
-  Rows.any-gone
-      Syntax.tyUnit,
-) (List._∷_ (9, Rows.sc-here (Row.sInt Syntax.w64)) (List._∷_ (10, Rows.any-gone (Syntax.tyRef Syntax.erased Syntax.mut LentTilePartEntry.pointee)) (List._∷_ (
+) (List._∷_ (
+  2,
+  Rows.any-gone (Syntax.tyStruct (List._∷_ 116 (List._∷_ 121 (List._∷_ 112
+      (List._∷_ 101 (List._∷_ 115 (List._∷_ 58 (List._∷_ 58 (List._∷_ 67 (List._∷_ 111 (List._∷_ 100 (List._∷_ 101 (List._∷_ 115 (List._∷_ 116 (List._∷_ 114 (List._∷_ 101 (List._∷_
+      97 (List._∷_ 109 (List._∷_ 79 (List._∷_ 102 (List._∷_ 102 (List._∷_ 115 (List._∷_ 101 (List._∷_ 116 List.[]))))))))))))))))))))))) (Syntax.tcons (Syntax.tyInt Syntax.w64)
+      Syntax.tnil)),
+) (List._∷_ (3, Relend.mslice-owed LentTilePartEntry.row (Syntax.tyRef (Syntax.named 1) Syntax.mut LentTilePartEntry.pointee) 1 2 Row.off) (List._∷_ (
+  4,
+  Rows.whole
+      (Declared.row Scanned.the-type),
+) (List._∷_ (5, Rows.sc-here (Row.sInt Syntax.w64)) (List._∷_ (6, Rows.sc-here (Row.sInt Syntax.w64)) (List._∷_ (
+  7,
+  Rows.any-gone (Syntax.tyInt
+      Syntax.w64),
+) (List._∷_ (8, Rows.any-gone Syntax.tyUnit) (List._∷_ (9, Rows.sc-here (Row.sInt Syntax.w64)) (List._∷_ (
+  10,
+  Relend.msptr LentTilePartEntry.row (Syntax.tyRef
+      Syntax.erased Syntax.mut LentTilePartEntry.pointee) 2,
+) (List._∷_ (
   11,
-  Mut.mslice LentTilePartEntry.row (Syntax.tyRef Syntax.erased Syntax.mut LentTilePartEntry.pointee) 2,
+  Rows.any-gone (Syntax.tyStruct (List._∷_ 38 (List._∷_ 91 (List._∷_ 93 List.[]))) (Syntax.tcons
+      (Syntax.tyRef Syntax.erased Syntax.mut LentTilePartEntry.pointee) (Syntax.tcons (Syntax.tyInt Syntax.w64) Syntax.tnil))),
 ) List.[])))))))))))
 
 abbrev pub t16 : List.List Row.Entry
@@ -722,21 +821,25 @@ t16 = List._∷_ (
   1,
   Rows.sslice (Referent.rtF (Referent.fInt
       Syntax.w8)) (Syntax.tyRef (Syntax.named 0) Syntax.imm (Syntax.tyInt Syntax.w8)) 0,
-) (List._∷_ (2, Rows.sc-here (Row.sInt Syntax.w64)) (List._∷_ (
-  3,
-  Relend.mslice-owed
-      LentTilePartEntry.row (Syntax.tyRef (Syntax.named 1) Syntax.mut LentTilePartEntry.pointee) 1 2 Row.off,
-) (List._∷_ (4, Rows.whole (Declared.row Scanned.the-type)) (List._∷_ (
-  5,
-  Rows.sc-here (Row.sInt Syntax.w64),
-) (List._∷_ (6, Rows.sc-here (Row.sInt Syntax.w64)) (List._∷_ (7, Rows.any-gone (Syntax.tyInt Syntax.w64)) (List._∷_ (
-  8,
-  Rows.sc-here
-      Row.sUnit,
-) (List._∷_ (9, Rows.sc-here (Row.sInt Syntax.w64)) (List._∷_ (10, Rows.any-gone (Syntax.tyRef Syntax.erased Syntax.mut LentTilePartEntry.pointee)) (List._∷_ (
-  11,
-  Mut.msleft LentTilePartEntry.row (Syntax.tyRef Syntax.erased Syntax.mut LentTilePartEntry.pointee),
-) List.[])))))))))))
+) (List._∷_ (
+  2,
+  Rows.any-gone (Syntax.tyStruct (List._∷_ 116 (List._∷_ 121 (List._∷_ 112
+      (List._∷_ 101 (List._∷_ 115 (List._∷_ 58 (List._∷_ 58 (List._∷_ 67 (List._∷_ 111 (List._∷_ 100 (List._∷_ 101 (List._∷_ 115 (List._∷_ 116 (List._∷_ 114 (List._∷_ 101 (List._∷_
+      97 (List._∷_ 109 (List._∷_ 79 (List._∷_ 102 (List._∷_ 102 (List._∷_ 115 (List._∷_ 101 (List._∷_ 116 List.[]))))))))))))))))))))))) (Syntax.tcons (Syntax.tyInt Syntax.w64)
+      Syntax.tnil)),
+) (List._∷_ (3, Relend.mslice-owed LentTilePartEntry.row (Syntax.tyRef (Syntax.named 1) Syntax.mut LentTilePartEntry.pointee) 1 2 Row.off) (List._∷_ (
+  4,
+  Rows.whole
+      (Declared.row Scanned.the-type),
+) (List._∷_ (5, Rows.sc-here (Row.sInt Syntax.w64)) (List._∷_ (6, Rows.sc-here (Row.sInt Syntax.w64)) (List._∷_ (
+  7,
+  Rows.any-gone (Syntax.tyInt
+      Syntax.w64),
+) (List._∷_ (8, Rows.any-gone Syntax.tyUnit) (List._∷_ (9, Rows.sc-here (Row.sInt Syntax.w64)) (List._∷_ (
+  10,
+  Rows.any-gone (Syntax.tyRef Syntax.erased Syntax.mut
+      LentTilePartEntry.pointee),
+) (List._∷_ (11, Mut.mslice LentTilePartEntry.row (Syntax.tyRef Syntax.erased Syntax.mut LentTilePartEntry.pointee) 2) List.[])))))))))))
 
 abbrev pub t17 : List.List Row.Entry
 t17 = List._∷_ (
@@ -750,21 +853,25 @@ t17 = List._∷_ (
   1,
   Rows.sslice (Referent.rtF (Referent.fInt
       Syntax.w8)) (Syntax.tyRef (Syntax.named 0) Syntax.imm (Syntax.tyInt Syntax.w8)) 0,
-) (List._∷_ (2, Rows.sc-here (Row.sInt Syntax.w64)) (List._∷_ (
-  3,
-  Relend.mslice-owed
-      LentTilePartEntry.row (Syntax.tyRef (Syntax.named 1) Syntax.mut LentTilePartEntry.pointee) 1 2 Row.off,
-) (List._∷_ (4, Rows.whole (Declared.row Scanned.the-type)) (List._∷_ (
-  5,
-  Rows.sc-here (Row.sInt Syntax.w64),
-) (List._∷_ (6, Rows.any-gone (Syntax.tyInt Syntax.w64)) (List._∷_ (7, Rows.any-gone (Syntax.tyInt Syntax.w64)) (List._∷_ (
-  8,
-  Rows.sc-here
-      Row.sUnit,
-) (List._∷_ (9, Rows.sc-here (Row.sInt Syntax.w64)) (List._∷_ (10, Rows.any-gone (Syntax.tyRef Syntax.erased Syntax.mut LentTilePartEntry.pointee)) (List._∷_ (
-  11,
-  Mut.msleft LentTilePartEntry.row (Syntax.tyRef Syntax.erased Syntax.mut LentTilePartEntry.pointee),
-) List.[])))))))))))
+) (List._∷_ (
+  2,
+  Rows.any-gone (Syntax.tyStruct (List._∷_ 116 (List._∷_ 121 (List._∷_ 112
+      (List._∷_ 101 (List._∷_ 115 (List._∷_ 58 (List._∷_ 58 (List._∷_ 67 (List._∷_ 111 (List._∷_ 100 (List._∷_ 101 (List._∷_ 115 (List._∷_ 116 (List._∷_ 114 (List._∷_ 101 (List._∷_
+      97 (List._∷_ 109 (List._∷_ 79 (List._∷_ 102 (List._∷_ 102 (List._∷_ 115 (List._∷_ 101 (List._∷_ 116 List.[]))))))))))))))))))))))) (Syntax.tcons (Syntax.tyInt Syntax.w64)
+      Syntax.tnil)),
+) (List._∷_ (3, Relend.mslice-owed LentTilePartEntry.row (Syntax.tyRef (Syntax.named 1) Syntax.mut LentTilePartEntry.pointee) 1 2 Row.off) (List._∷_ (
+  4,
+  Rows.whole
+      (Declared.row Scanned.the-type),
+) (List._∷_ (5, Rows.sc-here (Row.sInt Syntax.w64)) (List._∷_ (6, Rows.sc-here (Row.sInt Syntax.w64)) (List._∷_ (
+  7,
+  Rows.any-gone (Syntax.tyInt
+      Syntax.w64),
+) (List._∷_ (8, Rows.sc-here Row.sUnit) (List._∷_ (9, Rows.sc-here (Row.sInt Syntax.w64)) (List._∷_ (
+  10,
+  Rows.any-gone (Syntax.tyRef Syntax.erased Syntax.mut
+      LentTilePartEntry.pointee),
+) (List._∷_ (11, Mut.msleft LentTilePartEntry.row (Syntax.tyRef Syntax.erased Syntax.mut LentTilePartEntry.pointee)) List.[])))))))))))
 
 abbrev pub t18 : List.List Row.Entry
 t18 = List._∷_ (
@@ -778,21 +885,25 @@ t18 = List._∷_ (
   1,
   Rows.sslice (Referent.rtF (Referent.fInt
       Syntax.w8)) (Syntax.tyRef (Syntax.named 0) Syntax.imm (Syntax.tyInt Syntax.w8)) 0,
-) (List._∷_ (2, Rows.sc-here (Row.sInt Syntax.w64)) (List._∷_ (
-  3,
-  Relend.mslice-owed
-      LentTilePartEntry.row (Syntax.tyRef (Syntax.named 1) Syntax.mut LentTilePartEntry.pointee) 1 2 Row.off,
-) (List._∷_ (4, Rows.whole (Declared.row Scanned.the-type)) (List._∷_ (
-  5,
-  Rows.sc-here (Row.sInt Syntax.w64),
-) (List._∷_ (6, Rows.any-gone (Syntax.tyInt Syntax.w64)) (List._∷_ (7, Rows.any-gone (Syntax.tyInt Syntax.w64)) (List._∷_ (
-  8,
+) (List._∷_ (
+  2,
+  Rows.any-gone (Syntax.tyStruct (List._∷_ 116 (List._∷_ 121 (List._∷_ 112
+      (List._∷_ 101 (List._∷_ 115 (List._∷_ 58 (List._∷_ 58 (List._∷_ 67 (List._∷_ 111 (List._∷_ 100 (List._∷_ 101 (List._∷_ 115 (List._∷_ 116 (List._∷_ 114 (List._∷_ 101 (List._∷_
+      97 (List._∷_ 109 (List._∷_ 79 (List._∷_ 102 (List._∷_ 102 (List._∷_ 115 (List._∷_ 101 (List._∷_ 116 List.[]))))))))))))))))))))))) (Syntax.tcons (Syntax.tyInt Syntax.w64)
+      Syntax.tnil)),
+) (List._∷_ (3, Relend.mslice-owed LentTilePartEntry.row (Syntax.tyRef (Syntax.named 1) Syntax.mut LentTilePartEntry.pointee) 1 2 Row.off) (List._∷_ (
+  4,
+  Rows.whole
+      (Declared.row Scanned.the-type),
+) (List._∷_ (5, Rows.sc-here (Row.sInt Syntax.w64)) (List._∷_ (6, Rows.any-gone (Syntax.tyInt Syntax.w64)) (List._∷_ (
+  7,
   Rows.any-gone
-      Syntax.tyUnit,
-) (List._∷_ (9, Rows.sc-here (Row.sInt Syntax.w64)) (List._∷_ (10, Rows.any-gone (Syntax.tyRef Syntax.erased Syntax.mut LentTilePartEntry.pointee)) (List._∷_ (
-  11,
-  Mut.msleft LentTilePartEntry.row (Syntax.tyRef Syntax.erased Syntax.mut LentTilePartEntry.pointee),
-) List.[])))))))))))
+      (Syntax.tyInt Syntax.w64),
+) (List._∷_ (8, Rows.sc-here Row.sUnit) (List._∷_ (9, Rows.sc-here (Row.sInt Syntax.w64)) (List._∷_ (
+  10,
+  Rows.any-gone (Syntax.tyRef Syntax.erased
+      Syntax.mut LentTilePartEntry.pointee),
+) (List._∷_ (11, Mut.msleft LentTilePartEntry.row (Syntax.tyRef Syntax.erased Syntax.mut LentTilePartEntry.pointee)) List.[])))))))))))
 
 abbrev pub t19 : List.List Row.Entry
 t19 = List._∷_ (
@@ -806,10 +917,109 @@ t19 = List._∷_ (
   1,
   Rows.sslice (Referent.rtF (Referent.fInt
       Syntax.w8)) (Syntax.tyRef (Syntax.named 0) Syntax.imm (Syntax.tyInt Syntax.w8)) 0,
-) (List._∷_ (2, Rows.sc-here (Row.sInt Syntax.w64)) (List._∷_ (
+) (List._∷_ (
+  2,
+  Rows.any-gone (Syntax.tyStruct (List._∷_ 116 (List._∷_ 121 (List._∷_ 112
+      (List._∷_ 101 (List._∷_ 115 (List._∷_ 58 (List._∷_ 58 (List._∷_ 67 (List._∷_ 111 (List._∷_ 100 (List._∷_ 101 (List._∷_ 115 (List._∷_ 116 (List._∷_ 114 (List._∷_ 101 (List._∷_
+      97 (List._∷_ 109 (List._∷_ 79 (List._∷_ 102 (List._∷_ 102 (List._∷_ 115 (List._∷_ 101 (List._∷_ 116 List.[]))))))))))))))))))))))) (Syntax.tcons (Syntax.tyInt Syntax.w64)
+      Syntax.tnil)),
+) (List._∷_ (3, Relend.mslice-owed LentTilePartEntry.row (Syntax.tyRef (Syntax.named 1) Syntax.mut LentTilePartEntry.pointee) 1 2 Row.off) (List._∷_ (
+  4,
+  Rows.whole
+      (Declared.row Scanned.the-type),
+) (List._∷_ (5, Rows.sc-here (Row.sInt Syntax.w64)) (List._∷_ (6, Rows.any-gone (Syntax.tyInt Syntax.w64)) (List._∷_ (
+  7,
+  Rows.any-gone
+      (Syntax.tyInt Syntax.w64),
+) (List._∷_ (8, Rows.any-gone Syntax.tyUnit) (List._∷_ (9, Rows.sc-here (Row.sInt Syntax.w64)) (List._∷_ (
+  10,
+  Rows.any-gone (Syntax.tyRef Syntax.erased
+      Syntax.mut LentTilePartEntry.pointee),
+) (List._∷_ (11, Mut.msleft LentTilePartEntry.row (Syntax.tyRef Syntax.erased Syntax.mut LentTilePartEntry.pointee)) List.[])))))))))))
+
+abbrev pub t20 : List.List Row.Entry
+t20 = List._∷_ (
+  0,
+  Rows.any-gone (Syntax.tyEnum (List._∷_ 112 (List._∷_ 97 (List._∷_ 114 (List._∷_ 116 (List._∷_ 115 (List._∷_ 58 (List._∷_ 58 (List._∷_ 115 (List._∷_ 99 (List._∷_
+      97 (List._∷_ 110 (List._∷_ 58 (List._∷_ 58 (List._∷_ 83 (List._∷_ 99 (List._∷_ 97 (List._∷_ 110 (List._∷_ 110 (List._∷_ 101 (List._∷_ 100 List.[]))))))))))))))))))))
+      (Syntax.ttcons (Syntax.tcons (Syntax.tyInt Syntax.w64) Syntax.tnil) (Syntax.ttcons (Syntax.tcons (Syntax.tyStruct (List._∷_ 116 (List._∷_ 121 (List._∷_ 112 (List._∷_ 101
+      (List._∷_ 115 (List._∷_ 58 (List._∷_ 58 (List._∷_ 82 (List._∷_ 101 (List._∷_ 102 (List._∷_ 117 (List._∷_ 115 (List._∷_ 97 (List._∷_ 108 List.[])))))))))))))) (Syntax.tcons
+      (Syntax.tyInt Syntax.w32) (Syntax.tcons (Syntax.tyInt Syntax.w64) Syntax.tnil))) Syntax.tnil) Syntax.ttnil))),
+) (List._∷_ (
+  1,
+  Rows.sslice (Referent.rtF (Referent.fInt
+      Syntax.w8)) (Syntax.tyRef (Syntax.named 0) Syntax.imm (Syntax.tyInt Syntax.w8)) 0,
+) (List._∷_ (
+  2,
+  Rows.any-gone (Syntax.tyStruct (List._∷_ 116 (List._∷_ 121 (List._∷_ 112
+      (List._∷_ 101 (List._∷_ 115 (List._∷_ 58 (List._∷_ 58 (List._∷_ 67 (List._∷_ 111 (List._∷_ 100 (List._∷_ 101 (List._∷_ 115 (List._∷_ 116 (List._∷_ 114 (List._∷_ 101 (List._∷_
+      97 (List._∷_ 109 (List._∷_ 79 (List._∷_ 102 (List._∷_ 102 (List._∷_ 115 (List._∷_ 101 (List._∷_ 116 List.[]))))))))))))))))))))))) (Syntax.tcons (Syntax.tyInt Syntax.w64)
+      Syntax.tnil)),
+) (List._∷_ (3, Relend.mslice-owed LentTilePartEntry.row (Syntax.tyRef (Syntax.named 1) Syntax.mut LentTilePartEntry.pointee) 1 2 Row.off) (List._∷_ (
+  4,
+  Rows.whole
+      (Declared.row Scanned.the-type),
+) (List._∷_ (5, Rows.sc-here (Row.sInt Syntax.w64)) (List._∷_ (6, Rows.any-gone (Syntax.tyInt Syntax.w64)) (List._∷_ (
+  7,
+  Rows.any-gone
+      (Syntax.tyInt Syntax.w64),
+) (List._∷_ (8, Rows.any-gone Syntax.tyUnit) (List._∷_ (9, Rows.any-gone (Syntax.tyInt Syntax.w64)) (List._∷_ (
+  10,
+  Rows.any-gone (Syntax.tyRef
+      Syntax.erased Syntax.mut LentTilePartEntry.pointee),
+) (List._∷_ (11, Mut.msleft LentTilePartEntry.row (Syntax.tyRef Syntax.erased Syntax.mut LentTilePartEntry.pointee))
+    List.[])))))))))))
+
+abbrev pub t21 : List.List Row.Entry
+t21 = List._∷_ (
+  0,
+  Rows.any-gone (Syntax.tyEnum (List._∷_ 112 (List._∷_ 97 (List._∷_ 114 (List._∷_ 116 (List._∷_ 115 (List._∷_ 58 (List._∷_ 58 (List._∷_ 115 (List._∷_ 99 (List._∷_
+      97 (List._∷_ 110 (List._∷_ 58 (List._∷_ 58 (List._∷_ 83 (List._∷_ 99 (List._∷_ 97 (List._∷_ 110 (List._∷_ 110 (List._∷_ 101 (List._∷_ 100 List.[]))))))))))))))))))))
+      (Syntax.ttcons (Syntax.tcons (Syntax.tyInt Syntax.w64) Syntax.tnil) (Syntax.ttcons (Syntax.tcons (Syntax.tyStruct (List._∷_ 116 (List._∷_ 121 (List._∷_ 112 (List._∷_ 101
+      (List._∷_ 115 (List._∷_ 58 (List._∷_ 58 (List._∷_ 82 (List._∷_ 101 (List._∷_ 102 (List._∷_ 117 (List._∷_ 115 (List._∷_ 97 (List._∷_ 108 List.[])))))))))))))) (Syntax.tcons
+      (Syntax.tyInt Syntax.w32) (Syntax.tcons (Syntax.tyInt Syntax.w64) Syntax.tnil))) Syntax.tnil) Syntax.ttnil))),
+) (List._∷_ (
+  1,
+  Rows.sslice (Referent.rtF (Referent.fInt
+      Syntax.w8)) (Syntax.tyRef (Syntax.named 0) Syntax.imm (Syntax.tyInt Syntax.w8)) 0,
+) (List._∷_ (
+  2,
+  Rows.any-gone (Syntax.tyStruct (List._∷_ 116 (List._∷_ 121 (List._∷_ 112
+      (List._∷_ 101 (List._∷_ 115 (List._∷_ 58 (List._∷_ 58 (List._∷_ 67 (List._∷_ 111 (List._∷_ 100 (List._∷_ 101 (List._∷_ 115 (List._∷_ 116 (List._∷_ 114 (List._∷_ 101 (List._∷_
+      97 (List._∷_ 109 (List._∷_ 79 (List._∷_ 102 (List._∷_ 102 (List._∷_ 115 (List._∷_ 101 (List._∷_ 116 List.[]))))))))))))))))))))))) (Syntax.tcons (Syntax.tyInt Syntax.w64)
+      Syntax.tnil)),
+) (List._∷_ (3, Mut.mslice LentTilePartEntry.row (Syntax.tyRef (Syntax.named 1) Syntax.mut LentTilePartEntry.pointee) 1) (List._∷_ (
+  4,
+  Rows.whole (Declared.row
+      Scanned.the-type),
+) (List._∷_ (5, Rows.sc-here (Row.sInt Syntax.w64)) (List._∷_ (6, Rows.any-gone (Syntax.tyInt Syntax.w64)) (List._∷_ (
+  7,
+  Rows.any-gone (Syntax.tyInt
+      Syntax.w64),
+) (List._∷_ (8, Rows.any-gone Syntax.tyUnit) (List._∷_ (9, Rows.any-gone (Syntax.tyInt Syntax.w64)) (List._∷_ (
+  10,
+  Rows.any-gone (Syntax.tyRef Syntax.erased
+      Syntax.mut LentTilePartEntry.pointee),
+) (List._∷_ (
+  11,
+  Rows.any-gone (Syntax.tyStruct (List._∷_ 38 (List._∷_ 91 (List._∷_ 93 List.[]))) (Syntax.tcons (Syntax.tyRef Syntax.erased
+      Syntax.mut LentTilePartEntry.pointee) (Syntax.tcons (Syntax.tyInt Syntax.w64) Syntax.tnil))),
+) List.[])))))))))))
+
+abbrev pub t22 : List.List Row.Entry
+t22 = List._∷_ (0, Rows.whole (Declared.row Scanned.the-type)) (List._∷_ (
+  1,
+  Rows.sslice (Referent.rtF (Referent.fInt Syntax.w8)) (Syntax.tyRef (Syntax.named 0) Syntax.imm
+      (Syntax.tyInt Syntax.w8)) 0,
+) (List._∷_ (
+  2,
+  Rows.any-gone (Syntax.tyStruct (List._∷_ 116 (List._∷_ 121 (List._∷_ 112 (List._∷_ 101 (List._∷_ 115 (List._∷_ 58 (List._∷_ 58
+      (List._∷_ 67 (List._∷_ 111 (List._∷_ 100 (List._∷_ 101 (List._∷_ 115 (List._∷_ 116 (List._∷_ 114 (List._∷_ 101 (List._∷_ 97 (List._∷_ 109 (List._∷_ 79 (List._∷_ 102 (List._∷_
+      102 (List._∷_ 115 (List._∷_ 101 (List._∷_ 116 List.[]))))))))))))))))))))))) (Syntax.tcons (Syntax.tyInt Syntax.w64) Syntax.tnil)),
+) (List._∷_ (
   3,
-  Relend.mslice-owed
-      LentTilePartEntry.row (Syntax.tyRef (Syntax.named 1) Syntax.mut LentTilePartEntry.pointee) 1 2 Row.off,
+  Mut.mslice
+      LentTilePartEntry.row (Syntax.tyRef (Syntax.named 1) Syntax.mut LentTilePartEntry.pointee) 1,
 ) (List._∷_ (4, Rows.whole (Declared.row Scanned.the-type)) (List._∷_ (
   5,
   Rows.sc-here (Row.sInt Syntax.w64),
@@ -817,59 +1027,47 @@ t19 = List._∷_ (
   8,
   Rows.any-gone
       Syntax.tyUnit,
-) (List._∷_ (9, Rows.any-gone (Syntax.tyInt Syntax.w64)) (List._∷_ (10, Rows.any-gone (Syntax.tyRef Syntax.erased Syntax.mut LentTilePartEntry.pointee)) (List._∷_
-    (11, Mut.msleft LentTilePartEntry.row (Syntax.tyRef Syntax.erased Syntax.mut LentTilePartEntry.pointee)) List.[])))))))))))
-
-abbrev pub t20 : List.List Row.Entry
-t20 = List._∷_ (0, Rows.whole (Declared.row Scanned.the-type)) (List._∷_ (
-  1,
-  Rows.sslice (Referent.rtF (Referent.fInt Syntax.w8)) (Syntax.tyRef (Syntax.named 0) Syntax.imm
-      (Syntax.tyInt Syntax.w8)) 0,
-) (List._∷_ (2, Rows.sc-here (Row.sInt Syntax.w64)) (List._∷_ (
-  3,
-  Mut.mslice LentTilePartEntry.row (Syntax.tyRef (Syntax.named 1) Syntax.mut
-      LentTilePartEntry.pointee) 1,
-) (List._∷_ (4, Rows.whole (Declared.row Scanned.the-type)) (List._∷_ (5, Rows.sc-here (Row.sInt Syntax.w64)) (List._∷_ (
-  6,
-  Rows.any-gone
-      (Syntax.tyInt Syntax.w64),
-) (List._∷_ (7, Rows.any-gone (Syntax.tyInt Syntax.w64)) (List._∷_ (8, Rows.any-gone Syntax.tyUnit) (List._∷_ (
-  9,
-  Rows.any-gone (Syntax.tyInt
-      Syntax.w64),
-) (List._∷_ (10, Rows.any-gone (Syntax.tyRef Syntax.erased Syntax.mut LentTilePartEntry.pointee)) (List._∷_ (
+) (List._∷_ (9, Rows.any-gone (Syntax.tyInt Syntax.w64)) (List._∷_ (10, Rows.any-gone (Syntax.tyRef Syntax.erased Syntax.mut LentTilePartEntry.pointee)) (List._∷_ (
   11,
-  Rows.any-gone (Syntax.tyStruct (List._∷_ 38
-      (List._∷_ 91 (List._∷_ 93 List.[]))) (Syntax.tcons (Syntax.tyRef Syntax.erased Syntax.mut LentTilePartEntry.pointee) (Syntax.tcons (Syntax.tyInt Syntax.w64) Syntax.tnil))),
-)
-    List.[])))))))))))
+  Rows.any-gone (Syntax.tyStruct (List._∷_ 38 (List._∷_ 91 (List._∷_ 93 List.[]))) (Syntax.tcons (Syntax.tyRef Syntax.erased Syntax.mut LentTilePartEntry.pointee)
+      (Syntax.tcons (Syntax.tyInt Syntax.w64) Syntax.tnil))),
+) List.[])))))))))))
 
-abbrev pub t21 : List.List Row.Entry
-t21 = List._∷_ (0, Rows.whole (Declared.row Scanned.the-type)) (List._∷_ (
+abbrev pub t23 : List.List Row.Entry
+t23 = List._∷_ (0, Rows.whole (Declared.row Scanned.the-type)) (List._∷_ (
   1,
   Rows.sslice (Referent.rtF (Referent.fInt Syntax.w8)) (Syntax.tyRef (Syntax.named 0) Syntax.imm
       (Syntax.tyInt Syntax.w8)) 0,
-) (List._∷_ (2, Rows.sc-here (Row.sInt Syntax.w64)) (List._∷_ (
+) (List._∷_ (
+  2,
+  Rows.any-gone (Syntax.tyStruct (List._∷_ 116 (List._∷_ 121 (List._∷_ 112 (List._∷_ 101 (List._∷_ 115 (List._∷_ 58 (List._∷_ 58
+      (List._∷_ 67 (List._∷_ 111 (List._∷_ 100 (List._∷_ 101 (List._∷_ 115 (List._∷_ 116 (List._∷_ 114 (List._∷_ 101 (List._∷_ 97 (List._∷_ 109 (List._∷_ 79 (List._∷_ 102 (List._∷_
+      102 (List._∷_ 115 (List._∷_ 101 (List._∷_ 116 List.[]))))))))))))))))))))))) (Syntax.tcons (Syntax.tyInt Syntax.w64) Syntax.tnil)),
+) (List._∷_ (
   3,
-  Mut.mslice LentTilePartEntry.row (Syntax.tyRef (Syntax.named 1) Syntax.mut
-      LentTilePartEntry.pointee) 1,
+  Mut.mslice
+      LentTilePartEntry.row (Syntax.tyRef (Syntax.named 1) Syntax.mut LentTilePartEntry.pointee) 1,
 ) (List._∷_ (
   4,
-  Rows.any-gone (Syntax.tyEnum (List._∷_ 112 (List._∷_ 97 (List._∷_ 114 (List._∷_ 116 (List._∷_ 115 (List._∷_ 58 (List._∷_ 58
-      (List._∷_ 115 (List._∷_ 99 (List._∷_ 97 (List._∷_ 110 (List._∷_ 58 (List._∷_ 58 (List._∷_ 83 (List._∷_ 99 (List._∷_ 97 (List._∷_ 110 (List._∷_ 110 (List._∷_ 101 (List._∷_ 100
-      List.[])))))))))))))))))))) (Syntax.ttcons (Syntax.tcons (Syntax.tyInt Syntax.w64) Syntax.tnil) (Syntax.ttcons (Syntax.tcons (Syntax.tyStruct (List._∷_ 116 (List._∷_ 121
-      (List._∷_ 112 (List._∷_ 101 (List._∷_ 115 (List._∷_ 58 (List._∷_ 58 (List._∷_ 82 (List._∷_ 101 (List._∷_ 102 (List._∷_ 117 (List._∷_ 115 (List._∷_ 97 (List._∷_ 108
-      List.[])))))))))))))) (Syntax.tcons (Syntax.tyInt Syntax.w32) (Syntax.tcons (Syntax.tyInt Syntax.w64) Syntax.tnil))) Syntax.tnil) Syntax.ttnil))),
+  Rows.any-gone (Syntax.tyEnum (List._∷_ 112 (List._∷_ 97 (List._∷_
+      114 (List._∷_ 116 (List._∷_ 115 (List._∷_ 58 (List._∷_ 58 (List._∷_ 115 (List._∷_ 99 (List._∷_ 97 (List._∷_ 110 (List._∷_ 58 (List._∷_ 58 (List._∷_ 83 (List._∷_ 99 (List._∷_ 97
+      (List._∷_ 110 (List._∷_ 110 (List._∷_ 101 (List._∷_ 100 List.[])))))))))))))))))))) (Syntax.ttcons (Syntax.tcons (Syntax.tyInt Syntax.w64) Syntax.tnil) (Syntax.ttcons
+      (Syntax.tcons (Syntax.tyStruct (List._∷_ 116 (List._∷_ 121 (List._∷_ 112 (List._∷_ 101 (List._∷_ 115 (List._∷_ 58 (List._∷_ 58 (List._∷_ 82 (List._∷_ 101 (List._∷_ 102
+      (List._∷_ 117 (List._∷_ 115 (List._∷_ 97 (List._∷_ 108 List.[])))))))))))))) (Syntax.tcons (Syntax.tyInt Syntax.w32) (Syntax.tcons (Syntax.tyInt Syntax.w64) Syntax.tnil)))
+      Syntax.tnil) Syntax.ttnil))),
+) (List._∷_ (5, Rows.sc-here (Row.sInt Syntax.w64)) (List._∷_ (6, Rows.any-gone (Syntax.tyInt Syntax.w64)) (List._∷_ (
+  7,
+  Rows.any-gone (Syntax.tyInt
+      Syntax.w64),
+) (List._∷_ (8, Rows.any-gone Syntax.tyUnit) (List._∷_ (9, Rows.any-gone (Syntax.tyInt Syntax.w64)) (List._∷_ (
+  10,
+  Rows.any-gone (Syntax.tyRef Syntax.erased
+      Syntax.mut LentTilePartEntry.pointee),
 ) (List._∷_ (
-  5,
-  Rows.sc-here
-      (Row.sInt Syntax.w64),
-) (List._∷_ (6, Rows.any-gone (Syntax.tyInt Syntax.w64)) (List._∷_ (7, Rows.any-gone (Syntax.tyInt Syntax.w64)) (List._∷_ (8, Rows.any-gone Syntax.tyUnit)
-    (List._∷_ (9, Rows.any-gone (Syntax.tyInt Syntax.w64)) (List._∷_ (10, Rows.any-gone (Syntax.tyRef Syntax.erased Syntax.mut LentTilePartEntry.pointee)) (List._∷_ (
-      11,
-      Rows.any-gone (Syntax.tyStruct (List._∷_ 38 (List._∷_ 91 (List._∷_ 93 List.[]))) (Syntax.tcons (Syntax.tyRef Syntax.erased Syntax.mut LentTilePartEntry.pointee) (Syntax.tcons
-          (Syntax.tyInt Syntax.w64) Syntax.tnil))),
-    ) List.[])))))))))))
+  11,
+  Rows.any-gone (Syntax.tyStruct (List._∷_ 38 (List._∷_ 91 (List._∷_ 93 List.[]))) (Syntax.tcons (Syntax.tyRef Syntax.erased
+      Syntax.mut LentTilePartEntry.pointee) (Syntax.tcons (Syntax.tyInt Syntax.w64) Syntax.tnil))),
+) List.[])))))))))))
 
 abbrev pub T0 : Row.Cx
 T0 = record { locals = t0; slots = List.[] }
@@ -928,8 +1126,8 @@ T17 = record { locals = t12; slots = List.[] }
 abbrev pub T18 : Row.Cx
 T18 = record { locals = t13; slots = List.[] }
 
-abbrev pub T20 : Row.Cx
-T20 = record { locals = t14; slots = List.[] }
+abbrev pub T19 : Row.Cx
+T19 = record { locals = t14; slots = List.[] }
 
 abbrev pub T21 : Row.Cx
 T21 = record { locals = t15; slots = List.[] }
@@ -946,17 +1144,17 @@ T24 = record { locals = t18; slots = List.[] }
 abbrev pub T25 : Row.Cx
 T25 = record { locals = t19; slots = List.[] }
 
-abbrev pub T27 : Row.Cx
-T27 = record { locals = t6; slots = List.[] }
+abbrev pub T26 : Row.Cx
+T26 = record { locals = t20; slots = List.[] }
 
-abbrev pub T29 : Row.Cx
-T29 = record { locals = t20; slots = List.[] }
+abbrev pub T28 : Row.Cx
+T28 = record { locals = t21; slots = List.[] }
 
 abbrev pub T30 : Row.Cx
-T30 = record { locals = t21; slots = List.[] }
+T30 = record { locals = t22; slots = List.[] }
 
 abbrev pub T31 : Row.Cx
-T31 = record { locals = t11; slots = List.[] }
+T31 = record { locals = t23; slots = List.[] }
 
 abbrev pub T32 : Row.Cx
 T32 = record { locals = t1; slots = List.[] }
@@ -984,15 +1182,20 @@ module _ (claims· : Claims) where
   s4 = Call.callB ps·0 r·0 (claims· .0) (claims· .1) T5 (
     record { pos = 1; ty = Syntax.tyRef (Syntax.named 0) Syntax.imm (Syntax.tyInt Syntax.w8); ref = λ x. x },
     (
-      Num.vAt 2 λ x.
-          x,
+      record {
+        pos =
+            2;
+        st = List.[];
+        d = 0;
+        at = λ x. x;
+      },
       (Num.vAt 7 λ x. x, tt),
     ),
-  ) 4 (List._∷_ 0 List.[]) (Syntax.tyEnum (List._∷_ 112 (List._∷_ 97 (List._∷_ 114 (List._∷_ 116 (List._∷_ 115 (List._∷_ 58 (List._∷_ 58 (List._∷_ 115
-      (List._∷_ 99 (List._∷_ 97 (List._∷_ 110 (List._∷_ 58 (List._∷_ 58 (List._∷_ 83 (List._∷_ 99 (List._∷_ 97 (List._∷_ 110 (List._∷_ 110 (List._∷_ 101 (List._∷_ 100
-      List.[])))))))))))))))))))) (Syntax.ttcons (Syntax.tcons (Syntax.tyInt Syntax.w64) Syntax.tnil) (Syntax.ttcons (Syntax.tcons (Syntax.tyStruct (List._∷_ 116 (List._∷_ 121
-      (List._∷_ 112 (List._∷_ 101 (List._∷_ 115 (List._∷_ 58 (List._∷_ 58 (List._∷_ 82 (List._∷_ 101 (List._∷_ 102 (List._∷_ 117 (List._∷_ 115 (List._∷_ 97 (List._∷_ 108
-      List.[])))))))))))))) (Syntax.tcons (Syntax.tyInt Syntax.w32) (Syntax.tcons (Syntax.tyInt Syntax.w64) Syntax.tnil))) Syntax.tnil) Syntax.ttnil)))
+  ) 4 (List._∷_ 0 List.[]) (Syntax.tyEnum (List._∷_ 112 (List._∷_ 97 (List._∷_ 114 (List._∷_ 116 (List._∷_ 115
+      (List._∷_ 58 (List._∷_ 58 (List._∷_ 115 (List._∷_ 99 (List._∷_ 97 (List._∷_ 110 (List._∷_ 58 (List._∷_ 58 (List._∷_ 83 (List._∷_ 99 (List._∷_ 97 (List._∷_ 110 (List._∷_ 110
+      (List._∷_ 101 (List._∷_ 100 List.[])))))))))))))))))))) (Syntax.ttcons (Syntax.tcons (Syntax.tyInt Syntax.w64) Syntax.tnil) (Syntax.ttcons (Syntax.tcons (Syntax.tyStruct
+      (List._∷_ 116 (List._∷_ 121 (List._∷_ 112 (List._∷_ 101 (List._∷_ 115 (List._∷_ 58 (List._∷_ 58 (List._∷_ 82 (List._∷_ 101 (List._∷_ 102 (List._∷_ 117 (List._∷_ 115 (List._∷_
+      97 (List._∷_ 108 List.[])))))))))))))) (Syntax.tcons (Syntax.tyInt Syntax.w32) (Syntax.tcons (Syntax.tyInt Syntax.w64) Syntax.tnil))) Syntax.tnil) Syntax.ttnil)))
 
   abbrev s5 : Typed.Mo T6 → Typed.Mo T8
   s5 = Scalar.n-room T6 7 (Syntax.tyInt Syntax.w64)
@@ -1014,35 +1217,42 @@ module _ (claims· : Claims) where
   s10 = Known.k-enum-told Scanned.enum 1 T8 4 λ x. x
 
   abbrev s11 : Typed.Mo T13 → Typed.Mo T14
-  s11 = LocalCopy.n-val-copy T13 4 0 (Declared.row Scanned.the-type) (Rows.whole (Declared.row Scanned.the-type)) (Rows.whole (Declared.row Scanned.the-type)) (λ x. x) (λ x. x) λ
-      x. x
+  s11 = Scalar.n-room T13 2 (Syntax.tyStruct (List._∷_ 116 (List._∷_ 121 (List._∷_ 112 (List._∷_ 101 (List._∷_ 115 (List._∷_ 58 (List._∷_ 58 (List._∷_ 67 (List._∷_ 111 (List._∷_
+      100 (List._∷_ 101 (List._∷_ 115 (List._∷_ 116 (List._∷_ 114 (List._∷_ 101 (List._∷_ 97 (List._∷_ 109 (List._∷_ 79 (List._∷_ 102 (List._∷_ 102 (List._∷_ 115 (List._∷_ 101
+      (List._∷_ 116 List.[]))))))))))))))))))))))) (Syntax.tcons (Syntax.tyInt Syntax.w64) Syntax.tnil))
 
   abbrev s12 : Typed.Mo T14 → Typed.Mo T15
-  s12 = Scalar.n-room T14 4 (Syntax.tyEnum (List._∷_ 112 (List._∷_ 97 (List._∷_ 114 (List._∷_ 116 (List._∷_ 115 (List._∷_ 58 (List._∷_ 58 (List._∷_ 115 (List._∷_ 99 (List._∷_ 97
+  s12 = LocalCopy.n-val-copy T14 4 0 (Declared.row Scanned.the-type) (Rows.whole (Declared.row Scanned.the-type)) (Rows.whole (Declared.row Scanned.the-type)) (λ x. x) (λ x. x) λ
+      x. x
+
+  abbrev s13 : Typed.Mo T15 → Typed.Mo T16
+  s13 = Scalar.n-room T15 4 (Syntax.tyEnum (List._∷_ 112 (List._∷_ 97 (List._∷_ 114 (List._∷_ 116 (List._∷_ 115 (List._∷_ 58 (List._∷_ 58 (List._∷_ 115 (List._∷_ 99 (List._∷_ 97
       (List._∷_ 110 (List._∷_ 58 (List._∷_ 58 (List._∷_ 83 (List._∷_ 99 (List._∷_ 97 (List._∷_ 110 (List._∷_ 110 (List._∷_ 101 (List._∷_ 100 List.[]))))))))))))))))))))
       (Syntax.ttcons (Syntax.tcons (Syntax.tyInt Syntax.w64) Syntax.tnil) (Syntax.ttcons (Syntax.tcons (Syntax.tyStruct (List._∷_ 116 (List._∷_ 121 (List._∷_ 112 (List._∷_ 101
       (List._∷_ 115 (List._∷_ 58 (List._∷_ 58 (List._∷_ 82 (List._∷_ 101 (List._∷_ 102 (List._∷_ 117 (List._∷_ 115 (List._∷_ 97 (List._∷_ 108 List.[])))))))))))))) (Syntax.tcons
       (Syntax.tyInt Syntax.w32) (Syntax.tcons (Syntax.tyInt Syntax.w64) Syntax.tnil))) Syntax.tnil) Syntax.ttnil)))
 
-  abbrev s13 : Typed.Mo T15 → Typed.Mo T16
-  s13 = Scalar.n-room T15 2 (Syntax.tyInt Syntax.w64)
-
-  abbrev s14 : Typed.Mo T7 → Typed.Mo T17
-  s14 = Scalar.n-use T7 (Scalar.oAt 2 (Syntax.tyInt Syntax.w64) (Row.valS (Row.sInt Syntax.w64))) 6 (Rows.sc-here (Row.sInt Syntax.w64)) (Row.sInt Syntax.w64 .of)
+  abbrev s14 : Typed.Both T7 T17
+  s14 = Call.callB ps·1 r·1 (claims· .2) (claims· .3) T7 (record { pos = 2; st = List.[]; d = 0; at = λ x. x }, tt) 6 List.[] (Syntax.tyInt Syntax.w64)
 
   abbrev s15 : Typed.Mo T17 → Typed.Mo T18
-  s15 = Scalar.n-use T17 (Scalar.oAt 5 (Syntax.tyInt Syntax.w64) (Row.valS (Row.sInt Syntax.w64))) 9 (Rows.sc-here (Row.sInt Syntax.w64)) (Row.sInt Syntax.w64 .of)
+  s15 = Scalar.n-room T17 2 (Syntax.tyStruct (List._∷_ 116 (List._∷_ 121 (List._∷_ 112 (List._∷_ 101 (List._∷_ 115 (List._∷_ 58 (List._∷_ 58 (List._∷_ 67 (List._∷_ 111 (List._∷_
+      100 (List._∷_ 101 (List._∷_ 115 (List._∷_ 116 (List._∷_ 114 (List._∷_ 101 (List._∷_ 97 (List._∷_ 109 (List._∷_ 79 (List._∷_ 102 (List._∷_ 102 (List._∷_ 115 (List._∷_ 101
+      (List._∷_ 116 List.[]))))))))))))))))))))))) (Syntax.tcons (Syntax.tyInt Syntax.w64) Syntax.tnil))
 
-  abbrev s17 : Typed.Gives T18 T20
-  s17 = Relend.k-sl-relend LentTilePartEntry.row T18 3 10 1 2 (Syntax.tyRef (Syntax.named 1) Syntax.mut LentTilePartEntry.pointee) (Syntax.tyRef Syntax.erased Syntax.mut
+  abbrev s16 : Typed.Mo T18 → Typed.Mo T19
+  s16 = Scalar.n-use T18 (Scalar.oAt 5 (Syntax.tyInt Syntax.w64) (Row.valS (Row.sInt Syntax.w64))) 9 (Rows.sc-here (Row.sInt Syntax.w64)) (Row.sInt Syntax.w64 .of)
+
+  abbrev s18 : Typed.Gives T19 T21
+  s18 = Relend.k-sl-relend LentTilePartEntry.row T19 3 10 1 2 (Syntax.tyRef (Syntax.named 1) Syntax.mut LentTilePartEntry.pointee) (Syntax.tyRef Syntax.erased Syntax.mut
       LentTilePartEntry.pointee) Row.off λ x. x
 
-  abbrev s18 : Typed.Asks T20 T21
-  s18 = Relend.k-sl-aggregate LentTilePartEntry.row (Relend.asMut LentTilePartEntry.row) T20 10 11 2 (Syntax.tyRef Syntax.erased Syntax.mut LentTilePartEntry.pointee) (Syntax.tyRef
+  abbrev s19 : Typed.Asks T21 T22
+  s19 = Relend.k-sl-aggregate LentTilePartEntry.row (Relend.asMut LentTilePartEntry.row) T21 10 11 2 (Syntax.tyRef Syntax.erased Syntax.mut LentTilePartEntry.pointee) (Syntax.tyRef
       Syntax.erased Syntax.mut LentTilePartEntry.pointee) (λ x. x) (Scalar.oFld 3 (List._∷_ (Syntax.field 1) List.[]) (Syntax.tyInt Syntax.w64) 8 λ v. Shared.lenV (v .0))
 
-  abbrev s19 : Typed.Both T21 T22
-  s19 = Call.callB ps·1 r·1 (claims· .2) (claims· .3) T21 (
+  abbrev s20 : Typed.Both T22 T23
+  s20 = Call.callB ps·2 r·2 (claims· .4) (claims· .5) T22 (
     record { pos = 1; ty = Syntax.tyRef (Syntax.named 0) Syntax.imm (Syntax.tyInt Syntax.w8); ref = λ x. x },
     (
       Num.vAt 6 λ
@@ -1052,42 +1262,40 @@ module _ (claims· : Claims) where
   ) 8 (List._∷_ 0 (List._∷_ 2 List.[]))
       Syntax.tyUnit
 
-  abbrev s20 : Typed.Mo T22 → Typed.Mo T23
-  s20 = Scalar.n-room T22 6 (Syntax.tyInt Syntax.w64)
-
   abbrev s21 : Typed.Mo T23 → Typed.Mo T24
-  s21 = Scalar.n-room T23 8 Syntax.tyUnit
+  s21 = Scalar.n-room T23 6 (Syntax.tyInt Syntax.w64)
 
   abbrev s22 : Typed.Mo T24 → Typed.Mo T25
-  s22 = Scalar.n-room T24 9 (Syntax.tyInt Syntax.w64)
+  s22 = Scalar.n-room T24 8 Syntax.tyUnit
 
-  abbrev s24 : Typed.Both T25 T27
-  s24 = Relend.k-back-sl LentTilePartEntry.row T25 11 3 1 2 (Syntax.tyRef (Syntax.named 1) Syntax.mut LentTilePartEntry.pointee) (Syntax.tyRef Syntax.erased Syntax.mut
+  abbrev s23 : Typed.Mo T25 → Typed.Mo T26
+  s23 = Scalar.n-room T25 9 (Syntax.tyInt Syntax.w64)
+
+  abbrev s25 : Typed.Both T26 T28
+  s25 = Relend.k-back-sl LentTilePartEntry.row T26 11 3 1 2 (Syntax.tyRef (Syntax.named 1) Syntax.mut LentTilePartEntry.pointee) (Syntax.tyRef Syntax.erased Syntax.mut
       LentTilePartEntry.pointee) Row.off (λ x. x) λ x. x
 
-  abbrev s26 : Typed.Mo T27 → Typed.Mo T29
-  s26 = LocalCopy.n-val-copy T27 4 0 (Declared.row Scanned.the-type) (Rows.whole (Declared.row Scanned.the-type)) (Rows.whole (Declared.row Scanned.the-type)) (λ x. x) (λ x. x) λ
+  abbrev s27 : Typed.Mo T28 → Typed.Mo T30
+  s27 = LocalCopy.n-val-copy T28 4 0 (Declared.row Scanned.the-type) (Rows.whole (Declared.row Scanned.the-type)) (Rows.whole (Declared.row Scanned.the-type)) (λ x. x) (λ x. x) λ
       x. x
 
-  abbrev s27 : Typed.Mo T29 → Typed.Mo T30
-  s27 = Scalar.n-room T29 4 (Syntax.tyEnum (List._∷_ 112 (List._∷_ 97 (List._∷_ 114 (List._∷_ 116 (List._∷_ 115 (List._∷_ 58 (List._∷_ 58 (List._∷_ 115 (List._∷_ 99 (List._∷_ 97
+  abbrev s28 : Typed.Mo T30 → Typed.Mo T31
+  s28 = Scalar.n-room T30 4 (Syntax.tyEnum (List._∷_ 112 (List._∷_ 97 (List._∷_ 114 (List._∷_ 116 (List._∷_ 115 (List._∷_ 58 (List._∷_ 58 (List._∷_ 115 (List._∷_ 99 (List._∷_ 97
       (List._∷_ 110 (List._∷_ 58 (List._∷_ 58 (List._∷_ 83 (List._∷_ 99 (List._∷_ 97 (List._∷_ 110 (List._∷_ 110 (List._∷_ 101 (List._∷_ 100 List.[]))))))))))))))))))))
       (Syntax.ttcons (Syntax.tcons (Syntax.tyInt Syntax.w64) Syntax.tnil) (Syntax.ttcons (Syntax.tcons (Syntax.tyStruct (List._∷_ 116 (List._∷_ 121 (List._∷_ 112 (List._∷_ 101
       (List._∷_ 115 (List._∷_ 58 (List._∷_ 58 (List._∷_ 82 (List._∷_ 101 (List._∷_ 102 (List._∷_ 117 (List._∷_ 115 (List._∷_ 97 (List._∷_ 108 List.[])))))))))))))) (Syntax.tcons
       (Syntax.tyInt Syntax.w32) (Syntax.tcons (Syntax.tyInt Syntax.w64) Syntax.tnil))) Syntax.tnil) Syntax.ttnil)))
 
-  abbrev s28 : Typed.Mo T30 → Typed.Mo T31
-  s28 = Scalar.n-room T30 5 (Syntax.tyInt Syntax.w64)
-
   abbrev s29 : Typed.Mo T31 → Typed.Mo T32
-  s29 = Scalar.n-room T31 2 (Syntax.tyInt Syntax.w64)
+  s29 = Scalar.n-room T31 5 (Syntax.tyInt Syntax.w64)
 
   module _ (Pre· : (κs : Lifetimes.Lfts 2) → Kinds.Dens κs ps → Type 0) (Post· : (κs : Lifetimes.Lfts 2) → (a : Kinds.Dens κs ps) → Kinds.Plain 2 ps r κs) where
     module _ (M : Type 1) where
       abbrev pub Closed : Type 2
       Closed = (𝓤 : URA.URA M) (H : Wp.Heap 𝓤) (A : Atoms.Atoms 𝓤) (W : Kit.Given 𝓤 H A) (𝓣 : Wp.Tables 𝓤 H) (known0 : Plain.Known 𝓤 H A W 𝓣 1 ps·0 r·0 (claims· .0) (claims· .1)
-          "parts::scan::decide") (known1 : Plain.Known 𝓤 H A W 𝓣 2 ps·1 r·1 (claims· .2) (claims· .3) "records::scan::fill") → Statement.Triple 𝓤 (Wp.WpFn 𝓤 H (𝓣 .C) (𝓣 .Λ)
-          (Function.fnOf 2 ps r xs m hs body)) (Function.plainOf 𝓤 H A 2 ps r Pre· Post·)
+          "parts::scan::decide") (known1 : Plain.Known 𝓤 H A W 𝓣 0 ps·1 r·1 (claims· .2) (claims· .3) "types::CodestreamOffset::position") (known2 : Plain.Known 𝓤 H A W 𝓣 2 ps·2
+          r·2 (claims· .4) (claims· .5) "records::scan::fill") → Statement.Triple 𝓤 (Wp.WpFn 𝓤 H (𝓣 .C) (𝓣 .Λ) (Function.fnOf 2 ps r xs m hs body)) (Function.plainOf 𝓤 H A 2 ps r
+          Pre· Post·)
 
     module _ where
       abbrev at0 : Typed.TF T10 O1
@@ -1135,20 +1343,20 @@ module _ (claims· : Claims) where
       abbrev at12 : Typed.TF T30 O0
       at12 = λ Ψ. Typed.pass T30 T31 s28 (at11 Ψ)
 
-      abbrev at13 : Typed.TF T29 O0
-      at13 = λ Ψ. Typed.pass T29 T30 s27 (at12 Ψ)
+      abbrev at13 : Typed.TF T28 O0
+      at13 = λ Ψ. Typed.pass T28 T30 s27 (at12 Ψ)
 
-      abbrev at14 : Typed.TF T27 O0
-      at14 = λ Ψ. Typed.pass T27 T29 s26 (at13 Ψ)
+      abbrev at14 : Typed.TF T28 O0
+      at14 = λ Ψ. at13 Ψ
 
-      abbrev at15 : Typed.TF T27 O0
-      at15 = λ Ψ. at14 Ψ
+      abbrev at15 : Typed.TF T26 O0
+      at15 = λ Ψ. Typed.both s25 (at14 Ψ)
 
-      abbrev at16 : Typed.TF T25 O0
-      at16 = λ Ψ. Typed.both s24 (at15 Ψ)
+      abbrev at16 : Typed.TF T26 O0
+      at16 = λ Ψ. at15 Ψ
 
       abbrev at17 : Typed.TF T25 O0
-      at17 = λ Ψ. at16 Ψ
+      at17 = λ Ψ. Typed.pass T25 T26 s23 (at16 Ψ)
 
       abbrev at18 : Typed.TF T24 O0
       at18 = λ Ψ. Typed.pass T24 T25 s22 (at17 Ψ)
@@ -1157,25 +1365,25 @@ module _ (claims· : Claims) where
       at19 = λ Ψ. Typed.pass T23 T24 s21 (at18 Ψ)
 
       abbrev at20 : Typed.TF T22 O0
-      at20 = λ Ψ. Typed.pass T22 T23 s20 (at19 Ψ)
+      at20 = λ Ψ. Typed.both s20 (at19 Ψ)
 
       abbrev at21 : Typed.TF T21 O0
-      at21 = λ Ψ. Typed.both s19 (at20 Ψ)
+      at21 = λ Ψ. Typed.ask s19 (at20 Ψ)
 
-      abbrev at22 : Typed.TF T20 O0
-      at22 = λ Ψ. Typed.ask s18 (at21 Ψ)
+      abbrev at22 : Typed.TF T19 O0
+      at22 = λ Ψ. Typed.give s18 (at21 Ψ)
 
-      abbrev at23 : Typed.TF T18 O0
-      at23 = λ Ψ. Typed.give s17 (at22 Ψ)
+      abbrev at23 : Typed.TF T19 O0
+      at23 = λ Ψ. at22 Ψ
 
       abbrev at24 : Typed.TF T18 O0
-      at24 = λ Ψ. at23 Ψ
+      at24 = λ Ψ. Typed.pass T18 T19 s16 (at23 Ψ)
 
       abbrev at25 : Typed.TF T17 O0
       at25 = λ Ψ. Typed.pass T17 T18 s15 (at24 Ψ)
 
       abbrev at26 : Typed.TF T7 O0
-      at26 = λ Ψ. Typed.pass T7 T17 s14 (at25 Ψ)
+      at26 = λ Ψ. Typed.both s14 (at25 Ψ)
 
       abbrev at27 : Typed.TF T6 O0
       at27 = λ Ψ. at9 (Typed.wantNext T7 O0 (at26 Ψ) Ψ)
@@ -1200,39 +1408,10 @@ module _ (claims· : Claims) where
 
       module _ {M : Type 1} (𝓤 : URA.URA M) (H : Wp.Heap 𝓤) (A : Atoms.Atoms 𝓤) (W : Kit.Given 𝓤 H A) (𝓣 : Wp.Tables 𝓤 H) where
         abbrev Knowns : Type 1
-        Knowns = Plain.Known 𝓤 H A W 𝓣 1 ps·0 r·0 (claims· .0) (claims· .1) "parts::scan::decide" × Plain.Known 𝓤 H A W 𝓣 2 ps·1 r·1 (claims· .2) (claims· .3) "records::scan::fill"
+        Knowns = Plain.Known 𝓤 H A W 𝓣 1 ps·0 r·0 (claims· .0) (claims· .1) "parts::scan::decide" × Plain.Known 𝓤 H A W 𝓣 0 ps·1 r·1 (claims· .2) (claims· .3)
+            "types::CodestreamOffset::position" × Plain.Known 𝓤 H A W 𝓣 2 ps·2 r·2 (claims· .4) (claims· .5) "records::scan::fill"
 
       module _ (κs : Lifetimes.Lfts 2) (qs : Lifetimes.Shares 2) where
-        abbrev g14 : List.List Row.Entry
-        g14 = List._∷_ (
-          0,
-          Rows.any-gone (Syntax.tyEnum (List._∷_ 112 (List._∷_ 97 (List._∷_ 114 (List._∷_ 116 (List._∷_ 115 (List._∷_ 58 (List._∷_ 58 (List._∷_ 115 (List._∷_ 99
-              (List._∷_ 97 (List._∷_ 110 (List._∷_ 58 (List._∷_ 58 (List._∷_ 83 (List._∷_ 99 (List._∷_ 97 (List._∷_ 110 (List._∷_ 110 (List._∷_ 101 (List._∷_ 100
-              List.[])))))))))))))))))))) (Syntax.ttcons (Syntax.tcons (Syntax.tyInt Syntax.w64) Syntax.tnil) (Syntax.ttcons (Syntax.tcons (Syntax.tyStruct (List._∷_ 116 (List._∷_
-              121 (List._∷_ 112 (List._∷_ 101 (List._∷_ 115 (List._∷_ 58 (List._∷_ 58 (List._∷_ 82 (List._∷_ 101 (List._∷_ 102 (List._∷_ 117 (List._∷_ 115 (List._∷_ 97 (List._∷_ 108
-              List.[])))))))))))))) (Syntax.tcons (Syntax.tyInt Syntax.w32) (Syntax.tcons (Syntax.tyInt Syntax.w64) Syntax.tnil))) Syntax.tnil) Syntax.ttnil))),
-        ) (List._∷_ (
-          1,
-          Rows.sslice (Referent.rtF (Referent.fInt Syntax.w8)) (Syntax.tyRef (Syntax.named 0) Syntax.imm (Syntax.tyInt Syntax.w8)) 0,
-        ) (List._∷_ (
-          2,
-          Rows.sc-here (Row.sInt
-              Syntax.w64),
-        ) (List._∷_ (
-          3,
-          Relend.mslice-owed LentTilePartEntry.row (Syntax.tyRef (Syntax.named 1) Syntax.mut LentTilePartEntry.pointee) 1 2 (Row.lease (κs .1 .0) (qs
-              .1 .0)),
-        ) (List._∷_ (4, Rows.whole (Declared.row Scanned.the-type)) (List._∷_ (5, Rows.sc-here (Row.sInt Syntax.w64)) (List._∷_ (6, Rows.sc-here (Row.sInt Syntax.w64))
-            (List._∷_ (7, Rows.any-gone (Syntax.tyInt Syntax.w64)) (List._∷_ (8, Rows.any-gone Syntax.tyUnit) (List._∷_ (9, Rows.sc-here (Row.sInt Syntax.w64)) (List._∷_ (
-              10,
-              Relend.msptr LentTilePartEntry.row (Syntax.tyRef Syntax.erased Syntax.mut LentTilePartEntry.pointee) 2,
-            ) (List._∷_ (
-              11,
-              Rows.any-gone (Syntax.tyStruct (List._∷_ 38
-                  (List._∷_ 91 (List._∷_ 93 List.[]))) (Syntax.tcons (Syntax.tyRef Syntax.erased Syntax.mut LentTilePartEntry.pointee) (Syntax.tcons (Syntax.tyInt Syntax.w64)
-                  Syntax.tnil))),
-            ) List.[])))))))))))
-
         abbrev g15 : List.List Row.Entry
         g15 = List._∷_ (
           0,
@@ -1246,21 +1425,31 @@ module _ (claims· : Claims) where
           Rows.sslice (Referent.rtF (Referent.fInt Syntax.w8)) (Syntax.tyRef (Syntax.named 0) Syntax.imm (Syntax.tyInt Syntax.w8)) 0,
         ) (List._∷_ (
           2,
-          Rows.sc-here (Row.sInt
-              Syntax.w64),
+          Rows.any-gone (Syntax.tyStruct
+              (List._∷_ 116 (List._∷_ 121 (List._∷_ 112 (List._∷_ 101 (List._∷_ 115 (List._∷_ 58 (List._∷_ 58 (List._∷_ 67 (List._∷_ 111 (List._∷_ 100 (List._∷_ 101 (List._∷_ 115
+              (List._∷_ 116 (List._∷_ 114 (List._∷_ 101 (List._∷_ 97 (List._∷_ 109 (List._∷_ 79 (List._∷_ 102 (List._∷_ 102 (List._∷_ 115 (List._∷_ 101 (List._∷_ 116
+              List.[]))))))))))))))))))))))) (Syntax.tcons (Syntax.tyInt Syntax.w64) Syntax.tnil)),
         ) (List._∷_ (
           3,
-          Relend.mslice-owed LentTilePartEntry.row (Syntax.tyRef (Syntax.named 1) Syntax.mut LentTilePartEntry.pointee) 1 2 (Row.lease (κs .1 .0) (qs
-              .1 .0)),
-        ) (List._∷_ (4, Rows.whole (Declared.row Scanned.the-type)) (List._∷_ (5, Rows.sc-here (Row.sInt Syntax.w64)) (List._∷_ (6, Rows.sc-here (Row.sInt Syntax.w64))
-            (List._∷_ (7, Rows.any-gone (Syntax.tyInt Syntax.w64)) (List._∷_ (8, Rows.any-gone Syntax.tyUnit) (List._∷_ (9, Rows.sc-here (Row.sInt Syntax.w64)) (List._∷_ (
-              10,
-              Rows.any-gone (Syntax.tyRef Syntax.erased Syntax.mut LentTilePartEntry.pointee),
-            ) (List._∷_ (
-              11,
-              Mut.mslice LentTilePartEntry.row (Syntax.tyRef Syntax.erased Syntax.mut
-                  LentTilePartEntry.pointee) 2,
-            ) List.[])))))))))))
+          Relend.mslice-owed LentTilePartEntry.row (Syntax.tyRef (Syntax.named
+              1) Syntax.mut LentTilePartEntry.pointee) 1 2 (Row.lease (κs .1 .0) (qs .1 .0)),
+        ) (List._∷_ (4, Rows.whole (Declared.row Scanned.the-type)) (List._∷_ (
+          5,
+          Rows.sc-here
+              (Row.sInt Syntax.w64),
+        ) (List._∷_ (6, Rows.sc-here (Row.sInt Syntax.w64)) (List._∷_ (7, Rows.any-gone (Syntax.tyInt Syntax.w64)) (List._∷_ (
+          8,
+          Rows.any-gone
+              Syntax.tyUnit,
+        ) (List._∷_ (9, Rows.sc-here (Row.sInt Syntax.w64)) (List._∷_ (
+          10,
+          Relend.msptr LentTilePartEntry.row (Syntax.tyRef Syntax.erased Syntax.mut
+              LentTilePartEntry.pointee) 2,
+        ) (List._∷_ (
+          11,
+          Rows.any-gone (Syntax.tyStruct (List._∷_ 38 (List._∷_ 91 (List._∷_ 93 List.[]))) (Syntax.tcons (Syntax.tyRef Syntax.erased
+              Syntax.mut LentTilePartEntry.pointee) (Syntax.tcons (Syntax.tyInt Syntax.w64) Syntax.tnil))),
+        ) List.[])))))))))))
 
         abbrev g16 : List.List Row.Entry
         g16 = List._∷_ (
@@ -1275,21 +1464,24 @@ module _ (claims· : Claims) where
           Rows.sslice (Referent.rtF (Referent.fInt Syntax.w8)) (Syntax.tyRef (Syntax.named 0) Syntax.imm (Syntax.tyInt Syntax.w8)) 0,
         ) (List._∷_ (
           2,
-          Rows.sc-here (Row.sInt
-              Syntax.w64),
+          Rows.any-gone (Syntax.tyStruct
+              (List._∷_ 116 (List._∷_ 121 (List._∷_ 112 (List._∷_ 101 (List._∷_ 115 (List._∷_ 58 (List._∷_ 58 (List._∷_ 67 (List._∷_ 111 (List._∷_ 100 (List._∷_ 101 (List._∷_ 115
+              (List._∷_ 116 (List._∷_ 114 (List._∷_ 101 (List._∷_ 97 (List._∷_ 109 (List._∷_ 79 (List._∷_ 102 (List._∷_ 102 (List._∷_ 115 (List._∷_ 101 (List._∷_ 116
+              List.[]))))))))))))))))))))))) (Syntax.tcons (Syntax.tyInt Syntax.w64) Syntax.tnil)),
         ) (List._∷_ (
           3,
-          Relend.mslice-owed LentTilePartEntry.row (Syntax.tyRef (Syntax.named 1) Syntax.mut LentTilePartEntry.pointee) 1 2 (Row.lease (κs .1 .0) (qs
-              .1 .0)),
-        ) (List._∷_ (4, Rows.whole (Declared.row Scanned.the-type)) (List._∷_ (5, Rows.sc-here (Row.sInt Syntax.w64)) (List._∷_ (6, Rows.sc-here (Row.sInt Syntax.w64))
-            (List._∷_ (7, Rows.any-gone (Syntax.tyInt Syntax.w64)) (List._∷_ (8, Rows.sc-here Row.sUnit) (List._∷_ (9, Rows.sc-here (Row.sInt Syntax.w64)) (List._∷_ (
-              10,
-              Rows.any-gone (Syntax.tyRef Syntax.erased Syntax.mut LentTilePartEntry.pointee),
-            ) (List._∷_ (
-              11,
-              Mut.msleft LentTilePartEntry.row (Syntax.tyRef Syntax.erased Syntax.mut
-                  LentTilePartEntry.pointee),
-            ) List.[])))))))))))
+          Relend.mslice-owed LentTilePartEntry.row (Syntax.tyRef (Syntax.named
+              1) Syntax.mut LentTilePartEntry.pointee) 1 2 (Row.lease (κs .1 .0) (qs .1 .0)),
+        ) (List._∷_ (4, Rows.whole (Declared.row Scanned.the-type)) (List._∷_ (
+          5,
+          Rows.sc-here
+              (Row.sInt Syntax.w64),
+        ) (List._∷_ (6, Rows.sc-here (Row.sInt Syntax.w64)) (List._∷_ (7, Rows.any-gone (Syntax.tyInt Syntax.w64)) (List._∷_ (
+          8,
+          Rows.any-gone
+              Syntax.tyUnit,
+        ) (List._∷_ (9, Rows.sc-here (Row.sInt Syntax.w64)) (List._∷_ (10, Rows.any-gone (Syntax.tyRef Syntax.erased Syntax.mut LentTilePartEntry.pointee))
+            (List._∷_ (11, Mut.mslice LentTilePartEntry.row (Syntax.tyRef Syntax.erased Syntax.mut LentTilePartEntry.pointee) 2) List.[])))))))))))
 
         abbrev g17 : List.List Row.Entry
         g17 = List._∷_ (
@@ -1304,21 +1496,22 @@ module _ (claims· : Claims) where
           Rows.sslice (Referent.rtF (Referent.fInt Syntax.w8)) (Syntax.tyRef (Syntax.named 0) Syntax.imm (Syntax.tyInt Syntax.w8)) 0,
         ) (List._∷_ (
           2,
-          Rows.sc-here (Row.sInt
-              Syntax.w64),
+          Rows.any-gone (Syntax.tyStruct
+              (List._∷_ 116 (List._∷_ 121 (List._∷_ 112 (List._∷_ 101 (List._∷_ 115 (List._∷_ 58 (List._∷_ 58 (List._∷_ 67 (List._∷_ 111 (List._∷_ 100 (List._∷_ 101 (List._∷_ 115
+              (List._∷_ 116 (List._∷_ 114 (List._∷_ 101 (List._∷_ 97 (List._∷_ 109 (List._∷_ 79 (List._∷_ 102 (List._∷_ 102 (List._∷_ 115 (List._∷_ 101 (List._∷_ 116
+              List.[]))))))))))))))))))))))) (Syntax.tcons (Syntax.tyInt Syntax.w64) Syntax.tnil)),
         ) (List._∷_ (
           3,
-          Relend.mslice-owed LentTilePartEntry.row (Syntax.tyRef (Syntax.named 1) Syntax.mut LentTilePartEntry.pointee) 1 2 (Row.lease (κs .1 .0) (qs
-              .1 .0)),
-        ) (List._∷_ (4, Rows.whole (Declared.row Scanned.the-type)) (List._∷_ (5, Rows.sc-here (Row.sInt Syntax.w64)) (List._∷_ (
-          6,
-          Rows.any-gone (Syntax.tyInt
-              Syntax.w64),
-        ) (List._∷_ (7, Rows.any-gone (Syntax.tyInt Syntax.w64)) (List._∷_ (8, Rows.sc-here Row.sUnit) (List._∷_ (9, Rows.sc-here (Row.sInt Syntax.w64)) (List._∷_
-            (10, Rows.any-gone (Syntax.tyRef Syntax.erased Syntax.mut LentTilePartEntry.pointee)) (List._∷_ (
+          Relend.mslice-owed LentTilePartEntry.row (Syntax.tyRef (Syntax.named
+              1) Syntax.mut LentTilePartEntry.pointee) 1 2 (Row.lease (κs .1 .0) (qs .1 .0)),
+        ) (List._∷_ (4, Rows.whole (Declared.row Scanned.the-type)) (List._∷_ (
+          5,
+          Rows.sc-here
+              (Row.sInt Syntax.w64),
+        ) (List._∷_ (6, Rows.sc-here (Row.sInt Syntax.w64)) (List._∷_ (7, Rows.any-gone (Syntax.tyInt Syntax.w64)) (List._∷_ (8, Rows.sc-here Row.sUnit)
+            (List._∷_ (9, Rows.sc-here (Row.sInt Syntax.w64)) (List._∷_ (10, Rows.any-gone (Syntax.tyRef Syntax.erased Syntax.mut LentTilePartEntry.pointee)) (List._∷_ (
               11,
-              Mut.msleft LentTilePartEntry.row (Syntax.tyRef Syntax.erased
-                  Syntax.mut LentTilePartEntry.pointee),
+              Mut.msleft LentTilePartEntry.row (Syntax.tyRef Syntax.erased Syntax.mut LentTilePartEntry.pointee),
             ) List.[])))))))))))
 
         abbrev g18 : List.List Row.Entry
@@ -1334,22 +1527,24 @@ module _ (claims· : Claims) where
           Rows.sslice (Referent.rtF (Referent.fInt Syntax.w8)) (Syntax.tyRef (Syntax.named 0) Syntax.imm (Syntax.tyInt Syntax.w8)) 0,
         ) (List._∷_ (
           2,
-          Rows.sc-here (Row.sInt
-              Syntax.w64),
+          Rows.any-gone (Syntax.tyStruct
+              (List._∷_ 116 (List._∷_ 121 (List._∷_ 112 (List._∷_ 101 (List._∷_ 115 (List._∷_ 58 (List._∷_ 58 (List._∷_ 67 (List._∷_ 111 (List._∷_ 100 (List._∷_ 101 (List._∷_ 115
+              (List._∷_ 116 (List._∷_ 114 (List._∷_ 101 (List._∷_ 97 (List._∷_ 109 (List._∷_ 79 (List._∷_ 102 (List._∷_ 102 (List._∷_ 115 (List._∷_ 101 (List._∷_ 116
+              List.[]))))))))))))))))))))))) (Syntax.tcons (Syntax.tyInt Syntax.w64) Syntax.tnil)),
         ) (List._∷_ (
           3,
-          Relend.mslice-owed LentTilePartEntry.row (Syntax.tyRef (Syntax.named 1) Syntax.mut LentTilePartEntry.pointee) 1 2 (Row.lease (κs .1 .0) (qs
-              .1 .0)),
-        ) (List._∷_ (4, Rows.whole (Declared.row Scanned.the-type)) (List._∷_ (5, Rows.sc-here (Row.sInt Syntax.w64)) (List._∷_ (
-          6,
-          Rows.any-gone (Syntax.tyInt
-              Syntax.w64),
-        ) (List._∷_ (7, Rows.any-gone (Syntax.tyInt Syntax.w64)) (List._∷_ (8, Rows.any-gone Syntax.tyUnit) (List._∷_ (9, Rows.sc-here (Row.sInt Syntax.w64))
-            (List._∷_ (10, Rows.any-gone (Syntax.tyRef Syntax.erased Syntax.mut LentTilePartEntry.pointee)) (List._∷_ (
-              11,
-              Mut.msleft LentTilePartEntry.row (Syntax.tyRef
-                  Syntax.erased Syntax.mut LentTilePartEntry.pointee),
-            ) List.[])))))))))))
+          Relend.mslice-owed LentTilePartEntry.row (Syntax.tyRef (Syntax.named
+              1) Syntax.mut LentTilePartEntry.pointee) 1 2 (Row.lease (κs .1 .0) (qs .1 .0)),
+        ) (List._∷_ (4, Rows.whole (Declared.row Scanned.the-type)) (List._∷_ (
+          5,
+          Rows.sc-here
+              (Row.sInt Syntax.w64),
+        ) (List._∷_ (6, Rows.any-gone (Syntax.tyInt Syntax.w64)) (List._∷_ (7, Rows.any-gone (Syntax.tyInt Syntax.w64)) (List._∷_ (
+          8,
+          Rows.sc-here
+              Row.sUnit,
+        ) (List._∷_ (9, Rows.sc-here (Row.sInt Syntax.w64)) (List._∷_ (10, Rows.any-gone (Syntax.tyRef Syntax.erased Syntax.mut LentTilePartEntry.pointee)) (List._∷_
+            (11, Mut.msleft LentTilePartEntry.row (Syntax.tyRef Syntax.erased Syntax.mut LentTilePartEntry.pointee)) List.[])))))))))))
 
         abbrev g19 : List.List Row.Entry
         g19 = List._∷_ (
@@ -1364,22 +1559,56 @@ module _ (claims· : Claims) where
           Rows.sslice (Referent.rtF (Referent.fInt Syntax.w8)) (Syntax.tyRef (Syntax.named 0) Syntax.imm (Syntax.tyInt Syntax.w8)) 0,
         ) (List._∷_ (
           2,
-          Rows.sc-here (Row.sInt
-              Syntax.w64),
+          Rows.any-gone (Syntax.tyStruct
+              (List._∷_ 116 (List._∷_ 121 (List._∷_ 112 (List._∷_ 101 (List._∷_ 115 (List._∷_ 58 (List._∷_ 58 (List._∷_ 67 (List._∷_ 111 (List._∷_ 100 (List._∷_ 101 (List._∷_ 115
+              (List._∷_ 116 (List._∷_ 114 (List._∷_ 101 (List._∷_ 97 (List._∷_ 109 (List._∷_ 79 (List._∷_ 102 (List._∷_ 102 (List._∷_ 115 (List._∷_ 101 (List._∷_ 116
+              List.[]))))))))))))))))))))))) (Syntax.tcons (Syntax.tyInt Syntax.w64) Syntax.tnil)),
         ) (List._∷_ (
           3,
-          Relend.mslice-owed LentTilePartEntry.row (Syntax.tyRef (Syntax.named 1) Syntax.mut LentTilePartEntry.pointee) 1 2 (Row.lease (κs .1 .0) (qs
-              .1 .0)),
-        ) (List._∷_ (4, Rows.whole (Declared.row Scanned.the-type)) (List._∷_ (5, Rows.sc-here (Row.sInt Syntax.w64)) (List._∷_ (
-          6,
-          Rows.any-gone (Syntax.tyInt
-              Syntax.w64),
-        ) (List._∷_ (7, Rows.any-gone (Syntax.tyInt Syntax.w64)) (List._∷_ (8, Rows.any-gone Syntax.tyUnit) (List._∷_ (9, Rows.any-gone (Syntax.tyInt Syntax.w64))
-            (List._∷_ (10, Rows.any-gone (Syntax.tyRef Syntax.erased Syntax.mut LentTilePartEntry.pointee)) (List._∷_ (
-              11,
-              Mut.msleft LentTilePartEntry.row (Syntax.tyRef
-                  Syntax.erased Syntax.mut LentTilePartEntry.pointee),
-            ) List.[])))))))))))
+          Relend.mslice-owed LentTilePartEntry.row (Syntax.tyRef (Syntax.named
+              1) Syntax.mut LentTilePartEntry.pointee) 1 2 (Row.lease (κs .1 .0) (qs .1 .0)),
+        ) (List._∷_ (4, Rows.whole (Declared.row Scanned.the-type)) (List._∷_ (
+          5,
+          Rows.sc-here
+              (Row.sInt Syntax.w64),
+        ) (List._∷_ (6, Rows.any-gone (Syntax.tyInt Syntax.w64)) (List._∷_ (7, Rows.any-gone (Syntax.tyInt Syntax.w64)) (List._∷_ (
+          8,
+          Rows.any-gone
+              Syntax.tyUnit,
+        ) (List._∷_ (9, Rows.sc-here (Row.sInt Syntax.w64)) (List._∷_ (10, Rows.any-gone (Syntax.tyRef Syntax.erased Syntax.mut LentTilePartEntry.pointee))
+            (List._∷_ (11, Mut.msleft LentTilePartEntry.row (Syntax.tyRef Syntax.erased Syntax.mut LentTilePartEntry.pointee)) List.[])))))))))))
+
+        abbrev g20 : List.List Row.Entry
+        g20 = List._∷_ (
+          0,
+          Rows.any-gone (Syntax.tyEnum (List._∷_ 112 (List._∷_ 97 (List._∷_ 114 (List._∷_ 116 (List._∷_ 115 (List._∷_ 58 (List._∷_ 58 (List._∷_ 115 (List._∷_ 99
+              (List._∷_ 97 (List._∷_ 110 (List._∷_ 58 (List._∷_ 58 (List._∷_ 83 (List._∷_ 99 (List._∷_ 97 (List._∷_ 110 (List._∷_ 110 (List._∷_ 101 (List._∷_ 100
+              List.[])))))))))))))))))))) (Syntax.ttcons (Syntax.tcons (Syntax.tyInt Syntax.w64) Syntax.tnil) (Syntax.ttcons (Syntax.tcons (Syntax.tyStruct (List._∷_ 116 (List._∷_
+              121 (List._∷_ 112 (List._∷_ 101 (List._∷_ 115 (List._∷_ 58 (List._∷_ 58 (List._∷_ 82 (List._∷_ 101 (List._∷_ 102 (List._∷_ 117 (List._∷_ 115 (List._∷_ 97 (List._∷_ 108
+              List.[])))))))))))))) (Syntax.tcons (Syntax.tyInt Syntax.w32) (Syntax.tcons (Syntax.tyInt Syntax.w64) Syntax.tnil))) Syntax.tnil) Syntax.ttnil))),
+        ) (List._∷_ (
+          1,
+          Rows.sslice (Referent.rtF (Referent.fInt Syntax.w8)) (Syntax.tyRef (Syntax.named 0) Syntax.imm (Syntax.tyInt Syntax.w8)) 0,
+        ) (List._∷_ (
+          2,
+          Rows.any-gone (Syntax.tyStruct
+              (List._∷_ 116 (List._∷_ 121 (List._∷_ 112 (List._∷_ 101 (List._∷_ 115 (List._∷_ 58 (List._∷_ 58 (List._∷_ 67 (List._∷_ 111 (List._∷_ 100 (List._∷_ 101 (List._∷_ 115
+              (List._∷_ 116 (List._∷_ 114 (List._∷_ 101 (List._∷_ 97 (List._∷_ 109 (List._∷_ 79 (List._∷_ 102 (List._∷_ 102 (List._∷_ 115 (List._∷_ 101 (List._∷_ 116
+              List.[]))))))))))))))))))))))) (Syntax.tcons (Syntax.tyInt Syntax.w64) Syntax.tnil)),
+        ) (List._∷_ (
+          3,
+          Relend.mslice-owed LentTilePartEntry.row (Syntax.tyRef (Syntax.named
+              1) Syntax.mut LentTilePartEntry.pointee) 1 2 (Row.lease (κs .1 .0) (qs .1 .0)),
+        ) (List._∷_ (4, Rows.whole (Declared.row Scanned.the-type)) (List._∷_ (
+          5,
+          Rows.sc-here
+              (Row.sInt Syntax.w64),
+        ) (List._∷_ (6, Rows.any-gone (Syntax.tyInt Syntax.w64)) (List._∷_ (7, Rows.any-gone (Syntax.tyInt Syntax.w64)) (List._∷_ (
+          8,
+          Rows.any-gone
+              Syntax.tyUnit,
+        ) (List._∷_ (9, Rows.any-gone (Syntax.tyInt Syntax.w64)) (List._∷_ (10, Rows.any-gone (Syntax.tyRef Syntax.erased Syntax.mut LentTilePartEntry.pointee))
+            (List._∷_ (11, Mut.msleft LentTilePartEntry.row (Syntax.tyRef Syntax.erased Syntax.mut LentTilePartEntry.pointee)) List.[])))))))))))
 
         abbrev G0 : Row.Cx
         G0 = record { locals = t0; slots = List._∷_ (Row.lease (κs .0) (qs .0)) (List._∷_ (Row.lease (κs .1 .0) (qs .1 .0)) (List._∷_ Row.off List.[])) }
@@ -1439,10 +1668,10 @@ module _ (claims· : Claims) where
         G18 = record { locals = t13; slots = List._∷_ (Row.lease (κs .0) (qs .0)) (List._∷_ (Row.lease (κs .1 .0) (qs .1 .0)) (List._∷_ Row.off List.[])) }
 
         abbrev G19 : Row.Cx
-        G19 = record { locals = t13; slots = List._∷_ (Row.lease (κs .0) (qs .0)) (List._∷_ (Row.lease (κs .1 .0) (qs .1 .0)) (List._∷_ Row.alive List.[])) }
+        G19 = record { locals = t14; slots = List._∷_ (Row.lease (κs .0) (qs .0)) (List._∷_ (Row.lease (κs .1 .0) (qs .1 .0)) (List._∷_ Row.off List.[])) }
 
         abbrev G20 : Row.Cx
-        G20 = record { locals = g14; slots = List._∷_ (Row.lease (κs .0) (qs .0)) (List._∷_ Row.off (List._∷_ Row.alive List.[])) }
+        G20 = record { locals = t14; slots = List._∷_ (Row.lease (κs .0) (qs .0)) (List._∷_ (Row.lease (κs .1 .0) (qs .1 .0)) (List._∷_ Row.alive List.[])) }
 
         abbrev G21 : Row.Cx
         G21 = record { locals = g15; slots = List._∷_ (Row.lease (κs .0) (qs .0)) (List._∷_ Row.off (List._∷_ Row.alive List.[])) }
@@ -1460,22 +1689,22 @@ module _ (claims· : Claims) where
         G25 = record { locals = g19; slots = List._∷_ (Row.lease (κs .0) (qs .0)) (List._∷_ Row.off (List._∷_ Row.alive List.[])) }
 
         abbrev G26 : Row.Cx
-        G26 = record { locals = g19; slots = List._∷_ (Row.lease (κs .0) (qs .0)) (List._∷_ Row.off (List._∷_ Row.dead List.[])) }
+        G26 = record { locals = g20; slots = List._∷_ (Row.lease (κs .0) (qs .0)) (List._∷_ Row.off (List._∷_ Row.alive List.[])) }
 
         abbrev G27 : Row.Cx
-        G27 = record { locals = t6; slots = List._∷_ (Row.lease (κs .0) (qs .0)) (List._∷_ (Row.lease (κs .1 .0) (qs .1 .0)) (List._∷_ Row.dead List.[])) }
+        G27 = record { locals = g20; slots = List._∷_ (Row.lease (κs .0) (qs .0)) (List._∷_ Row.off (List._∷_ Row.dead List.[])) }
 
         abbrev G28 : Row.Cx
-        G28 = record { locals = t6; slots = List._∷_ (Row.lease (κs .0) (qs .0)) (List._∷_ (Row.lease (κs .1 .0) (qs .1 .0)) (List._∷_ Row.off List.[])) }
+        G28 = record { locals = t21; slots = List._∷_ (Row.lease (κs .0) (qs .0)) (List._∷_ (Row.lease (κs .1 .0) (qs .1 .0)) (List._∷_ Row.dead List.[])) }
 
         abbrev G29 : Row.Cx
-        G29 = record { locals = t20; slots = List._∷_ (Row.lease (κs .0) (qs .0)) (List._∷_ (Row.lease (κs .1 .0) (qs .1 .0)) (List._∷_ Row.off List.[])) }
+        G29 = record { locals = t21; slots = List._∷_ (Row.lease (κs .0) (qs .0)) (List._∷_ (Row.lease (κs .1 .0) (qs .1 .0)) (List._∷_ Row.off List.[])) }
 
         abbrev G30 : Row.Cx
-        G30 = record { locals = t21; slots = List._∷_ (Row.lease (κs .0) (qs .0)) (List._∷_ (Row.lease (κs .1 .0) (qs .1 .0)) (List._∷_ Row.off List.[])) }
+        G30 = record { locals = t22; slots = List._∷_ (Row.lease (κs .0) (qs .0)) (List._∷_ (Row.lease (κs .1 .0) (qs .1 .0)) (List._∷_ Row.off List.[])) }
 
         abbrev G31 : Row.Cx
-        G31 = record { locals = t11; slots = List._∷_ (Row.lease (κs .0) (qs .0)) (List._∷_ (Row.lease (κs .1 .0) (qs .1 .0)) (List._∷_ Row.off List.[])) }
+        G31 = record { locals = t23; slots = List._∷_ (Row.lease (κs .0) (qs .0)) (List._∷_ (Row.lease (κs .1 .0) (qs .1 .0)) (List._∷_ Row.off List.[])) }
 
         abbrev G32 : Row.Cx
         G32 = record { locals = t1; slots = List._∷_ (Row.lease (κs .0) (qs .0)) (List._∷_ (Row.lease (κs .1 .0) (qs .1 .0)) (List._∷_ Row.off List.[])) }
@@ -1513,11 +1742,7 @@ module _ (claims· : Claims) where
           d3 = Typed.t-return 𝓤 H A W 𝓣 E Δ1 tt
 
           d4 : Typed.Typed 𝓤 H A 𝓣 E G15 b5 Δ1 at4
-          d4 = Typed.g-pre 𝓤 H A W 𝓣 E G15 G16 b5 Δ1 (Typed.pass T15 T16 s13) at3 (Scalar.g-room 𝓤 H A W E G15 2 (Syntax.tyInt Syntax.w64) (Scalar.room-sc 𝓤 H A W (Row.sInt
-              Syntax.w64))) d3
-
-          d5 : Typed.Typed 𝓤 H A 𝓣 E G14 b5 Δ1 at5
-          d5 = Typed.g-pre 𝓤 H A W 𝓣 E G14 G15 b5 Δ1 (Typed.pass T14 T15 s12) at4 (Scalar.g-room 𝓤 H A W E G14 4 (Syntax.tyEnum (List._∷_ 112 (List._∷_ 97 (List._∷_ 114 (List._∷_
+          d4 = Typed.g-pre 𝓤 H A W 𝓣 E G15 G16 b5 Δ1 (Typed.pass T15 T16 s13) at3 (Scalar.g-room 𝓤 H A W E G15 4 (Syntax.tyEnum (List._∷_ 112 (List._∷_ 97 (List._∷_ 114 (List._∷_
               116 (List._∷_ 115 (List._∷_ 58 (List._∷_ 58 (List._∷_ 115 (List._∷_ 99 (List._∷_ 97 (List._∷_ 110 (List._∷_ 58 (List._∷_ 58 (List._∷_ 83 (List._∷_ 99 (List._∷_ 97
               (List._∷_ 110 (List._∷_ 110 (List._∷_ 101 (List._∷_ 100 List.[])))))))))))))))))))) (Syntax.ttcons (Syntax.tcons (Syntax.tyInt Syntax.w64) Syntax.tnil) (Syntax.ttcons
               (Syntax.tcons (Syntax.tyStruct (List._∷_ 116 (List._∷_ 121 (List._∷_ 112 (List._∷_ 101 (List._∷_ 115 (List._∷_ 58 (List._∷_ 58 (List._∷_ 82 (List._∷_ 101 (List._∷_
@@ -1527,10 +1752,10 @@ module _ (claims· : Claims) where
               (List._∷_ 97 (List._∷_ 110 (List._∷_ 110 (List._∷_ 101 (List._∷_ 100 List.[])))))))))))))))))))) (Syntax.ttcons (Syntax.tcons (Syntax.tyInt Syntax.w64) Syntax.tnil)
               (Syntax.ttcons (Syntax.tcons (Syntax.tyStruct (List._∷_ 116 (List._∷_ 121 (List._∷_ 112 (List._∷_ 101 (List._∷_ 115 (List._∷_ 58 (List._∷_ 58 (List._∷_ 82 (List._∷_
               101 (List._∷_ 102 (List._∷_ 117 (List._∷_ 115 (List._∷_ 97 (List._∷_ 108 List.[])))))))))))))) (Syntax.tcons (Syntax.tyInt Syntax.w32) (Syntax.tcons (Syntax.tyInt
-              Syntax.w64) Syntax.tnil))) Syntax.tnil) Syntax.ttnil))) Path'.refl)) d4
+              Syntax.w64) Syntax.tnil))) Syntax.tnil) Syntax.ttnil))) Path'.refl)) d3
 
-          d6 : Typed.Typed 𝓤 H A 𝓣 E G13 b6 Δ1 at6
-          d6 = Typed.s-seq 𝓤 H A W 𝓣 E G13 G14 b4 b5 Δ1 (Typed.pass T13 T14 s11) at5 (LocalCopy.t-val-copy 𝓤 H A W E 𝓣 (λ ρ. Unit) G13 4 0 (Declared.row Scanned.the-type)
+          d5 : Typed.Typed 𝓤 H A 𝓣 E G14 b6 Δ1 at5
+          d5 = Typed.s-seq 𝓤 H A W 𝓣 E G14 G15 b4 b5 Δ1 (Typed.pass T14 T15 s12) at4 (LocalCopy.t-val-copy 𝓤 H A W E 𝓣 (λ ρ. Unit) G14 4 0 (Declared.row Scanned.the-type)
               (Syntax.tyEnum (List._∷_ 112 (List._∷_ 97 (List._∷_ 114 (List._∷_ 116 (List._∷_ 115 (List._∷_ 58 (List._∷_ 58 (List._∷_ 115 (List._∷_ 99 (List._∷_ 97 (List._∷_ 110
               (List._∷_ 58 (List._∷_ 58 (List._∷_ 83 (List._∷_ 99 (List._∷_ 97 (List._∷_ 110 (List._∷_ 110 (List._∷_ 101 (List._∷_ 100 List.[])))))))))))))))))))) (Syntax.ttcons
               (Syntax.tcons (Syntax.tyInt Syntax.w64) Syntax.tnil) (Syntax.ttcons (Syntax.tcons (Syntax.tyStruct (List._∷_ 116 (List._∷_ 121 (List._∷_ 112 (List._∷_ 101 (List._∷_
@@ -1541,7 +1766,7 @@ module _ (claims· : Claims) where
               (Syntax.ttcons (Syntax.tcons (Syntax.tyStruct (List._∷_ 116 (List._∷_ 121 (List._∷_ 112 (List._∷_ 101 (List._∷_ 115 (List._∷_ 58 (List._∷_ 58 (List._∷_ 82 (List._∷_
               101 (List._∷_ 102 (List._∷_ 117 (List._∷_ 115 (List._∷_ 97 (List._∷_ 108 List.[])))))))))))))) (Syntax.tcons (Syntax.tyInt Syntax.w32) (Syntax.tcons (Syntax.tyInt
               Syntax.w64) Syntax.tnil))) Syntax.tnil) Syntax.ttnil))) (Rows.whole (Declared.row Scanned.the-type)) (Rows.whole (Declared.row Scanned.the-type)) (λ x. x) (λ x. x) (λ
-              x. x) Path'.refl (Own.told-none 𝓤 H A (G13 .slots)) (Yields.yields-copy 𝓤 H A W (λ ρ. Unit) (Declared.row Scanned.the-type) Path'.refl (Copies.cEnum Scanned.the-type
+              x. x) Path'.refl (Own.told-none 𝓤 H A (G14 .slots)) (Yields.yields-copy 𝓤 H A W (λ ρ. Unit) (Declared.row Scanned.the-type) Path'.refl (Copies.cEnum Scanned.the-type
               Laws.the-laws Laws.the-copy .copy 𝓤 H A W) (Rows.whole (Declared.row Scanned.the-type)) (λ x. x) (λ x. x) (λ ρ told. Local.mem-whole 𝓤 H A W (Declared.row
               Scanned.the-type) ρ) λ ρ told. Local.whole-mem 𝓤 H A W (Declared.row Scanned.the-type) ρ) (Reads.room-gone 𝓤 H A (Syntax.tyEnum (List._∷_ 112 (List._∷_ 97 (List._∷_
               114 (List._∷_ 116 (List._∷_ 115 (List._∷_ 58 (List._∷_ 58 (List._∷_ 115 (List._∷_ 99 (List._∷_ 97 (List._∷_ 110 (List._∷_ 58 (List._∷_ 58 (List._∷_ 83 (List._∷_ 99
@@ -1549,7 +1774,16 @@ module _ (claims· : Claims) where
               (Syntax.ttcons (Syntax.tcons (Syntax.tyStruct (List._∷_ 116 (List._∷_ 121 (List._∷_ 112 (List._∷_ 101 (List._∷_ 115 (List._∷_ 58 (List._∷_ 58 (List._∷_ 82 (List._∷_
               101 (List._∷_ 102 (List._∷_ 117 (List._∷_ 115 (List._∷_ 97 (List._∷_ 108 List.[])))))))))))))) (Syntax.tcons (Syntax.tyInt Syntax.w32) (Syntax.tcons (Syntax.tyInt
               Syntax.w64) Syntax.tnil))) Syntax.tnil) Syntax.ttnil)))) (Yields.makes-mem 𝓤 H A W (λ ρ. Unit) (Declared.row Scanned.the-type) Path'.refl (Rows.whole (Declared.row
-              Scanned.the-type)) (λ x. x) λ ρ told. Local.whole-mem 𝓤 H A W (Declared.row Scanned.the-type) ρ) Path'.refl Path'.refl) d5
+              Scanned.the-type)) (λ x. x) λ ρ told. Local.whole-mem 𝓤 H A W (Declared.row Scanned.the-type) ρ) Path'.refl Path'.refl) d4
+
+          d6 : Typed.Typed 𝓤 H A 𝓣 E G13 b6 Δ1 at6
+          d6 = Typed.g-pre 𝓤 H A W 𝓣 E G13 G14 b6 Δ1 (Typed.pass T13 T14 s11) at5 (Scalar.g-room 𝓤 H A W E G13 2 (Syntax.tyStruct (List._∷_ 116 (List._∷_ 121 (List._∷_ 112
+              (List._∷_ 101 (List._∷_ 115 (List._∷_ 58 (List._∷_ 58 (List._∷_ 67 (List._∷_ 111 (List._∷_ 100 (List._∷_ 101 (List._∷_ 115 (List._∷_ 116 (List._∷_ 114 (List._∷_ 101
+              (List._∷_ 97 (List._∷_ 109 (List._∷_ 79 (List._∷_ 102 (List._∷_ 102 (List._∷_ 115 (List._∷_ 101 (List._∷_ 116 List.[]))))))))))))))))))))))) (Syntax.tcons
+              (Syntax.tyInt Syntax.w64) Syntax.tnil)) (Local.room-whole 𝓤 H A W (Declared'.row CodestreamOffset.the-type) (Syntax.tyStruct (List._∷_ 116 (List._∷_ 121 (List._∷_ 112
+              (List._∷_ 101 (List._∷_ 115 (List._∷_ 58 (List._∷_ 58 (List._∷_ 67 (List._∷_ 111 (List._∷_ 100 (List._∷_ 101 (List._∷_ 115 (List._∷_ 116 (List._∷_ 114 (List._∷_ 101
+              (List._∷_ 97 (List._∷_ 109 (List._∷_ 79 (List._∷_ 102 (List._∷_ 102 (List._∷_ 115 (List._∷_ 101 (List._∷_ 116 List.[]))))))))))))))))))))))) (Syntax.tcons
+              (Syntax.tyInt Syntax.w64) Syntax.tnil)) Path'.refl)) d5
 
           d7 : Typed.Typed 𝓤 H A 𝓣 E G8 b6 Δ1 at7
           d7 = Typed.g-pre 𝓤 H A W 𝓣 E G8 G13 b6 Δ1 (Typed.both s10) at6 (Known.g-enum-told 𝓤 H A W E Scanned.enum 1 G8 4 λ x. x) d6
@@ -1571,15 +1805,11 @@ module _ (claims· : Claims) where
           d10 = Typed.t-return 𝓤 H A W 𝓣 E Δ0 tt
 
           d11 : Typed.Typed 𝓤 H A 𝓣 E G31 b14 Δ0 at11
-          d11 = Typed.g-pre 𝓤 H A W 𝓣 E G31 G32 b14 Δ0 (Typed.pass T31 T32 s29) at10 (Scalar.g-room 𝓤 H A W E G31 2 (Syntax.tyInt Syntax.w64) (Scalar.room-sc 𝓤 H A W (Row.sInt
+          d11 = Typed.g-pre 𝓤 H A W 𝓣 E G31 G32 b14 Δ0 (Typed.pass T31 T32 s29) at10 (Scalar.g-room 𝓤 H A W E G31 5 (Syntax.tyInt Syntax.w64) (Scalar.room-sc 𝓤 H A W (Row.sInt
               Syntax.w64))) d10
 
           d12 : Typed.Typed 𝓤 H A 𝓣 E G30 b14 Δ0 at12
-          d12 = Typed.g-pre 𝓤 H A W 𝓣 E G30 G31 b14 Δ0 (Typed.pass T30 T31 s28) at11 (Scalar.g-room 𝓤 H A W E G30 5 (Syntax.tyInt Syntax.w64) (Scalar.room-sc 𝓤 H A W (Row.sInt
-              Syntax.w64))) d11
-
-          d13 : Typed.Typed 𝓤 H A 𝓣 E G29 b14 Δ0 at13
-          d13 = Typed.g-pre 𝓤 H A W 𝓣 E G29 G30 b14 Δ0 (Typed.pass T29 T30 s27) at12 (Scalar.g-room 𝓤 H A W E G29 4 (Syntax.tyEnum (List._∷_ 112 (List._∷_ 97 (List._∷_ 114
+          d12 = Typed.g-pre 𝓤 H A W 𝓣 E G30 G31 b14 Δ0 (Typed.pass T30 T31 s28) at11 (Scalar.g-room 𝓤 H A W E G30 4 (Syntax.tyEnum (List._∷_ 112 (List._∷_ 97 (List._∷_ 114
               (List._∷_ 116 (List._∷_ 115 (List._∷_ 58 (List._∷_ 58 (List._∷_ 115 (List._∷_ 99 (List._∷_ 97 (List._∷_ 110 (List._∷_ 58 (List._∷_ 58 (List._∷_ 83 (List._∷_ 99
               (List._∷_ 97 (List._∷_ 110 (List._∷_ 110 (List._∷_ 101 (List._∷_ 100 List.[])))))))))))))))))))) (Syntax.ttcons (Syntax.tcons (Syntax.tyInt Syntax.w64) Syntax.tnil)
               (Syntax.ttcons (Syntax.tcons (Syntax.tyStruct (List._∷_ 116 (List._∷_ 121 (List._∷_ 112 (List._∷_ 101 (List._∷_ 115 (List._∷_ 58 (List._∷_ 58 (List._∷_ 82 (List._∷_
@@ -1589,10 +1819,10 @@ module _ (claims· : Claims) where
               (List._∷_ 97 (List._∷_ 110 (List._∷_ 110 (List._∷_ 101 (List._∷_ 100 List.[])))))))))))))))))))) (Syntax.ttcons (Syntax.tcons (Syntax.tyInt Syntax.w64) Syntax.tnil)
               (Syntax.ttcons (Syntax.tcons (Syntax.tyStruct (List._∷_ 116 (List._∷_ 121 (List._∷_ 112 (List._∷_ 101 (List._∷_ 115 (List._∷_ 58 (List._∷_ 58 (List._∷_ 82 (List._∷_
               101 (List._∷_ 102 (List._∷_ 117 (List._∷_ 115 (List._∷_ 97 (List._∷_ 108 List.[])))))))))))))) (Syntax.tcons (Syntax.tyInt Syntax.w32) (Syntax.tcons (Syntax.tyInt
-              Syntax.w64) Syntax.tnil))) Syntax.tnil) Syntax.ttnil))) Path'.refl)) d12
+              Syntax.w64) Syntax.tnil))) Syntax.tnil) Syntax.ttnil))) Path'.refl)) d11
 
-          d14 : Typed.Typed 𝓤 H A 𝓣 E G28 b15 Δ0 at14
-          d14 = Typed.s-seq 𝓤 H A W 𝓣 E G28 G29 b13 b14 Δ0 (Typed.pass T27 T29 s26) at13 (LocalCopy.t-val-copy 𝓤 H A W E 𝓣 (λ ρ. Unit) G28 4 0 (Declared.row Scanned.the-type)
+          d13 : Typed.Typed 𝓤 H A 𝓣 E G29 b15 Δ0 at13
+          d13 = Typed.s-seq 𝓤 H A W 𝓣 E G29 G30 b13 b14 Δ0 (Typed.pass T28 T30 s27) at12 (LocalCopy.t-val-copy 𝓤 H A W E 𝓣 (λ ρ. Unit) G29 4 0 (Declared.row Scanned.the-type)
               (Syntax.tyEnum (List._∷_ 112 (List._∷_ 97 (List._∷_ 114 (List._∷_ 116 (List._∷_ 115 (List._∷_ 58 (List._∷_ 58 (List._∷_ 115 (List._∷_ 99 (List._∷_ 97 (List._∷_ 110
               (List._∷_ 58 (List._∷_ 58 (List._∷_ 83 (List._∷_ 99 (List._∷_ 97 (List._∷_ 110 (List._∷_ 110 (List._∷_ 101 (List._∷_ 100 List.[])))))))))))))))))))) (Syntax.ttcons
               (Syntax.tcons (Syntax.tyInt Syntax.w64) Syntax.tnil) (Syntax.ttcons (Syntax.tcons (Syntax.tyStruct (List._∷_ 116 (List._∷_ 121 (List._∷_ 112 (List._∷_ 101 (List._∷_
@@ -1603,7 +1833,7 @@ module _ (claims· : Claims) where
               (Syntax.ttcons (Syntax.tcons (Syntax.tyStruct (List._∷_ 116 (List._∷_ 121 (List._∷_ 112 (List._∷_ 101 (List._∷_ 115 (List._∷_ 58 (List._∷_ 58 (List._∷_ 82 (List._∷_
               101 (List._∷_ 102 (List._∷_ 117 (List._∷_ 115 (List._∷_ 97 (List._∷_ 108 List.[])))))))))))))) (Syntax.tcons (Syntax.tyInt Syntax.w32) (Syntax.tcons (Syntax.tyInt
               Syntax.w64) Syntax.tnil))) Syntax.tnil) Syntax.ttnil))) (Rows.whole (Declared.row Scanned.the-type)) (Rows.whole (Declared.row Scanned.the-type)) (λ x. x) (λ x. x) (λ
-              x. x) Path'.refl (Own.told-none 𝓤 H A (G28 .slots)) (Yields.yields-copy 𝓤 H A W (λ ρ. Unit) (Declared.row Scanned.the-type) Path'.refl (Copies.cEnum Scanned.the-type
+              x. x) Path'.refl (Own.told-none 𝓤 H A (G29 .slots)) (Yields.yields-copy 𝓤 H A W (λ ρ. Unit) (Declared.row Scanned.the-type) Path'.refl (Copies.cEnum Scanned.the-type
               Laws.the-laws Laws.the-copy .copy 𝓤 H A W) (Rows.whole (Declared.row Scanned.the-type)) (λ x. x) (λ x. x) (λ ρ told. Local.mem-whole 𝓤 H A W (Declared.row
               Scanned.the-type) ρ) λ ρ told. Local.whole-mem 𝓤 H A W (Declared.row Scanned.the-type) ρ) (Reads.room-gone 𝓤 H A (Syntax.tyEnum (List._∷_ 112 (List._∷_ 97 (List._∷_
               114 (List._∷_ 116 (List._∷_ 115 (List._∷_ 58 (List._∷_ 58 (List._∷_ 115 (List._∷_ 99 (List._∷_ 97 (List._∷_ 110 (List._∷_ 58 (List._∷_ 58 (List._∷_ 83 (List._∷_ 99
@@ -1611,34 +1841,34 @@ module _ (claims· : Claims) where
               (Syntax.ttcons (Syntax.tcons (Syntax.tyStruct (List._∷_ 116 (List._∷_ 121 (List._∷_ 112 (List._∷_ 101 (List._∷_ 115 (List._∷_ 58 (List._∷_ 58 (List._∷_ 82 (List._∷_
               101 (List._∷_ 102 (List._∷_ 117 (List._∷_ 115 (List._∷_ 97 (List._∷_ 108 List.[])))))))))))))) (Syntax.tcons (Syntax.tyInt Syntax.w32) (Syntax.tcons (Syntax.tyInt
               Syntax.w64) Syntax.tnil))) Syntax.tnil) Syntax.ttnil)))) (Yields.makes-mem 𝓤 H A W (λ ρ. Unit) (Declared.row Scanned.the-type) Path'.refl (Rows.whole (Declared.row
-              Scanned.the-type)) (λ x. x) λ ρ told. Local.whole-mem 𝓤 H A W (Declared.row Scanned.the-type) ρ) Path'.refl Path'.refl) d13
+              Scanned.the-type)) (λ x. x) λ ρ told. Local.whole-mem 𝓤 H A W (Declared.row Scanned.the-type) ρ) Path'.refl Path'.refl) d12
+
+          d14 : Typed.Typed 𝓤 H A 𝓣 E G28 b15 Δ0 at14
+          d14 = Typed.g-pre 𝓤 H A W 𝓣 E G28 G29 b15 Δ0 (λ Ψ. Ψ) at13 (Lifetime.g-forget 𝓤 H A W E G28 2 Row.dead Path'.refl) d13
 
           d15 : Typed.Typed 𝓤 H A 𝓣 E G27 b15 Δ0 at15
-          d15 = Typed.g-pre 𝓤 H A W 𝓣 E G27 G28 b15 Δ0 (λ Ψ. Ψ) at14 (Lifetime.g-forget 𝓤 H A W E G27 2 Row.dead Path'.refl) d14
-
-          d16 : Typed.Typed 𝓤 H A 𝓣 E G26 b15 Δ0 at16
-          d16 = Typed.g-pre 𝓤 H A W 𝓣 E G26 G27 b15 Δ0 (Typed.both s24) at15 (Relend.g-back-sl 𝓤 H A W E LentTilePartEntry.row G26 11 3 1 2 (Syntax.tyRef (Syntax.named 1)
+          d15 = Typed.g-pre 𝓤 H A W 𝓣 E G27 G28 b15 Δ0 (Typed.both s25) at14 (Relend.g-back-sl 𝓤 H A W E LentTilePartEntry.row G27 11 3 1 2 (Syntax.tyRef (Syntax.named 1)
               Syntax.mut LentTilePartEntry.pointee) (Syntax.tyRef Syntax.erased Syntax.mut LentTilePartEntry.pointee) (Row.lease (κs .1 .0) (qs .1 .0)) (λ x. x) (λ x. x)
               (Reads.as-is 𝓤 H A (Mut.msleft LentTilePartEntry.row (Syntax.tyRef Syntax.erased Syntax.mut LentTilePartEntry.pointee))) (Reads.as-is 𝓤 H A (Relend.mslice-owed
-              LentTilePartEntry.row (Syntax.tyRef (Syntax.named 1) Syntax.mut LentTilePartEntry.pointee) 1 2 (Row.lease (κs .1 .0) (qs .1 .0)))) Path'.refl Path'.refl) d15
+              LentTilePartEntry.row (Syntax.tyRef (Syntax.named 1) Syntax.mut LentTilePartEntry.pointee) 1 2 (Row.lease (κs .1 .0) (qs .1 .0)))) Path'.refl Path'.refl) d14
+
+          d16 : Typed.Typed 𝓤 H A 𝓣 E G26 b15 Δ0 at16
+          d16 = Typed.g-pre 𝓤 H A W 𝓣 E G26 G27 b15 Δ0 (λ Ψ. Ψ) at15 (Lifetime.g-end 𝓤 H A W E G26 2 Path'.refl) d15
 
           d17 : Typed.Typed 𝓤 H A 𝓣 E G25 b15 Δ0 at17
-          d17 = Typed.g-pre 𝓤 H A W 𝓣 E G25 G26 b15 Δ0 (λ Ψ. Ψ) at16 (Lifetime.g-end 𝓤 H A W E G25 2 Path'.refl) d16
+          d17 = Typed.g-pre 𝓤 H A W 𝓣 E G25 G26 b15 Δ0 (Typed.pass T25 T26 s23) at16 (Scalar.g-room 𝓤 H A W E G25 9 (Syntax.tyInt Syntax.w64) (Scalar.room-sc 𝓤 H A W (Row.sInt
+              Syntax.w64))) d16
 
           d18 : Typed.Typed 𝓤 H A 𝓣 E G24 b15 Δ0 at18
-          d18 = Typed.g-pre 𝓤 H A W 𝓣 E G24 G25 b15 Δ0 (Typed.pass T24 T25 s22) at17 (Scalar.g-room 𝓤 H A W E G24 9 (Syntax.tyInt Syntax.w64) (Scalar.room-sc 𝓤 H A W (Row.sInt
-              Syntax.w64))) d17
+          d18 = Typed.g-pre 𝓤 H A W 𝓣 E G24 G25 b15 Δ0 (Typed.pass T24 T25 s22) at17 (Scalar.g-room 𝓤 H A W E G24 8 Syntax.tyUnit (Scalar.room-sc 𝓤 H A W Row.sUnit)) d17
 
           d19 : Typed.Typed 𝓤 H A 𝓣 E G23 b15 Δ0 at19
-          d19 = Typed.g-pre 𝓤 H A W 𝓣 E G23 G24 b15 Δ0 (Typed.pass T23 T24 s21) at18 (Scalar.g-room 𝓤 H A W E G23 8 Syntax.tyUnit (Scalar.room-sc 𝓤 H A W Row.sUnit)) d18
+          d19 = Typed.g-pre 𝓤 H A W 𝓣 E G23 G24 b15 Δ0 (Typed.pass T23 T24 s21) at18 (Scalar.g-room 𝓤 H A W E G23 6 (Syntax.tyInt Syntax.w64) (Scalar.room-sc 𝓤 H A W (Row.sInt
+              Syntax.w64))) d18
 
-          d20 : Typed.Typed 𝓤 H A 𝓣 E G22 b15 Δ0 at20
-          d20 = Typed.g-pre 𝓤 H A W 𝓣 E G22 G23 b15 Δ0 (Typed.pass T22 T23 s20) at19 (Scalar.g-room 𝓤 H A W E G22 6 (Syntax.tyInt Syntax.w64) (Scalar.room-sc 𝓤 H A W (Row.sInt
-              Syntax.w64))) d19
-
-          d21 : Typed.Typed 𝓤 H A 𝓣 E G21 b16 Δ0 at21
-          d21 = Typed.s-seq 𝓤 H A W 𝓣 E G21 G22 b12 b15 Δ0 (Typed.both s19) at20 (Plain.t-call-plain 𝓤 H A W 𝓣 2 ps·1 r·1 (claims· .2) (claims· .3) "records::scan::fill" (known .1)
-              E (λ pos β. β) G21 (
+          d20 : Typed.Typed 𝓤 H A 𝓣 E G22 b16 Δ0 at20
+          d20 = Typed.s-seq 𝓤 H A W 𝓣 E G22 G23 b12 b15 Δ0 (Typed.both s20) at19 (Plain.t-call-plain 𝓤 H A W 𝓣 2 ps·2 r·2 (claims· .4) (claims· .5) "records::scan::fill" (known .2)
+              E (λ pos β. β) G22 (
                 record { pos = 1; ty = Syntax.tyRef (Syntax.named 0) Syntax.imm (Syntax.tyInt Syntax.w8); ref = λ x. x },
                 (
                   Num.vAt 6 λ x. x,
@@ -1648,7 +1878,7 @@ module _ (claims· : Claims) where
                   ),
                 ),
               ) 8 (List._∷_ 0 (List._∷_ 2 List.[])) (Call.sub-id 𝓤 H
-              A W (G21 .slots)) (
+              A W (G22 .slots)) (
                 ShrSlice.spares-sslice 𝓤 H A W (Referent.rtF (Referent.fInt Syntax.w8)) (Syntax.tyRef (Syntax.named 0) Syntax.imm (Syntax.tyInt Syntax.w8)) 0,
                 Shared.reads-sslice 𝓤 H A W (Referent.rtF (Referent.fInt Syntax.w8)) (Syntax.tyRef (Syntax.named 0) Syntax.imm (Syntax.tyInt Syntax.w8)) 0,
                 Path'.refl,
@@ -1666,10 +1896,10 @@ module _ (claims· : Claims) where
                     ),
                   ),
                 ),
-              ) (Reads.room-gone 𝓤 H A Syntax.tyUnit) (tt, (tt, tt)) Path'.refl) d20
+              ) (Reads.room-gone 𝓤 H A Syntax.tyUnit) (tt, (tt, tt)) Path'.refl) d19
 
-          d22 : Typed.Typed 𝓤 H A 𝓣 E G20 b17 Δ0 at22
-          d22 = Typed.s-seq 𝓤 H A W 𝓣 E G20 G21 b11 b16 Δ0 (Typed.ask s18) at21 (Relend.t-sl-aggregate 𝓤 H A W E LentTilePartEntry.row 𝓣 (Relend.asMut LentTilePartEntry.row) G20 10
+          d21 : Typed.Typed 𝓤 H A 𝓣 E G21 b17 Δ0 at21
+          d21 = Typed.s-seq 𝓤 H A W 𝓣 E G21 G22 b11 b16 Δ0 (Typed.ask s19) at20 (Relend.t-sl-aggregate 𝓤 H A W E LentTilePartEntry.row 𝓣 (Relend.asMut LentTilePartEntry.row) G21 10
               11 2 (Syntax.tyRef Syntax.erased Syntax.mut LentTilePartEntry.pointee) (Syntax.tyRef Syntax.erased Syntax.mut LentTilePartEntry.pointee) (λ x. x) (Scalar.oFld 3
               (List._∷_ (Syntax.field 1) List.[]) (Syntax.tyInt Syntax.w64) 8 λ v. Shared.lenV (v .0)) (Reads.as-is 𝓤 H A (Relend.msptr LentTilePartEntry.row (Syntax.tyRef
               Syntax.erased Syntax.mut LentTilePartEntry.pointee) 2)) (Reads.room-gone 𝓤 H A (Syntax.tyStruct (List._∷_ 38 (List._∷_ 91 (List._∷_ 93 List.[]))) (Syntax.tcons
@@ -1678,35 +1908,49 @@ module _ (claims· : Claims) where
                     LentTilePartEntry.row (Syntax.tyRef (Syntax.named 1) Syntax.mut LentTilePartEntry.pointee) 1 2 (Row.lease (κs .1 .0) (qs .1 .0)) 8 Path'.refl,
                 Path'.refl,
               ) Path'.refl
-              Path'.refl λ b o k. tt) d21
+              Path'.refl λ b o k. tt) d20
 
-          d23 : Typed.Typed 𝓤 H A 𝓣 E G19 b18 Δ0 at23
-          d23 = Typed.s-seq 𝓤 H A W 𝓣 E G19 G20 b10 b17 Δ0 (Typed.give s17) at22 (Relend.t-sl-relend 𝓤 H A W E LentTilePartEntry.row 𝓣 G19 3 10 1 2 (Syntax.tyRef (Syntax.named 1)
+          d22 : Typed.Typed 𝓤 H A 𝓣 E G20 b18 Δ0 at22
+          d22 = Typed.s-seq 𝓤 H A W 𝓣 E G20 G21 b10 b17 Δ0 (Typed.give s18) at21 (Relend.t-sl-relend 𝓤 H A W E LentTilePartEntry.row 𝓣 G20 3 10 1 2 (Syntax.tyRef (Syntax.named 1)
               Syntax.mut LentTilePartEntry.pointee) (Syntax.tyRef Syntax.erased Syntax.mut LentTilePartEntry.pointee) (Row.lease (κs .1 .0) (qs .1 .0)) 0 (λ x. x) (Reads.as-is 𝓤 H
               A (Mut.mslice LentTilePartEntry.row (Syntax.tyRef (Syntax.named 1) Syntax.mut LentTilePartEntry.pointee) 1)) (Reads.room-gone 𝓤 H A (Syntax.tyRef Syntax.erased
-              Syntax.mut LentTilePartEntry.pointee)) Path'.refl tt Path'.refl Path'.refl Path'.refl λ b o. tt) d22
+              Syntax.mut LentTilePartEntry.pointee)) Path'.refl tt Path'.refl Path'.refl Path'.refl λ b o. tt) d21
 
-          d24 : Typed.Typed 𝓤 H A 𝓣 E G18 b18 Δ0 at24
-          d24 = Typed.g-pre 𝓤 H A W 𝓣 E G18 G19 b18 Δ0 (λ Ψ. Ψ) at23 (Lifetime.g-begin 𝓤 H A W E G18 2 (tt, (tt, (tt, (tt, (tt, (tt, (tt, (tt, (tt, (tt, (tt, (tt, tt)))))))))))))
-              d23
+          d23 : Typed.Typed 𝓤 H A 𝓣 E G19 b18 Δ0 at23
+          d23 = Typed.g-pre 𝓤 H A W 𝓣 E G19 G20 b18 Δ0 (λ Ψ. Ψ) at22 (Lifetime.g-begin 𝓤 H A W E G19 2 (tt, (tt, (tt, (tt, (tt, (tt, (tt, (tt, (tt, (tt, (tt, (tt, tt)))))))))))))
+              d22
 
-          d25 : Typed.Typed 𝓤 H A 𝓣 E G17 b19 Δ0 at25
-          d25 = Typed.s-seq 𝓤 H A W 𝓣 E G17 G18 b9 b18 Δ0 (Typed.pass T17 T18 s15) at24 (Scalar.t-use 𝓤 H A W E 𝓣 G17 (Scalar.oAt 5 (Syntax.tyInt Syntax.w64) (Row.valS (Row.sInt
+          d24 : Typed.Typed 𝓤 H A 𝓣 E G18 b19 Δ0 at24
+          d24 = Typed.s-seq 𝓤 H A W 𝓣 E G18 G19 b9 b18 Δ0 (Typed.pass T18 T19 s16) at23 (Scalar.t-use 𝓤 H A W E 𝓣 G18 (Scalar.oAt 5 (Syntax.tyInt Syntax.w64) (Row.valS (Row.sInt
               Syntax.w64))) 9 (Rows.sc-here (Row.sInt Syntax.w64)) (Syntax.tyInt Syntax.w64) (Row.valS (Row.sInt Syntax.w64)) (Row.sInt Syntax.w64 .of) (
                 Scalar.reads-sc 𝓤 H A W
                     (Row.sInt Syntax.w64),
                 Path'.refl,
               ) (Reads.room-gone 𝓤 H A (Syntax.tyInt Syntax.w64)) (Scalar.holds-sc 𝓤 H A W (Row.sInt Syntax.w64)) Path'.refl (λ u. Path'.refl) λ u.
-              tt) d24
+              tt) d23
+
+          d25 : Typed.Typed 𝓤 H A 𝓣 E G17 b19 Δ0 at25
+          d25 = Typed.g-pre 𝓤 H A W 𝓣 E G17 G18 b19 Δ0 (Typed.pass T17 T18 s15) at24 (Scalar.g-room 𝓤 H A W E G17 2 (Syntax.tyStruct (List._∷_ 116 (List._∷_ 121 (List._∷_ 112
+              (List._∷_ 101 (List._∷_ 115 (List._∷_ 58 (List._∷_ 58 (List._∷_ 67 (List._∷_ 111 (List._∷_ 100 (List._∷_ 101 (List._∷_ 115 (List._∷_ 116 (List._∷_ 114 (List._∷_ 101
+              (List._∷_ 97 (List._∷_ 109 (List._∷_ 79 (List._∷_ 102 (List._∷_ 102 (List._∷_ 115 (List._∷_ 101 (List._∷_ 116 List.[]))))))))))))))))))))))) (Syntax.tcons
+              (Syntax.tyInt Syntax.w64) Syntax.tnil)) (Local.room-whole 𝓤 H A W (Declared'.row CodestreamOffset.the-type) (Syntax.tyStruct (List._∷_ 116 (List._∷_ 121 (List._∷_ 112
+              (List._∷_ 101 (List._∷_ 115 (List._∷_ 58 (List._∷_ 58 (List._∷_ 67 (List._∷_ 111 (List._∷_ 100 (List._∷_ 101 (List._∷_ 115 (List._∷_ 116 (List._∷_ 114 (List._∷_ 101
+              (List._∷_ 97 (List._∷_ 109 (List._∷_ 79 (List._∷_ 102 (List._∷_ 102 (List._∷_ 115 (List._∷_ 101 (List._∷_ 116 List.[]))))))))))))))))))))))) (Syntax.tcons
+              (Syntax.tyInt Syntax.w64) Syntax.tnil)) Path'.refl)) d24
 
           d26 : Typed.Typed 𝓤 H A 𝓣 E G7 b20 Δ0 at26
-          d26 = Typed.s-seq 𝓤 H A W 𝓣 E G7 G17 b8 b19 Δ0 (Typed.pass T7 T17 s14) at25 (Scalar.t-use 𝓤 H A W E 𝓣 G7 (Scalar.oAt 2 (Syntax.tyInt Syntax.w64) (Row.valS (Row.sInt
-              Syntax.w64))) 6 (Rows.sc-here (Row.sInt Syntax.w64)) (Syntax.tyInt Syntax.w64) (Row.valS (Row.sInt Syntax.w64)) (Row.sInt Syntax.w64 .of) (
-                Scalar.reads-sc 𝓤 H A W
-                    (Row.sInt Syntax.w64),
-                Path'.refl,
-              ) (Reads.room-gone 𝓤 H A (Syntax.tyInt Syntax.w64)) (Scalar.holds-sc 𝓤 H A W (Row.sInt Syntax.w64)) Path'.refl (λ u. Path'.refl) λ u.
-              tt) d25
+          d26 = Typed.s-seq 𝓤 H A W 𝓣 E G7 G17 b8 b19 Δ0 (Typed.both s14) at25 (Plain.t-call-plain 𝓤 H A W 𝓣 0 ps·1 r·1 (claims· .2) (claims· .3)
+              "types::CodestreamOffset::position" (known .1) E (λ pos β. β) G7 (record { pos = 2; st = List.[]; d = 0; at = λ x. x }, tt) 6 List.[] (Call.sub-id 𝓤 H A W (G7
+              .slots)) (
+                (
+                  Yields.yields-copy 𝓤 H A W (λ ρ. Unit) (Declared'.row CodestreamOffset.the-type) Path'.refl (Copies.cStruct CodestreamOffset.the-type Laws'.the-laws
+                      Laws'.the-copy .copy 𝓤 H A W) (Rows.whole (Declared'.row CodestreamOffset.the-type)) (λ x. x) (λ x. x) (λ ρ told. Local.mem-whole 𝓤 H A W (Declared'.row
+                      CodestreamOffset.the-type) ρ) λ ρ told. Local.whole-mem 𝓤 H A W (Declared'.row CodestreamOffset.the-type) ρ,
+                  Path'.refl,
+                ),
+                tt,
+              ) (Reads.room-gone 𝓤 H A (Syntax.tyInt
+              Syntax.w64)) tt Path'.refl) d25
 
           d27 : Typed.Typed 𝓤 H A 𝓣 E G6 b21 Δ0 at27
           d27 = Typed.t-seq 𝓤 H A W 𝓣 E G6 G7 b7 b20 Δ0 at9 at26 d9 d26
@@ -1716,26 +1960,36 @@ module _ (claims· : Claims) where
               (λ pos β. β) G5 (
                 record { pos = 1; ty = Syntax.tyRef (Syntax.named 0) Syntax.imm (Syntax.tyInt Syntax.w8); ref = λ x. x },
                 (
-                  Num.vAt 2 λ x. x,
-                  (
-                    Num.vAt 7 λ x. x,
-                    tt,
-                  ),
+                  record {
+                    pos = 2;
+                    st = List.[];
+                    d = 0;
+                    at
+                        = λ x. x;
+                  },
+                  (Num.vAt 7 λ x. x, tt),
                 ),
               ) 4 (List._∷_ 0 List.[]) (Call.sub-id 𝓤 H A W (G5 .slots)) (
-                ShrSlice.spares-sslice 𝓤 H A W (Referent.rtF (Referent.fInt Syntax.w8)) (Syntax.tyRef (Syntax.named 0)
-                    Syntax.imm (Syntax.tyInt Syntax.w8)) 0,
-                Shared.reads-sslice 𝓤 H A W (Referent.rtF (Referent.fInt Syntax.w8)) (Syntax.tyRef (Syntax.named 0) Syntax.imm (Syntax.tyInt
-                    Syntax.w8)) 0,
+                ShrSlice.spares-sslice 𝓤 H A W (Referent.rtF (Referent.fInt Syntax.w8))
+                    (Syntax.tyRef (Syntax.named 0) Syntax.imm (Syntax.tyInt Syntax.w8)) 0,
+                Shared.reads-sslice 𝓤 H A W (Referent.rtF (Referent.fInt Syntax.w8)) (Syntax.tyRef
+                    (Syntax.named 0) Syntax.imm (Syntax.tyInt Syntax.w8)) 0,
                 Path'.refl,
-                ((Scalar.reads-sc 𝓤 H A W (Row.sInt Syntax.w64), Path'.refl), ((Scalar.reads-sc 𝓤 H A W (Row.sInt Syntax.w64), Path'.refl), tt)),
-              )
-              (Reads.room-gone 𝓤 H A (Syntax.tyEnum (List._∷_ 112 (List._∷_ 97 (List._∷_ 114 (List._∷_ 116 (List._∷_ 115 (List._∷_ 58 (List._∷_ 58 (List._∷_ 115 (List._∷_ 99
-              (List._∷_ 97 (List._∷_ 110 (List._∷_ 58 (List._∷_ 58 (List._∷_ 83 (List._∷_ 99 (List._∷_ 97 (List._∷_ 110 (List._∷_ 110 (List._∷_ 101 (List._∷_ 100
-              List.[])))))))))))))))))))) (Syntax.ttcons (Syntax.tcons (Syntax.tyInt Syntax.w64) Syntax.tnil) (Syntax.ttcons (Syntax.tcons (Syntax.tyStruct (List._∷_ 116 (List._∷_
-              121 (List._∷_ 112 (List._∷_ 101 (List._∷_ 115 (List._∷_ 58 (List._∷_ 58 (List._∷_ 82 (List._∷_ 101 (List._∷_ 102 (List._∷_ 117 (List._∷_ 115 (List._∷_ 97 (List._∷_
-              108 List.[])))))))))))))) (Syntax.tcons (Syntax.tyInt Syntax.w32) (Syntax.tcons (Syntax.tyInt Syntax.w64) Syntax.tnil))) Syntax.tnil) Syntax.ttnil)))) (tt, tt)
-              Path'.refl) d27
+                (
+                  (
+                    Yields.yields-copy 𝓤 H A W (λ ρ. Unit) (Declared'.row CodestreamOffset.the-type) Path'.refl
+                        (Copies.cStruct CodestreamOffset.the-type Laws'.the-laws Laws'.the-copy .copy 𝓤 H A W) (Rows.whole (Declared'.row CodestreamOffset.the-type)) (λ x. x) (λ x. x) (λ ρ
+                        told. Local.mem-whole 𝓤 H A W (Declared'.row CodestreamOffset.the-type) ρ) λ ρ told. Local.whole-mem 𝓤 H A W (Declared'.row CodestreamOffset.the-type) ρ,
+                    Path'.refl,
+                  ),
+                  ((Scalar.reads-sc 𝓤 H A W (Row.sInt Syntax.w64), Path'.refl), tt),
+                ),
+              ) (Reads.room-gone 𝓤 H A (Syntax.tyEnum (List._∷_ 112 (List._∷_ 97 (List._∷_ 114 (List._∷_ 116
+              (List._∷_ 115 (List._∷_ 58 (List._∷_ 58 (List._∷_ 115 (List._∷_ 99 (List._∷_ 97 (List._∷_ 110 (List._∷_ 58 (List._∷_ 58 (List._∷_ 83 (List._∷_ 99 (List._∷_ 97
+              (List._∷_ 110 (List._∷_ 110 (List._∷_ 101 (List._∷_ 100 List.[])))))))))))))))))))) (Syntax.ttcons (Syntax.tcons (Syntax.tyInt Syntax.w64) Syntax.tnil) (Syntax.ttcons
+              (Syntax.tcons (Syntax.tyStruct (List._∷_ 116 (List._∷_ 121 (List._∷_ 112 (List._∷_ 101 (List._∷_ 115 (List._∷_ 58 (List._∷_ 58 (List._∷_ 82 (List._∷_ 101 (List._∷_
+              102 (List._∷_ 117 (List._∷_ 115 (List._∷_ 97 (List._∷_ 108 List.[])))))))))))))) (Syntax.tcons (Syntax.tyInt Syntax.w32) (Syntax.tcons (Syntax.tyInt Syntax.w64)
+              Syntax.tnil))) Syntax.tnil) Syntax.ttnil)))) (tt, tt) Path'.refl) d27
 
           d29 : Typed.Typed 𝓤 H A 𝓣 E G4 b22 Δ0 at29
           d29 = Typed.g-pre 𝓤 H A W 𝓣 E G4 G5 b22 Δ0 (Typed.pass T4 T5 s3) at28 (Scalar.g-room 𝓤 H A W E G4 6 (Syntax.tyInt Syntax.w64) (Scalar.room-sc 𝓤 H A W (Row.sInt
@@ -1767,15 +2021,29 @@ module _ (claims· : Claims) where
       module _ (κs : Lifetimes.Lfts 2) where
         pub record Args : Type 0 where
           pub codestream : Kinds.Den {n = 2} κs (ShrSlice.pShrS (Referent.rtF (Referent.fInt Syntax.w8)) 0 tt)
-          pub first-sot-offset : Kinds.Den {n = 2} κs (Num.pNum Syntax.w64)
+          pub first-sot-offset : Kinds.Den {n = 2} κs (Value.pVal record {
+            ty = Declared'.row CodestreamOffset.the-type;
+            one = Path'.refl;
+            val = Laws'3.val
+                CodestreamOffset.the-type Laws'.the-laws;
+            tells = Laws'3.tells CodestreamOffset.the-type Laws'.the-laws;
+            still = Laws'3.still CodestreamOffset.the-type Laws'.the-copy
+                Exit.yes;
+            row = Rows.whole (Declared'.row CodestreamOffset.the-type);
+            rd = λ x. x;
+            mk = λ x. x;
+          } λ M 𝓤 H A W. record {
+            copies = Laws'3.copy CodestreamOffset.the-type
+                Laws'.the-copy 𝓤 H A W;
+            lawful = Laws'3.lawful CodestreamOffset.the-type Laws'.the-laws 𝓤 H A W;
+            makes = Laws'3.makes CodestreamOffset.the-type Laws'.the-plain 𝓤 H A;
+            in-mem = Local.mem-whole 𝓤 H A W (Declared'.row CodestreamOffset.the-type);
+            of-mem = Local.whole-mem 𝓤 H A W (Declared'.row CodestreamOffset.the-type);
+          })
           pub table : Kinds.Den {n = 2} κs (MutSlice.pMutS LentTilePartEntry.row 1 tt)
 
         abbrev pub dens : (a : Args) → Kinds.Dens κs ps
         dens = λ a. (a .codestream, (a .first-sot-offset, (a .table, tt)))
-
-        module _ (args· : Args) where
-          pub record Ranges : Type 0 where
-            pub first-sot-offset : Val.Fits Syntax.w64 (args· .first-sot-offset)
 
       abbrev pub m0 : (κs : Lifetimes.Lfts 2) → (args : Args κs) → Typed.Mo T0
       m0 = λ κs args. (tt, Enter.partsP κs 1 ps xs (dens κs args))
@@ -1792,7 +2060,6 @@ module _ (claims· : Claims) where
         pub κs : Lifetimes.Lfts 2
         pub args : Args κs
         pub good : Kinds.GoodsP κs ps (dens κs args)
-        pub fits : Ranges κs args
         pub pre : Pre· κs (dens κs args)
 
       abbrev pub m1 : (before : Start) → (given : s0 .gives (m0 (before .κs) (before .args))) → Typed.Mo T2
@@ -1825,7 +2092,7 @@ module _ (claims· : Claims) where
         abbrev pub After-decide·own : Type 0
         After-decide·own = Called.Called ps·0 r·0 (claims· .1) T5 (
           record { pos = 1; ty = Syntax.tyRef (Syntax.named 0) Syntax.imm (Syntax.tyInt Syntax.w8); ref = λ x. x },
-          (Num.vAt 2 λ x. x, (Num.vAt 7 λ x. x, tt)),
+          (record { pos = 2; st = List.[]; d = 0; at = λ x. x }, (Num.vAt 7 λ x. x, tt)),
         ) (m4 (before· .before) (before· .shared-slice-known .given))
 
       pub record After-decide : Type 0 where
@@ -1835,7 +2102,7 @@ module _ (claims· : Claims) where
       abbrev pub After-decide·gave : (c : After-decide) → s4 .gives (m4 (c .before .before) (c .before .shared-slice-known .given))
       After-decide·gave = λ c. Called.given ps·0 r·0 (claims· .1) T5 (
         record { pos = 1; ty = Syntax.tyRef (Syntax.named 0) Syntax.imm (Syntax.tyInt Syntax.w8); ref = λ x. x },
-        (Num.vAt 2 λ x. x, (Num.vAt 7 λ x. x, tt)),
+        (record { pos = 2; st = List.[]; d = 0; at = λ x. x }, (Num.vAt 7 λ x. x, tt)),
       ) (m4 (c .before .before) (c .before .shared-slice-known .given)) (c .decide)
 
       abbrev W1 : (before : After-shared-slice-known) → (given : s4 .gives (m4 (before .before) (before .shared-slice-known .given))) → Typed.Want O1
@@ -1920,78 +2187,93 @@ module _ (claims· : Claims) where
           .before .κs) (dens (c .before .before .before .before .κs) (c .before .before .before .before .args)) (Enter.lastsP (c .before .before .before .before .κs) 1 ps xs (dens
           (c .before .before .before .before .κs) (c .before .before .before .before .args)) (m14 (c .before) (c .enum-told .given) .1)))
 
-      abbrev pub m15 : (before : After-answer) → (given : s7 .gives (m7 (before .before) (before .answer .given))) → Typed.Mo T17
-      m15 = λ before given. s14 (m10 before given)
+      abbrev pub Need-position-requires : Type 0
+      Need-position-requires = (c : After-known-told) → s14 .asks (m10 (c .before) (c .known-told .given))
 
-      abbrev pub m16 : (before : After-answer) → (given : s7 .gives (m7 (before .before) (before .answer .given))) → Typed.Mo T18
-      m16 = λ before given. s15 (m15 before given)
-
-      abbrev pub m17 : (before : After-known-told) → (given : s17 .gives (m16 (before .before) (before .known-told .given))) → Typed.Mo T20
-      m17 = λ before given. s17 .next (m16 (before .before) (before .known-told .given)) given
-
-      abbrev pub m18 : (before : After-known-told) → (given : s17 .gives (m16 (before .before) (before .known-told .given))) → Typed.Mo T21
-      m18 = λ before given. s18 .next (m17 before given)
+      abbrev pub m15 : (before : After-known-told) → (given : s14 .gives (m10 (before .before) (before .known-told .given))) → Typed.Mo T17
+      m15 = λ before given. s14 .next (m10 (before .before) (before .known-told .given)) given
 
       module _ (before· : After-known-told) where
+        abbrev pub After-position·own : Type 0
+        After-position·own = Called.Called ps·1 r·1 (claims· .3) T7 (record { pos = 2; st = List.[]; d = 0; at = λ x. x }, tt) (m10 (before· .before) (before· .known-told .given))
+
+      pub record After-position : Type 0 where
+        pub before : After-known-told
+        pub position : After-position·own before
+
+      abbrev pub After-position·gave : (c : After-position) → s14 .gives (m10 (c .before .before) (c .before .known-told .given))
+      After-position·gave = λ c. Called.given ps·1 r·1 (claims· .3) T7 (record { pos = 2; st = List.[]; d = 0; at = λ x. x }, tt) (m10 (c .before .before) (c .before .known-told
+          .given)) (c .position)
+
+      abbrev pub m16 : (before : After-known-told) → (given : s14 .gives (m10 (before .before) (before .known-told .given))) → Typed.Mo T18
+      m16 = λ before given. s15 (m15 before given)
+
+      abbrev pub m17 : (before : After-known-told) → (given : s14 .gives (m10 (before .before) (before .known-told .given))) → Typed.Mo T19
+      m17 = λ before given. s16 (m16 before given)
+
+      abbrev pub m18 : (before : After-position) → (given : s18 .gives (m17 (before .before) (After-position·gave before))) → Typed.Mo T21
+      m18 = λ before given. s18 .next (m17 (before .before) (After-position·gave before)) given
+
+      abbrev pub m19 : (before : After-position) → (given : s18 .gives (m17 (before .before) (After-position·gave before))) → Typed.Mo T22
+      m19 = λ before given. s19 .next (m18 before given)
+
+      module _ (before· : After-position) where
         pub record After-fill-arg·own : Type 0 where
-          pub given : s17 .gives (m16 (before· .before) (before· .known-told .given))
+          pub given : s18 .gives (m17 (before· .before) (After-position·gave before·))
 
       pub record After-fill-arg : Type 0 where
-        pub before : After-known-told
+        pub before : After-position
         pub fill-arg : After-fill-arg·own before
 
       abbrev pub Need-fill-requires : Type 0
-      Need-fill-requires = (c : After-fill-arg) → s19 .asks (m18 (c .before) (c .fill-arg .given))
+      Need-fill-requires = (c : After-fill-arg) → s20 .asks (m19 (c .before) (c .fill-arg .given))
 
-      abbrev pub m19 : (before : After-fill-arg) → (given : s19 .gives (m18 (before .before) (before .fill-arg .given))) → Typed.Mo T22
-      m19 = λ before given. s19 .next (m18 (before .before) (before .fill-arg .given)) given
+      abbrev pub m20 : (before : After-fill-arg) → (given : s20 .gives (m19 (before .before) (before .fill-arg .given))) → Typed.Mo T23
+      m20 = λ before given. s20 .next (m19 (before .before) (before .fill-arg .given)) given
 
       module _ (before· : After-fill-arg) where
         abbrev pub After-fill·own : Type 0
-        After-fill·own = Called.Called ps·1 r·1 (claims· .3) T21 (
+        After-fill·own = Called.Called ps·2 r·2 (claims· .5) T22 (
           record { pos = 1; ty = Syntax.tyRef (Syntax.named 0) Syntax.imm (Syntax.tyInt Syntax.w8); ref = λ x. x },
           (Num.vAt 6 λ x. x, (Num.vAt 9 λ x. x, (record { pos = 11; ty = Syntax.tyRef Syntax.erased Syntax.mut LentTilePartEntry.pointee; ref = λ x. x }, tt))),
-        ) (m18 (before·
+        ) (m19 (before·
             .before) (before· .fill-arg .given))
 
       pub record After-fill : Type 0 where
         pub before : After-fill-arg
         pub fill : After-fill·own before
 
-      abbrev pub After-fill·gave : (c : After-fill) → s19 .gives (m18 (c .before .before) (c .before .fill-arg .given))
-      After-fill·gave = λ c. Called.given ps·1 r·1 (claims· .3) T21 (
+      abbrev pub After-fill·gave : (c : After-fill) → s20 .gives (m19 (c .before .before) (c .before .fill-arg .given))
+      After-fill·gave = λ c. Called.given ps·2 r·2 (claims· .5) T22 (
         record { pos = 1; ty = Syntax.tyRef (Syntax.named 0) Syntax.imm (Syntax.tyInt Syntax.w8); ref = λ x. x },
         (Num.vAt 6 λ x. x, (Num.vAt 9 λ x. x, (record { pos = 11; ty = Syntax.tyRef Syntax.erased Syntax.mut LentTilePartEntry.pointee; ref = λ x. x }, tt))),
-      ) (m18 (c .before
+      ) (m19 (c .before
           .before) (c .before .fill-arg .given)) (c .fill)
 
-      abbrev pub m20 : (before : After-fill-arg) → (given : s19 .gives (m18 (before .before) (before .fill-arg .given))) → Typed.Mo T23
-      m20 = λ before given. s20 (m19 before given)
-
-      abbrev pub m21 : (before : After-fill-arg) → (given : s19 .gives (m18 (before .before) (before .fill-arg .given))) → Typed.Mo T24
+      abbrev pub m21 : (before : After-fill-arg) → (given : s20 .gives (m19 (before .before) (before .fill-arg .given))) → Typed.Mo T24
       m21 = λ before given. s21 (m20 before given)
 
-      abbrev pub m22 : (before : After-fill-arg) → (given : s19 .gives (m18 (before .before) (before .fill-arg .given))) → Typed.Mo T25
+      abbrev pub m22 : (before : After-fill-arg) → (given : s20 .gives (m19 (before .before) (before .fill-arg .given))) → Typed.Mo T25
       m22 = λ before given. s22 (m21 before given)
 
-      abbrev pub m23 : (before : After-fill) → (given : s24 .gives (m22 (before .before) (After-fill·gave before))) → Typed.Mo T27
-      m23 = λ before given. s24 .next (m22 (before .before) (After-fill·gave before)) given
+      abbrev pub m23 : (before : After-fill-arg) → (given : s20 .gives (m19 (before .before) (before .fill-arg .given))) → Typed.Mo T26
+      m23 = λ before given. s23 (m22 before given)
 
-      abbrev pub m24 : (before : After-fill) → (given : s24 .gives (m22 (before .before) (After-fill·gave before))) → Typed.Mo T29
-      m24 = λ before given. s26 (m23 before given)
+      abbrev pub m24 : (before : After-fill) → (given : s25 .gives (m23 (before .before) (After-fill·gave before))) → Typed.Mo T28
+      m24 = λ before given. s25 .next (m23 (before .before) (After-fill·gave before)) given
 
-      abbrev pub m25 : (before : After-fill) → (given : s24 .gives (m22 (before .before) (After-fill·gave before))) → Typed.Mo T30
+      abbrev pub m25 : (before : After-fill) → (given : s25 .gives (m23 (before .before) (After-fill·gave before))) → Typed.Mo T30
       m25 = λ before given. s27 (m24 before given)
 
-      abbrev pub m26 : (before : After-fill) → (given : s24 .gives (m22 (before .before) (After-fill·gave before))) → Typed.Mo T31
+      abbrev pub m26 : (before : After-fill) → (given : s25 .gives (m23 (before .before) (After-fill·gave before))) → Typed.Mo T31
       m26 = λ before given. s28 (m25 before given)
 
-      abbrev pub m27 : (before : After-fill) → (given : s24 .gives (m22 (before .before) (After-fill·gave before))) → Typed.Mo T32
+      abbrev pub m27 : (before : After-fill) → (given : s25 .gives (m23 (before .before) (After-fill·gave before))) → Typed.Mo T32
       m27 = λ before given. s29 (m26 before given)
 
       module _ (before· : After-fill) where
         pub record After-table·own : Type 0 where
-          pub given : s24 .gives (m22 (before· .before) (After-fill·gave before·))
+          pub given : s25 .gives (m23 (before· .before) (After-fill·gave before·))
 
       pub record After-table : Type 0 where
         pub before : After-fill
@@ -1999,21 +2281,22 @@ module _ (claims· : Claims) where
 
       abbrev pub Need-same-length : Type 0
       Need-same-length = (c : After-table) → MutSlice.SameLen (Row.get 3 (T32 .locals) (m27 (c .before) (c .table .given))) (dens (c .before .before .before .before .before .before
-          .before .before .κs) (c .before .before .before .before .before .before .before .before .args) .1 .1 .0)
+          .before .before .before .κs) (c .before .before .before .before .before .before .before .before .before .args) .1 .1 .0)
 
       abbrev pub Need-returns-2 : Type 0
-      Need-returns-2 = (c : After-table) → Post· (c .before .before .before .before .before .before .before .before .κs) (dens (c .before .before .before .before .before .before
-          .before .before .κs) (c .before .before .before .before .before .before .before .before .args)) (Function.resV r (c .before .before .before .before .before .before
-          .before .before .κs) (m27 (c .before) (c .table .given) .0)) (Clauses.atExit (Kinds.endedOf 2 ps r) (c .before .before .before .before .before .before .before .before
-          .κs) (dens (c .before .before .before .before .before .before .before .before .κs) (c .before .before .before .before .before .before .before .before .args))
-          (Enter.lastsP (c .before .before .before .before .before .before .before .before .κs) 1 ps xs (dens (c .before .before .before .before .before .before .before .before
-          .κs) (c .before .before .before .before .before .before .before .before .args)) (m27 (c .before) (c .table .given) .1)))
+      Need-returns-2 = (c : After-table) → Post· (c .before .before .before .before .before .before .before .before .before .κs) (dens (c .before .before .before .before .before
+          .before .before .before .before .κs) (c .before .before .before .before .before .before .before .before .before .args)) (Function.resV r (c .before .before .before
+          .before .before .before .before .before .before .κs) (m27 (c .before) (c .table .given) .0)) (Clauses.atExit (Kinds.endedOf 2 ps r) (c .before .before .before .before
+          .before .before .before .before .before .κs) (dens (c .before .before .before .before .before .before .before .before .before .κs) (c .before .before .before .before
+          .before .before .before .before .before .args)) (Enter.lastsP (c .before .before .before .before .before .before .before .before .before .κs) 1 ps xs (dens (c .before
+          .before .before .before .before .before .before .before .before .κs) (c .before .before .before .before .before .before .before .before .before .args)) (m27 (c .before)
+          (c .table .given) .1)))
 
-      module _ (decide-requires : Need-decide-requires) (enum-known-answer : Need-enum-known-answer) (enum-told : Need-enum-told) (returns : Need-returns) (fill-requires :
-          Need-fill-requires) (same-length : Need-same-length) (returns-2 : Need-returns-2) where
-        lay3 : (c : After-fill) → at20 (W0 (c .before .before .before .before .before .before .before .κs) (c .before .before .before .before .before .before .before .args)) (m19
-            (c .before) (After-fill·gave c))
-        lay3 = λ c. (
+      module _ (decide-requires : Need-decide-requires) (enum-known-answer : Need-enum-known-answer) (enum-told : Need-enum-told) (returns : Need-returns) (position-requires :
+          Need-position-requires) (fill-requires : Need-fill-requires) (same-length : Need-same-length) (returns-2 : Need-returns-2) where
+        lay4 : (c : After-fill) → at19 (W0 (c .before .before .before .before .before .before .before .before .κs) (c .before .before .before .before .before .before .before
+            .before .args)) (m20 (c .before) (After-fill·gave c))
+        lay4 = λ c. (
           Path'.refl,
           λ g. (
             (
@@ -2023,17 +2306,16 @@ module _ (claims· : Claims) where
                 (
                   MutSlice.fix-len (Row.get 3 (T32 .locals) (m27 record { before = c .before; fill = c .fill } g) .ptr) (Row.get 3 (T32
                       .locals) (m27 record { before = c .before; fill = c .fill } g) .name) (Row.get 3 (T32 .locals) (m27 record { before = c .before; fill = c .fill } g) .now) (dens (c
-                      .before .before .before .before .before .before .before .κs) (c .before .before .before .before .before .before .before .args) .1 .1 .0 .now) (same-length record {
-                        before = record { before = c .before; fill = c .fill };
-                        table = record { given = g };
-                      }),
+                      .before .before .before .before .before .before .before .before .κs) (c .before .before .before .before .before .before .before .before .args) .1 .1 .0 .now)
+                      (same-length record { before = record { before = c .before; fill = c .fill }; table = record { given = g } }),
                   tt,
                 ),
               ),
             ),
             returns-2 record {
               before = record {
-                before = c .before;
+                before = c
+                    .before;
                 fill = c .fill;
               };
               table = record { given = g };
@@ -2041,32 +2323,48 @@ module _ (claims· : Claims) where
           ),
         )
 
-        lay2 : (c : After-known-told) → at26 (W0 (c .before .before .before .before .before .κs) (c .before .before .before .before .before .args)) (m10 (c .before) (c .known-told
-            .given))
-        lay2 = λ c. λ g. (
+        lay3 : (c : After-position) → at25 (W0 (c .before .before .before .before .before .before .κs) (c .before .before .before .before .before .before .args)) (m15 (c .before)
+            (After-position·gave c))
+        lay3 = λ c. λ g. (
           Path'.refl,
           (
-            fill-requires record { before = record { before = c .before; known-told = c .known-told }; fill-arg = record { given = g } },
-            λ g'. lay3
-                record {
-                  before = record { before = record { before = c .before; known-told = c .known-told }; fill-arg = record { given = g } };
-                  fill = Called.called ps·1 r·1
-                      (claims· .3) T21 (
-                        record { pos = 1; ty = Syntax.tyRef (Syntax.named 0) Syntax.imm (Syntax.tyInt Syntax.w8); ref = λ x. x },
-                        (
-                          Num.vAt 6 λ x. x,
-                          (
-                            Num.vAt 9 λ x. x,
-                            (record { pos = 11; ty = Syntax.tyRef Syntax.erased Syntax.mut LentTilePartEntry.pointee; ref = λ x. x }, tt),
-                          ),
-                        ),
-                      ) (m18 record {
-                        before = c .before;
-                        known-told = c
-                            .known-told;
-                      } g) g';
-                },
+            fill-requires record { before = record { before = c .before; position = c .position }; fill-arg = record { given = g } },
+            λ g'. lay4 record {
+              before = record { before = record { before = c .before; position = c .position }; fill-arg = record { given = g } };
+              fill = Called.called ps·2 r·2 (claims· .5) T22 (
+                record { pos = 1; ty = Syntax.tyRef (Syntax.named 0) Syntax.imm (Syntax.tyInt Syntax.w8); ref = λ x. x },
+                (
+                  Num.vAt 6 λ x. x,
+                  (
+                    Num.vAt 9 λ x. x,
+                    (
+                      record {
+                        pos = 11;
+                        ty
+                            = Syntax.tyRef Syntax.erased Syntax.mut LentTilePartEntry.pointee;
+                        ref = λ x. x;
+                      },
+                      tt,
+                    ),
+                  ),
+                ),
+              ) (m19 record { before = c .before; position = c .position } g) g';
+            },
           ),
+        )
+
+        lay2 : (c : After-known-told) → at26 (W0 (c .before .before .before .before .before .κs) (c .before .before .before .before .before .args)) (m10 (c .before) (c .known-told
+            .given))
+        lay2 = λ c. (
+          position-requires record { before = c .before; known-told = c .known-told },
+          λ g. lay3 record {
+            before = record {
+              before = c .before;
+              known-told = c
+                  .known-told;
+            };
+            position = Called.called ps·1 r·1 (claims· .3) T7 (record { pos = 2; st = List.[]; d = 0; at = λ x. x }, tt) (m10 (c .before) (c .known-told .given)) g;
+          },
         )
 
         lay1 : (c : After-decide) → at27 (W0 (c .before .before .κs) (c .before .before .args)) (m5 (c .before) (After-decide·gave c))
@@ -2120,7 +2418,7 @@ module _ (claims· : Claims) where
                 ref =
                     λ x. x;
               },
-              (Num.vAt 2 λ x. x, (Num.vAt 7 λ x. x, tt)),
+              (record { pos = 2; st = List.[]; d = 0; at = λ x. x }, (Num.vAt 7 λ x. x, tt)),
             ) (m4 c g) g';
           },
         )
@@ -2128,17 +2426,10 @@ module _ (claims· : Claims) where
         module _ (κs : Lifetimes.Lfts 2) (qs : Lifetimes.Shares 2) where
           pub asked : (a : Kinds.Dens κs ps) → (good : Kinds.GoodsP κs ps a) → (pre : Pre· κs a) → (bs : List.List Nat.ℕ) → Φ (Any.wantQ 2 ps r xs m κs qs a (Post· κs a))
               (Function.init 2 ps r xs m κs qs a)
-          asked = λ a good pre bs. laid record {
-            κs = κs;
-            args = record { codestream = a .0; first-sot-offset = a .1 .0; table = a .1 .1 .0 };
-            good = good;
-            fits = record {
-              first-sot-offset = record { fits = good .1 .0 .1 };
-            };
-            pre = pre;
-          }
+          asked = λ a good pre bs. laid record { κs = κs; args = record { codestream = a .0; first-sot-offset = a .1 .0; table = a .1 .1 .0 }; good = good; pre = pre }
 
         module _ {M : Type 1} (𝓤 : URA.URA M) (H : Wp.Heap 𝓤) (A : Atoms.Atoms 𝓤) (W : Kit.Given 𝓤 H A) (𝓣 : Wp.Tables 𝓤 H) (known0 : Plain.Known 𝓤 H A W 𝓣 1 ps·0 r·0 (claims· .0)
-            (claims· .1) "parts::scan::decide") (known1 : Plain.Known 𝓤 H A W 𝓣 2 ps·1 r·1 (claims· .2) (claims· .3) "records::scan::fill") where
+            (claims· .1) "parts::scan::decide") (known1 : Plain.Known 𝓤 H A W 𝓣 0 ps·1 r·1 (claims· .2) (claims· .3) "types::CodestreamOffset::position") (known2 : Plain.Known 𝓤 H
+            A W 𝓣 2 ps·2 r·2 (claims· .4) (claims· .5) "records::scan::fill") where
           pub spec : Statement.Triple 𝓤 (Wp.WpFn 𝓤 H (𝓣 .C) (𝓣 .Λ) (Function.fnOf 2 ps r xs m hs body)) (Function.plainOf 𝓤 H A 2 ps r Pre· Post·)
-          spec = Plain.t-fn-plain 𝓤 H A W 𝓣 2 ps r xs m hs body (λ κs qs bs. Φ) (λ κs qs bs bd. typed κs qs 𝓤 H A W 𝓣 (known0, known1) bs bd) Pre· Post· asked
+          spec = Plain.t-fn-plain 𝓤 H A W 𝓣 2 ps r xs m hs body (λ κs qs bs. Φ) (λ κs qs bs bd. typed κs qs 𝓤 H A W 𝓣 (known0, known1, known2) bs bd) Pre· Post· asked

@@ -5,6 +5,8 @@ use Rattle.parts.proofs.scan.Scanned
 use Rattle.parts.proofs.scan.Scanned.Laws
 use Rattle.records.proofs.tables.ScanTable
 use Rattle.records.proofs.tables.ScanTable.Laws as Laws'
+use Rattle.types.proofs.CodestreamOffset
+use Rattle.types.proofs.CodestreamOffset.Laws as Laws''
 use borrow.Author.Called
 use borrow.Fn.Any
 use borrow.Fn.Call
@@ -15,7 +17,6 @@ use borrow.Fn.Kinds
 use borrow.Fn.Plain
 use borrow.Kind.Array
 use borrow.Kind.MutSlice
-use borrow.Kind.Num
 use borrow.Kind.ShrSlice
 use borrow.Kind.Value
 use borrow.Rule.Array.Borrow
@@ -41,10 +42,10 @@ use borrow.Table.Typed
 use contract.Lifetimes
 use denote.Array as Array'
 use denote.Enum.Declared
-use denote.Enum.Laws as Laws''
+use denote.Enum.Laws as Laws'3
 use denote.Exit
 use denote.Struct.Declared as Declared'
-use denote.Struct.Laws as Laws'3
+use denote.Struct.Laws as Laws'4
 use denote.Triple.Clauses
 use denote.Triple.Statement
 use ghost.Atoms
@@ -54,29 +55,47 @@ use mathlib.Core.List
 use mathlib.Core.Option
 use mathlib.Core.Path as Path'
 use mir.Syntax
-use mir.Val
 use prog.Wp
 use types.Kit
 
 abbrev pub ps : List.List (Kinds.PK 1)
-ps = List._∷_ (ShrSlice.pShrS (Referent.rtF (Referent.fInt Syntax.w8)) 0 tt) (List._∷_ (Num.pNum Syntax.w64) List.[])
+ps = List._∷_ (ShrSlice.pShrS (Referent.rtF (Referent.fInt Syntax.w8)) 0 tt) (List._∷_ (Value.pVal record {
+  ty = Declared'.row CodestreamOffset.the-type;
+  one = Path'.refl;
+  val =
+      Laws'4.val CodestreamOffset.the-type Laws''.the-laws;
+  tells = Laws'4.tells CodestreamOffset.the-type Laws''.the-laws;
+  still = Laws'4.still CodestreamOffset.the-type
+      Laws''.the-copy Exit.yes;
+  row = Rows'.whole (Declared'.row CodestreamOffset.the-type);
+  rd = λ x. x;
+  mk = λ x. x;
+} λ M 𝓤 H A W. record {
+  copies = Laws'4.copy
+      CodestreamOffset.the-type Laws''.the-copy 𝓤 H A W;
+  lawful = Laws'4.lawful CodestreamOffset.the-type Laws''.the-laws 𝓤 H A W;
+  makes = Laws'4.makes CodestreamOffset.the-type
+      Laws''.the-plain 𝓤 H A;
+  in-mem = Local.mem-whole 𝓤 H A W (Declared'.row CodestreamOffset.the-type);
+  of-mem = Local.whole-mem 𝓤 H A W (Declared'.row CodestreamOffset.the-type);
+}) List.[])
 
 abbrev pub r : Kinds.RK 1
 r = Value.rVal record {
   ty = Declared'.row ScanTable.the-type;
   one = Path'.refl;
-  val = Laws'3.val ScanTable.the-type Laws'.the-laws;
-  tells = Laws'3.tells ScanTable.the-type
+  val = Laws'4.val ScanTable.the-type Laws'.the-laws;
+  tells = Laws'4.tells ScanTable.the-type
       Laws'.the-laws;
-  still = Laws'3.still ScanTable.the-type Laws'.the-copy Exit.yes;
+  still = Laws'4.still ScanTable.the-type Laws'.the-copy Exit.yes;
   row = Rows'.whole (Declared'.row ScanTable.the-type);
   rd = λ x. x;
   mk = λ x. x;
 } λ M 𝓤 H A W.
     record {
-      copies = Laws'3.copy ScanTable.the-type Laws'.the-copy 𝓤 H A W;
-      lawful = Laws'3.lawful ScanTable.the-type Laws'.the-laws 𝓤 H A W;
-      makes = Laws'3.makes
+      copies = Laws'4.copy ScanTable.the-type Laws'.the-copy 𝓤 H A W;
+      lawful = Laws'4.lawful ScanTable.the-type Laws'.the-laws 𝓤 H A W;
+      makes = Laws'4.makes
           ScanTable.the-type Laws'.the-plain 𝓤 H A;
       in-mem = Local.mem-whole 𝓤 H A W (Declared'.row ScanTable.the-type);
       of-mem = Local.whole-mem 𝓤 H A W (Declared'.row
@@ -103,23 +122,42 @@ abbrev pub r·0 : Kinds.RK 0
 r·0 = Array.rArr LentTilePartEntry.elem LentTilePartEntry.elem-laws 2048
 
 abbrev pub ps·1 : List.List (Kinds.PK 2)
-ps·1 = List._∷_ (ShrSlice.pShrS (Referent.rtF (Referent.fInt Syntax.w8)) 0 tt) (List._∷_ (Num.pNum Syntax.w64) (List._∷_ (MutSlice.pMutS LentTilePartEntry.row 1 tt) List.[]))
+ps·1 = List._∷_ (ShrSlice.pShrS (Referent.rtF (Referent.fInt Syntax.w8)) 0 tt) (List._∷_ (Value.pVal record {
+  ty = Declared'.row CodestreamOffset.the-type;
+  one = Path'.refl;
+  val =
+      Laws'4.val CodestreamOffset.the-type Laws''.the-laws;
+  tells = Laws'4.tells CodestreamOffset.the-type Laws''.the-laws;
+  still = Laws'4.still CodestreamOffset.the-type
+      Laws''.the-copy Exit.yes;
+  row = Rows'.whole (Declared'.row CodestreamOffset.the-type);
+  rd = λ x. x;
+  mk = λ x. x;
+} λ M 𝓤 H A W. record {
+  copies = Laws'4.copy
+      CodestreamOffset.the-type Laws''.the-copy 𝓤 H A W;
+  lawful = Laws'4.lawful CodestreamOffset.the-type Laws''.the-laws 𝓤 H A W;
+  makes = Laws'4.makes CodestreamOffset.the-type
+      Laws''.the-plain 𝓤 H A;
+  in-mem = Local.mem-whole 𝓤 H A W (Declared'.row CodestreamOffset.the-type);
+  of-mem = Local.whole-mem 𝓤 H A W (Declared'.row CodestreamOffset.the-type);
+}) (List._∷_ (MutSlice.pMutS LentTilePartEntry.row 1 tt) List.[]))
 
 abbrev pub r·1 : Kinds.RK 2
 r·1 = Value.rVal record {
   ty = Declared.row Scanned.the-type;
   one = Path'.refl;
-  val = Laws''.val Scanned.the-type Laws.the-laws;
-  tells = Laws''.tells Scanned.the-type
+  val = Laws'3.val Scanned.the-type Laws.the-laws;
+  tells = Laws'3.tells Scanned.the-type
       Laws.the-laws;
-  still = Laws''.still Scanned.the-type Laws.the-copy Exit.yes;
+  still = Laws'3.still Scanned.the-type Laws.the-copy Exit.yes;
   row = Rows'.whole (Declared.row Scanned.the-type);
   rd = λ x. x;
   mk = λ x. x;
 } λ M 𝓤 H A W. record {
-  copies = Laws''.copy Scanned.the-type Laws.the-copy 𝓤 H A W;
-  lawful = Laws''.lawful Scanned.the-type Laws.the-laws 𝓤 H A W tt;
-  makes = Laws''.makes Scanned.the-type
+  copies = Laws'3.copy Scanned.the-type Laws.the-copy 𝓤 H A W;
+  lawful = Laws'3.lawful Scanned.the-type Laws.the-laws 𝓤 H A W tt;
+  makes = Laws'3.makes Scanned.the-type
       Laws.the-plain 𝓤 H A;
   in-mem = Local.mem-whole 𝓤 H A W (Declared.row Scanned.the-type);
   of-mem = Local.whole-mem 𝓤 H A W (Declared.row Scanned.the-type);
@@ -129,17 +167,17 @@ abbrev pub ps·2 : List.List (Kinds.PK 0)
 ps·2 = List._∷_ (Value.pVal record {
   ty = Declared.row Scanned.the-type;
   one = Path'.refl;
-  val = Laws''.val Scanned.the-type Laws.the-laws;
-  tells = Laws''.tells Scanned.the-type
+  val = Laws'3.val Scanned.the-type Laws.the-laws;
+  tells = Laws'3.tells Scanned.the-type
       Laws.the-laws;
-  still = Laws''.still Scanned.the-type Laws.the-copy Exit.yes;
+  still = Laws'3.still Scanned.the-type Laws.the-copy Exit.yes;
   row = Rows'.whole (Declared.row Scanned.the-type);
   rd = λ x. x;
   mk = λ x. x;
 } λ M 𝓤 H A W. record {
-  copies = Laws''.copy Scanned.the-type Laws.the-copy 𝓤 H A W;
-  lawful = Laws''.lawful Scanned.the-type Laws.the-laws 𝓤 H A W tt;
-  makes = Laws''.makes Scanned.the-type
+  copies = Laws'3.copy Scanned.the-type Laws.the-copy 𝓤 H A W;
+  lawful = Laws'3.lawful Scanned.the-type Laws.the-laws 𝓤 H A W tt;
+  makes = Laws'3.makes Scanned.the-type
       Laws.the-plain 𝓤 H A;
   in-mem = Local.mem-whole 𝓤 H A W (Declared.row Scanned.the-type);
   of-mem = Local.whole-mem 𝓤 H A W (Declared.row Scanned.the-type);
@@ -150,18 +188,18 @@ abbrev pub r·2 : Kinds.RK 0
 r·2 = Value.rVal record {
   ty = Declared'.row ScanTable.the-type;
   one = Path'.refl;
-  val = Laws'3.val ScanTable.the-type Laws'.the-laws;
-  tells = Laws'3.tells ScanTable.the-type
+  val = Laws'4.val ScanTable.the-type Laws'.the-laws;
+  tells = Laws'4.tells ScanTable.the-type
       Laws'.the-laws;
-  still = Laws'3.still ScanTable.the-type Laws'.the-copy Exit.yes;
+  still = Laws'4.still ScanTable.the-type Laws'.the-copy Exit.yes;
   row = Rows'.whole (Declared'.row ScanTable.the-type);
   rd = λ x. x;
   mk = λ x. x;
 } λ M 𝓤 H A W.
     record {
-      copies = Laws'3.copy ScanTable.the-type Laws'.the-copy 𝓤 H A W;
-      lawful = Laws'3.lawful ScanTable.the-type Laws'.the-laws 𝓤 H A W;
-      makes = Laws'3.makes
+      copies = Laws'4.copy ScanTable.the-type Laws'.the-copy 𝓤 H A W;
+      lawful = Laws'4.lawful ScanTable.the-type Laws'.the-laws 𝓤 H A W;
+      makes = Laws'4.makes
           ScanTable.the-type Laws'.the-plain 𝓤 H A;
       in-mem = Local.mem-whole 𝓤 H A W (Declared'.row ScanTable.the-type);
       of-mem = Local.whole-mem 𝓤 H A W (Declared'.row
@@ -236,48 +274,62 @@ t0 = List._∷_ (
       (List._∷_ 115 (List._∷_ 97 (List._∷_ 108 List.[])))))))))))))) (Syntax.tcons (Syntax.tyInt Syntax.w32) (Syntax.tcons (Syntax.tyInt Syntax.w64) Syntax.tnil))) Syntax.tnil)
       Syntax.ttnil))) (Syntax.tcons (Syntax.tyArray (Syntax.tyStruct (List._∷_ 116 (List._∷_ 121 (List._∷_ 112 (List._∷_ 101 (List._∷_ 115 (List._∷_ 58 (List._∷_ 58 (List._∷_ 84
       (List._∷_ 105 (List._∷_ 108 (List._∷_ 101 (List._∷_ 80 (List._∷_ 97 (List._∷_ 114 (List._∷_ 116 (List._∷_ 69 (List._∷_ 110 (List._∷_ 116 (List._∷_ 114 (List._∷_ 121
-      List.[])))))))))))))))))))) (Syntax.tcons (Syntax.tyInt Syntax.w16) (Syntax.tcons (Syntax.tyInt Syntax.w64) (Syntax.tcons (Syntax.tyInt Syntax.w64) Syntax.tnil)))) 2048)
-      Syntax.tnil))),
-) (List._∷_ (1, Rows'.sslice (Referent.rtF (Referent.fInt Syntax.w8)) (Syntax.tyRef (Syntax.named 0) Syntax.imm (Syntax.tyInt Syntax.w8)) 0) (List._∷_ (
-  2,
-  Rows'.sc-here (Row.sInt Syntax.w64),
-) (List._∷_ (3, Rows'.any-gone (Syntax.tyArray LentTilePartEntry.spelled 2048)) (List._∷_ (
-  4,
-  Rows'.any-gone (Syntax.tyEnum (List._∷_ 112
-      (List._∷_ 97 (List._∷_ 114 (List._∷_ 116 (List._∷_ 115 (List._∷_ 58 (List._∷_ 58 (List._∷_ 115 (List._∷_ 99 (List._∷_ 97 (List._∷_ 110 (List._∷_ 58 (List._∷_ 58 (List._∷_ 83
-      (List._∷_ 99 (List._∷_ 97 (List._∷_ 110 (List._∷_ 110 (List._∷_ 101 (List._∷_ 100 List.[])))))))))))))))))))) (Syntax.ttcons (Syntax.tcons (Syntax.tyInt Syntax.w64)
-      Syntax.tnil) (Syntax.ttcons (Syntax.tcons (Syntax.tyStruct (List._∷_ 116 (List._∷_ 121 (List._∷_ 112 (List._∷_ 101 (List._∷_ 115 (List._∷_ 58 (List._∷_ 58 (List._∷_ 82
-      (List._∷_ 101 (List._∷_ 102 (List._∷_ 117 (List._∷_ 115 (List._∷_ 97 (List._∷_ 108 List.[])))))))))))))) (Syntax.tcons (Syntax.tyInt Syntax.w32) (Syntax.tcons (Syntax.tyInt
-      Syntax.w64) Syntax.tnil))) Syntax.tnil) Syntax.ttnil))),
-) (List._∷_ (5, Rows'.any-gone (Syntax.tyArray LentTilePartEntry.spelled 2048)) (List._∷_ (
-  6,
-  Rows'.any-gone
-      (Syntax.tyRef Syntax.erased Syntax.mut (Syntax.tyArray LentTilePartEntry.pointee 2048)),
+      List.[])))))))))))))))))))) (Syntax.tcons (Syntax.tyInt Syntax.w16) (Syntax.tcons (Syntax.tyStruct (List._∷_ 116 (List._∷_ 121 (List._∷_ 112 (List._∷_ 101 (List._∷_ 115
+      (List._∷_ 58 (List._∷_ 58 (List._∷_ 67 (List._∷_ 111 (List._∷_ 100 (List._∷_ 101 (List._∷_ 115 (List._∷_ 116 (List._∷_ 114 (List._∷_ 101 (List._∷_ 97 (List._∷_ 109 (List._∷_ 79
+      (List._∷_ 102 (List._∷_ 102 (List._∷_ 115 (List._∷_ 101 (List._∷_ 116 List.[]))))))))))))))))))))))) (Syntax.tcons (Syntax.tyInt Syntax.w64) Syntax.tnil)) (Syntax.tcons
+      (Syntax.tyInt Syntax.w64) Syntax.tnil)))) 2048) Syntax.tnil))),
 ) (List._∷_ (
-  7,
-  Rows'.any-gone (Syntax.tyStruct (List._∷_ 38 (List._∷_ 91 (List._∷_ 93
-      List.[]))) (Syntax.tcons (Syntax.tyRef Syntax.erased Syntax.mut LentTilePartEntry.pointee) (Syntax.tcons (Syntax.tyInt Syntax.w64) Syntax.tnil))),
-) List.[])))))))
+  1,
+  Rows'.sslice (Referent.rtF (Referent.fInt Syntax.w8)) (Syntax.tyRef (Syntax.named 0) Syntax.imm
+      (Syntax.tyInt Syntax.w8)) 0,
+) (List._∷_ (2, Rows'.whole (Declared'.row CodestreamOffset.the-type)) (List._∷_ (3, Rows'.any-gone (Syntax.tyArray LentTilePartEntry.spelled 2048))
+    (List._∷_ (
+      4,
+      Rows'.any-gone (Syntax.tyEnum (List._∷_ 112 (List._∷_ 97 (List._∷_ 114 (List._∷_ 116 (List._∷_ 115 (List._∷_ 58 (List._∷_ 58 (List._∷_ 115 (List._∷_ 99 (List._∷_
+          97 (List._∷_ 110 (List._∷_ 58 (List._∷_ 58 (List._∷_ 83 (List._∷_ 99 (List._∷_ 97 (List._∷_ 110 (List._∷_ 110 (List._∷_ 101 (List._∷_ 100 List.[]))))))))))))))))))))
+          (Syntax.ttcons (Syntax.tcons (Syntax.tyInt Syntax.w64) Syntax.tnil) (Syntax.ttcons (Syntax.tcons (Syntax.tyStruct (List._∷_ 116 (List._∷_ 121 (List._∷_ 112 (List._∷_ 101
+          (List._∷_ 115 (List._∷_ 58 (List._∷_ 58 (List._∷_ 82 (List._∷_ 101 (List._∷_ 102 (List._∷_ 117 (List._∷_ 115 (List._∷_ 97 (List._∷_ 108 List.[])))))))))))))) (Syntax.tcons
+          (Syntax.tyInt Syntax.w32) (Syntax.tcons (Syntax.tyInt Syntax.w64) Syntax.tnil))) Syntax.tnil) Syntax.ttnil))),
+    ) (List._∷_ (
+      5,
+      Rows'.any-gone (Syntax.tyArray
+          LentTilePartEntry.spelled 2048),
+    ) (List._∷_ (6, Rows'.any-gone (Syntax.tyRef Syntax.erased Syntax.mut (Syntax.tyArray LentTilePartEntry.pointee 2048))) (List._∷_ (
+      7,
+      Rows'.any-gone (Syntax.tyStruct (List._∷_ 38 (List._∷_ 91 (List._∷_ 93 List.[]))) (Syntax.tcons (Syntax.tyRef Syntax.erased Syntax.mut LentTilePartEntry.pointee) (Syntax.tcons
+          (Syntax.tyInt Syntax.w64) Syntax.tnil))),
+    ) List.[])))))))
 
 abbrev pub t1 : List.List Row.Entry
 t1 = List._∷_ (0, Rows'.whole (Declared'.row ScanTable.the-type)) (List._∷_ (
   1,
   Rows'.sslice (Referent.rtF (Referent.fInt Syntax.w8)) (Syntax.tyRef (Syntax.named 0) Syntax.imm
       (Syntax.tyInt Syntax.w8)) 0,
-) (List._∷_ (2, Rows'.any-gone (Syntax.tyInt Syntax.w64)) (List._∷_ (3, Rows'.any-gone (Syntax.tyArray LentTilePartEntry.spelled 2048)) (List._∷_ (
+) (List._∷_ (
+  2,
+  Rows'.any-gone (Syntax.tyStruct (List._∷_ 116 (List._∷_ 121 (List._∷_ 112 (List._∷_ 101 (List._∷_ 115 (List._∷_ 58 (List._∷_ 58
+      (List._∷_ 67 (List._∷_ 111 (List._∷_ 100 (List._∷_ 101 (List._∷_ 115 (List._∷_ 116 (List._∷_ 114 (List._∷_ 101 (List._∷_ 97 (List._∷_ 109 (List._∷_ 79 (List._∷_ 102 (List._∷_
+      102 (List._∷_ 115 (List._∷_ 101 (List._∷_ 116 List.[]))))))))))))))))))))))) (Syntax.tcons (Syntax.tyInt Syntax.w64) Syntax.tnil)),
+) (List._∷_ (
+  3,
+  Rows'.any-gone (Syntax.tyArray
+      LentTilePartEntry.spelled 2048),
+) (List._∷_ (
   4,
-  Rows'.any-gone (Syntax.tyEnum (List._∷_ 112 (List._∷_ 97 (List._∷_ 114 (List._∷_ 116 (List._∷_ 115 (List._∷_ 58 (List._∷_ 58 (List._∷_ 115 (List._∷_ 99 (List._∷_ 97 (List._∷_
-      110 (List._∷_ 58 (List._∷_ 58 (List._∷_ 83 (List._∷_ 99 (List._∷_ 97 (List._∷_ 110 (List._∷_ 110 (List._∷_ 101 (List._∷_ 100 List.[])))))))))))))))))))) (Syntax.ttcons
-      (Syntax.tcons (Syntax.tyInt Syntax.w64) Syntax.tnil) (Syntax.ttcons (Syntax.tcons (Syntax.tyStruct (List._∷_ 116 (List._∷_ 121 (List._∷_ 112 (List._∷_ 101 (List._∷_ 115
-      (List._∷_ 58 (List._∷_ 58 (List._∷_ 82 (List._∷_ 101 (List._∷_ 102 (List._∷_ 117 (List._∷_ 115 (List._∷_ 97 (List._∷_ 108 List.[])))))))))))))) (Syntax.tcons (Syntax.tyInt
-      Syntax.w32) (Syntax.tcons (Syntax.tyInt Syntax.w64) Syntax.tnil))) Syntax.tnil) Syntax.ttnil))),
-) (List._∷_ (5, Rows'.any-gone (Syntax.tyArray LentTilePartEntry.spelled 2048))
-    (List._∷_ (6, Rows'.any-gone (Syntax.tyRef Syntax.erased Syntax.mut (Syntax.tyArray LentTilePartEntry.pointee 2048))) (List._∷_ (
-      7,
-      Rows'.any-gone (Syntax.tyStruct (List._∷_ 38
-          (List._∷_ 91 (List._∷_ 93 List.[]))) (Syntax.tcons (Syntax.tyRef Syntax.erased Syntax.mut LentTilePartEntry.pointee) (Syntax.tcons (Syntax.tyInt Syntax.w64) Syntax.tnil))),
-    )
-    List.[])))))))
+  Rows'.any-gone (Syntax.tyEnum (List._∷_ 112 (List._∷_ 97 (List._∷_ 114 (List._∷_ 116 (List._∷_ 115 (List._∷_ 58 (List._∷_ 58
+      (List._∷_ 115 (List._∷_ 99 (List._∷_ 97 (List._∷_ 110 (List._∷_ 58 (List._∷_ 58 (List._∷_ 83 (List._∷_ 99 (List._∷_ 97 (List._∷_ 110 (List._∷_ 110 (List._∷_ 101 (List._∷_ 100
+      List.[])))))))))))))))))))) (Syntax.ttcons (Syntax.tcons (Syntax.tyInt Syntax.w64) Syntax.tnil) (Syntax.ttcons (Syntax.tcons (Syntax.tyStruct (List._∷_ 116 (List._∷_ 121
+      (List._∷_ 112 (List._∷_ 101 (List._∷_ 115 (List._∷_ 58 (List._∷_ 58 (List._∷_ 82 (List._∷_ 101 (List._∷_ 102 (List._∷_ 117 (List._∷_ 115 (List._∷_ 97 (List._∷_ 108
+      List.[])))))))))))))) (Syntax.tcons (Syntax.tyInt Syntax.w32) (Syntax.tcons (Syntax.tyInt Syntax.w64) Syntax.tnil))) Syntax.tnil) Syntax.ttnil))),
+) (List._∷_ (
+  5,
+  Rows'.any-gone
+      (Syntax.tyArray LentTilePartEntry.spelled 2048),
+) (List._∷_ (6, Rows'.any-gone (Syntax.tyRef Syntax.erased Syntax.mut (Syntax.tyArray LentTilePartEntry.pointee 2048))) (List._∷_ (
+  7,
+  Rows'.any-gone (Syntax.tyStruct (List._∷_ 38 (List._∷_ 91 (List._∷_ 93 List.[]))) (Syntax.tcons (Syntax.tyRef Syntax.erased Syntax.mut LentTilePartEntry.pointee)
+      (Syntax.tcons (Syntax.tyInt Syntax.w64) Syntax.tnil))),
+) List.[])))))))
 
 abbrev pub t2 : List.List Row.Entry
 t2 = List._∷_ (
@@ -291,28 +343,29 @@ t2 = List._∷_ (
       (List._∷_ 115 (List._∷_ 97 (List._∷_ 108 List.[])))))))))))))) (Syntax.tcons (Syntax.tyInt Syntax.w32) (Syntax.tcons (Syntax.tyInt Syntax.w64) Syntax.tnil))) Syntax.tnil)
       Syntax.ttnil))) (Syntax.tcons (Syntax.tyArray (Syntax.tyStruct (List._∷_ 116 (List._∷_ 121 (List._∷_ 112 (List._∷_ 101 (List._∷_ 115 (List._∷_ 58 (List._∷_ 58 (List._∷_ 84
       (List._∷_ 105 (List._∷_ 108 (List._∷_ 101 (List._∷_ 80 (List._∷_ 97 (List._∷_ 114 (List._∷_ 116 (List._∷_ 69 (List._∷_ 110 (List._∷_ 116 (List._∷_ 114 (List._∷_ 121
-      List.[])))))))))))))))))))) (Syntax.tcons (Syntax.tyInt Syntax.w16) (Syntax.tcons (Syntax.tyInt Syntax.w64) (Syntax.tcons (Syntax.tyInt Syntax.w64) Syntax.tnil)))) 2048)
-      Syntax.tnil))),
-) (List._∷_ (1, Rows'.sslice (Referent.rtF (Referent.fInt Syntax.w8)) (Syntax.tyRef (Syntax.named 0) Syntax.imm (Syntax.tyInt Syntax.w8)) 0) (List._∷_ (
-  2,
-  Rows'.sc-here (Row.sInt Syntax.w64),
-) (List._∷_ (3, Rows'.any-gone (Syntax.tyArray LentTilePartEntry.spelled 2048)) (List._∷_ (
-  4,
-  Rows'.any-gone (Syntax.tyEnum (List._∷_ 112
-      (List._∷_ 97 (List._∷_ 114 (List._∷_ 116 (List._∷_ 115 (List._∷_ 58 (List._∷_ 58 (List._∷_ 115 (List._∷_ 99 (List._∷_ 97 (List._∷_ 110 (List._∷_ 58 (List._∷_ 58 (List._∷_ 83
-      (List._∷_ 99 (List._∷_ 97 (List._∷_ 110 (List._∷_ 110 (List._∷_ 101 (List._∷_ 100 List.[])))))))))))))))))))) (Syntax.ttcons (Syntax.tcons (Syntax.tyInt Syntax.w64)
-      Syntax.tnil) (Syntax.ttcons (Syntax.tcons (Syntax.tyStruct (List._∷_ 116 (List._∷_ 121 (List._∷_ 112 (List._∷_ 101 (List._∷_ 115 (List._∷_ 58 (List._∷_ 58 (List._∷_ 82
-      (List._∷_ 101 (List._∷_ 102 (List._∷_ 117 (List._∷_ 115 (List._∷_ 97 (List._∷_ 108 List.[])))))))))))))) (Syntax.tcons (Syntax.tyInt Syntax.w32) (Syntax.tcons (Syntax.tyInt
-      Syntax.w64) Syntax.tnil))) Syntax.tnil) Syntax.ttnil))),
-) (List._∷_ (5, Rows.arrF LentTilePartEntry.row 2048 0) (List._∷_ (
-  6,
-  Rows'.any-gone (Syntax.tyRef Syntax.erased
-      Syntax.mut (Syntax.tyArray LentTilePartEntry.pointee 2048)),
+      List.[])))))))))))))))))))) (Syntax.tcons (Syntax.tyInt Syntax.w16) (Syntax.tcons (Syntax.tyStruct (List._∷_ 116 (List._∷_ 121 (List._∷_ 112 (List._∷_ 101 (List._∷_ 115
+      (List._∷_ 58 (List._∷_ 58 (List._∷_ 67 (List._∷_ 111 (List._∷_ 100 (List._∷_ 101 (List._∷_ 115 (List._∷_ 116 (List._∷_ 114 (List._∷_ 101 (List._∷_ 97 (List._∷_ 109 (List._∷_ 79
+      (List._∷_ 102 (List._∷_ 102 (List._∷_ 115 (List._∷_ 101 (List._∷_ 116 List.[]))))))))))))))))))))))) (Syntax.tcons (Syntax.tyInt Syntax.w64) Syntax.tnil)) (Syntax.tcons
+      (Syntax.tyInt Syntax.w64) Syntax.tnil)))) 2048) Syntax.tnil))),
 ) (List._∷_ (
-  7,
-  Rows'.any-gone (Syntax.tyStruct (List._∷_ 38 (List._∷_ 91 (List._∷_ 93 List.[]))) (Syntax.tcons
-      (Syntax.tyRef Syntax.erased Syntax.mut LentTilePartEntry.pointee) (Syntax.tcons (Syntax.tyInt Syntax.w64) Syntax.tnil))),
-) List.[])))))))
+  1,
+  Rows'.sslice (Referent.rtF (Referent.fInt Syntax.w8)) (Syntax.tyRef (Syntax.named 0) Syntax.imm
+      (Syntax.tyInt Syntax.w8)) 0,
+) (List._∷_ (2, Rows'.whole (Declared'.row CodestreamOffset.the-type)) (List._∷_ (3, Rows'.any-gone (Syntax.tyArray LentTilePartEntry.spelled 2048))
+    (List._∷_ (
+      4,
+      Rows'.any-gone (Syntax.tyEnum (List._∷_ 112 (List._∷_ 97 (List._∷_ 114 (List._∷_ 116 (List._∷_ 115 (List._∷_ 58 (List._∷_ 58 (List._∷_ 115 (List._∷_ 99 (List._∷_
+          97 (List._∷_ 110 (List._∷_ 58 (List._∷_ 58 (List._∷_ 83 (List._∷_ 99 (List._∷_ 97 (List._∷_ 110 (List._∷_ 110 (List._∷_ 101 (List._∷_ 100 List.[]))))))))))))))))))))
+          (Syntax.ttcons (Syntax.tcons (Syntax.tyInt Syntax.w64) Syntax.tnil) (Syntax.ttcons (Syntax.tcons (Syntax.tyStruct (List._∷_ 116 (List._∷_ 121 (List._∷_ 112 (List._∷_ 101
+          (List._∷_ 115 (List._∷_ 58 (List._∷_ 58 (List._∷_ 82 (List._∷_ 101 (List._∷_ 102 (List._∷_ 117 (List._∷_ 115 (List._∷_ 97 (List._∷_ 108 List.[])))))))))))))) (Syntax.tcons
+          (Syntax.tyInt Syntax.w32) (Syntax.tcons (Syntax.tyInt Syntax.w64) Syntax.tnil))) Syntax.tnil) Syntax.ttnil))),
+    ) (List._∷_ (5, Rows.arrF LentTilePartEntry.row 2048 0) (List._∷_
+    (6, Rows'.any-gone (Syntax.tyRef Syntax.erased Syntax.mut (Syntax.tyArray LentTilePartEntry.pointee 2048))) (List._∷_ (
+      7,
+      Rows'.any-gone (Syntax.tyStruct (List._∷_ 38 (List._∷_
+          91 (List._∷_ 93 List.[]))) (Syntax.tcons (Syntax.tyRef Syntax.erased Syntax.mut LentTilePartEntry.pointee) (Syntax.tcons (Syntax.tyInt Syntax.w64) Syntax.tnil))),
+    )
+    List.[])))))))
 
 abbrev pub t3 : List.List Row.Entry
 t3 = List._∷_ (
@@ -326,264 +379,15 @@ t3 = List._∷_ (
       (List._∷_ 115 (List._∷_ 97 (List._∷_ 108 List.[])))))))))))))) (Syntax.tcons (Syntax.tyInt Syntax.w32) (Syntax.tcons (Syntax.tyInt Syntax.w64) Syntax.tnil))) Syntax.tnil)
       Syntax.ttnil))) (Syntax.tcons (Syntax.tyArray (Syntax.tyStruct (List._∷_ 116 (List._∷_ 121 (List._∷_ 112 (List._∷_ 101 (List._∷_ 115 (List._∷_ 58 (List._∷_ 58 (List._∷_ 84
       (List._∷_ 105 (List._∷_ 108 (List._∷_ 101 (List._∷_ 80 (List._∷_ 97 (List._∷_ 114 (List._∷_ 116 (List._∷_ 69 (List._∷_ 110 (List._∷_ 116 (List._∷_ 114 (List._∷_ 121
-      List.[])))))))))))))))))))) (Syntax.tcons (Syntax.tyInt Syntax.w16) (Syntax.tcons (Syntax.tyInt Syntax.w64) (Syntax.tcons (Syntax.tyInt Syntax.w64) Syntax.tnil)))) 2048)
-      Syntax.tnil))),
-) (List._∷_ (1, Rows'.sslice (Referent.rtF (Referent.fInt Syntax.w8)) (Syntax.tyRef (Syntax.named 0) Syntax.imm (Syntax.tyInt Syntax.w8)) 0) (List._∷_ (
-  2,
-  Rows'.sc-here (Row.sInt Syntax.w64),
-) (List._∷_ (3, Rows.arrF LentTilePartEntry.row 2048 0) (List._∷_ (
-  4,
-  Rows'.any-gone (Syntax.tyEnum (List._∷_ 112 (List._∷_ 97 (List._∷_ 114
-      (List._∷_ 116 (List._∷_ 115 (List._∷_ 58 (List._∷_ 58 (List._∷_ 115 (List._∷_ 99 (List._∷_ 97 (List._∷_ 110 (List._∷_ 58 (List._∷_ 58 (List._∷_ 83 (List._∷_ 99 (List._∷_ 97
-      (List._∷_ 110 (List._∷_ 110 (List._∷_ 101 (List._∷_ 100 List.[])))))))))))))))))))) (Syntax.ttcons (Syntax.tcons (Syntax.tyInt Syntax.w64) Syntax.tnil) (Syntax.ttcons
-      (Syntax.tcons (Syntax.tyStruct (List._∷_ 116 (List._∷_ 121 (List._∷_ 112 (List._∷_ 101 (List._∷_ 115 (List._∷_ 58 (List._∷_ 58 (List._∷_ 82 (List._∷_ 101 (List._∷_ 102
-      (List._∷_ 117 (List._∷_ 115 (List._∷_ 97 (List._∷_ 108 List.[])))))))))))))) (Syntax.tcons (Syntax.tyInt Syntax.w32) (Syntax.tcons (Syntax.tyInt Syntax.w64) Syntax.tnil)))
-      Syntax.tnil) Syntax.ttnil))),
-) (List._∷_ (5, Rows.arrF LentTilePartEntry.row 2048 0) (List._∷_ (
-  6,
-  Rows'.any-gone (Syntax.tyRef Syntax.erased Syntax.mut (Syntax.tyArray
-      LentTilePartEntry.pointee 2048)),
+      List.[])))))))))))))))))))) (Syntax.tcons (Syntax.tyInt Syntax.w16) (Syntax.tcons (Syntax.tyStruct (List._∷_ 116 (List._∷_ 121 (List._∷_ 112 (List._∷_ 101 (List._∷_ 115
+      (List._∷_ 58 (List._∷_ 58 (List._∷_ 67 (List._∷_ 111 (List._∷_ 100 (List._∷_ 101 (List._∷_ 115 (List._∷_ 116 (List._∷_ 114 (List._∷_ 101 (List._∷_ 97 (List._∷_ 109 (List._∷_ 79
+      (List._∷_ 102 (List._∷_ 102 (List._∷_ 115 (List._∷_ 101 (List._∷_ 116 List.[]))))))))))))))))))))))) (Syntax.tcons (Syntax.tyInt Syntax.w64) Syntax.tnil)) (Syntax.tcons
+      (Syntax.tyInt Syntax.w64) Syntax.tnil)))) 2048) Syntax.tnil))),
 ) (List._∷_ (
-  7,
-  Rows'.any-gone (Syntax.tyStruct (List._∷_ 38 (List._∷_ 91 (List._∷_ 93 List.[]))) (Syntax.tcons (Syntax.tyRef Syntax.erased
-      Syntax.mut LentTilePartEntry.pointee) (Syntax.tcons (Syntax.tyInt Syntax.w64) Syntax.tnil))),
-) List.[])))))))
-
-abbrev pub t4 : List.List Row.Entry
-t4 = List._∷_ (
-  0,
-  Rows'.any-gone (Syntax.tyStruct (List._∷_ 114 (List._∷_ 101 (List._∷_ 99 (List._∷_ 111 (List._∷_ 114 (List._∷_ 100 (List._∷_ 115 (List._∷_ 58 (List._∷_ 58
-      (List._∷_ 116 (List._∷_ 97 (List._∷_ 98 (List._∷_ 108 (List._∷_ 101 (List._∷_ 115 (List._∷_ 58 (List._∷_ 58 (List._∷_ 83 (List._∷_ 99 (List._∷_ 97 (List._∷_ 110 (List._∷_ 84
-      (List._∷_ 97 (List._∷_ 98 (List._∷_ 108 (List._∷_ 101 List.[])))))))))))))))))))))))))) (Syntax.tcons (Syntax.tyEnum (List._∷_ 112 (List._∷_ 97 (List._∷_ 114 (List._∷_ 116
-      (List._∷_ 115 (List._∷_ 58 (List._∷_ 58 (List._∷_ 115 (List._∷_ 99 (List._∷_ 97 (List._∷_ 110 (List._∷_ 58 (List._∷_ 58 (List._∷_ 83 (List._∷_ 99 (List._∷_ 97 (List._∷_ 110
-      (List._∷_ 110 (List._∷_ 101 (List._∷_ 100 List.[])))))))))))))))))))) (Syntax.ttcons (Syntax.tcons (Syntax.tyInt Syntax.w64) Syntax.tnil) (Syntax.ttcons (Syntax.tcons
-      (Syntax.tyStruct (List._∷_ 116 (List._∷_ 121 (List._∷_ 112 (List._∷_ 101 (List._∷_ 115 (List._∷_ 58 (List._∷_ 58 (List._∷_ 82 (List._∷_ 101 (List._∷_ 102 (List._∷_ 117
-      (List._∷_ 115 (List._∷_ 97 (List._∷_ 108 List.[])))))))))))))) (Syntax.tcons (Syntax.tyInt Syntax.w32) (Syntax.tcons (Syntax.tyInt Syntax.w64) Syntax.tnil))) Syntax.tnil)
-      Syntax.ttnil))) (Syntax.tcons (Syntax.tyArray (Syntax.tyStruct (List._∷_ 116 (List._∷_ 121 (List._∷_ 112 (List._∷_ 101 (List._∷_ 115 (List._∷_ 58 (List._∷_ 58 (List._∷_ 84
-      (List._∷_ 105 (List._∷_ 108 (List._∷_ 101 (List._∷_ 80 (List._∷_ 97 (List._∷_ 114 (List._∷_ 116 (List._∷_ 69 (List._∷_ 110 (List._∷_ 116 (List._∷_ 114 (List._∷_ 121
-      List.[])))))))))))))))))))) (Syntax.tcons (Syntax.tyInt Syntax.w16) (Syntax.tcons (Syntax.tyInt Syntax.w64) (Syntax.tcons (Syntax.tyInt Syntax.w64) Syntax.tnil)))) 2048)
-      Syntax.tnil))),
-) (List._∷_ (1, Rows'.sslice (Referent.rtF (Referent.fInt Syntax.w8)) (Syntax.tyRef (Syntax.named 0) Syntax.imm (Syntax.tyInt Syntax.w8)) 0) (List._∷_ (
-  2,
-  Rows'.sc-here (Row.sInt Syntax.w64),
-) (List._∷_ (3, Rows.arrF LentTilePartEntry.row 2048 0) (List._∷_ (
-  4,
-  Rows'.any-gone (Syntax.tyEnum (List._∷_ 112 (List._∷_ 97 (List._∷_ 114
-      (List._∷_ 116 (List._∷_ 115 (List._∷_ 58 (List._∷_ 58 (List._∷_ 115 (List._∷_ 99 (List._∷_ 97 (List._∷_ 110 (List._∷_ 58 (List._∷_ 58 (List._∷_ 83 (List._∷_ 99 (List._∷_ 97
-      (List._∷_ 110 (List._∷_ 110 (List._∷_ 101 (List._∷_ 100 List.[])))))))))))))))))))) (Syntax.ttcons (Syntax.tcons (Syntax.tyInt Syntax.w64) Syntax.tnil) (Syntax.ttcons
-      (Syntax.tcons (Syntax.tyStruct (List._∷_ 116 (List._∷_ 121 (List._∷_ 112 (List._∷_ 101 (List._∷_ 115 (List._∷_ 58 (List._∷_ 58 (List._∷_ 82 (List._∷_ 101 (List._∷_ 102
-      (List._∷_ 117 (List._∷_ 115 (List._∷_ 97 (List._∷_ 108 List.[])))))))))))))) (Syntax.tcons (Syntax.tyInt Syntax.w32) (Syntax.tcons (Syntax.tyInt Syntax.w64) Syntax.tnil)))
-      Syntax.tnil) Syntax.ttnil))),
-) (List._∷_ (5, Rows'.any-gone (Syntax.tyArray LentTilePartEntry.spelled 2048)) (List._∷_ (
-  6,
-  Rows'.any-gone (Syntax.tyRef Syntax.erased Syntax.mut
-      (Syntax.tyArray LentTilePartEntry.pointee 2048)),
-) (List._∷_ (
-  7,
-  Rows'.any-gone (Syntax.tyStruct (List._∷_ 38 (List._∷_ 91 (List._∷_ 93 List.[]))) (Syntax.tcons (Syntax.tyRef
-      Syntax.erased Syntax.mut LentTilePartEntry.pointee) (Syntax.tcons (Syntax.tyInt Syntax.w64) Syntax.tnil))),
-) List.[])))))))
-
-abbrev pub t5 : List.List Row.Entry
-t5 = List._∷_ (
-  0,
-  Rows'.any-gone (Syntax.tyStruct (List._∷_ 114 (List._∷_ 101 (List._∷_ 99 (List._∷_ 111 (List._∷_ 114 (List._∷_ 100 (List._∷_ 115 (List._∷_ 58 (List._∷_ 58
-      (List._∷_ 116 (List._∷_ 97 (List._∷_ 98 (List._∷_ 108 (List._∷_ 101 (List._∷_ 115 (List._∷_ 58 (List._∷_ 58 (List._∷_ 83 (List._∷_ 99 (List._∷_ 97 (List._∷_ 110 (List._∷_ 84
-      (List._∷_ 97 (List._∷_ 98 (List._∷_ 108 (List._∷_ 101 List.[])))))))))))))))))))))))))) (Syntax.tcons (Syntax.tyEnum (List._∷_ 112 (List._∷_ 97 (List._∷_ 114 (List._∷_ 116
-      (List._∷_ 115 (List._∷_ 58 (List._∷_ 58 (List._∷_ 115 (List._∷_ 99 (List._∷_ 97 (List._∷_ 110 (List._∷_ 58 (List._∷_ 58 (List._∷_ 83 (List._∷_ 99 (List._∷_ 97 (List._∷_ 110
-      (List._∷_ 110 (List._∷_ 101 (List._∷_ 100 List.[])))))))))))))))))))) (Syntax.ttcons (Syntax.tcons (Syntax.tyInt Syntax.w64) Syntax.tnil) (Syntax.ttcons (Syntax.tcons
-      (Syntax.tyStruct (List._∷_ 116 (List._∷_ 121 (List._∷_ 112 (List._∷_ 101 (List._∷_ 115 (List._∷_ 58 (List._∷_ 58 (List._∷_ 82 (List._∷_ 101 (List._∷_ 102 (List._∷_ 117
-      (List._∷_ 115 (List._∷_ 97 (List._∷_ 108 List.[])))))))))))))) (Syntax.tcons (Syntax.tyInt Syntax.w32) (Syntax.tcons (Syntax.tyInt Syntax.w64) Syntax.tnil))) Syntax.tnil)
-      Syntax.ttnil))) (Syntax.tcons (Syntax.tyArray (Syntax.tyStruct (List._∷_ 116 (List._∷_ 121 (List._∷_ 112 (List._∷_ 101 (List._∷_ 115 (List._∷_ 58 (List._∷_ 58 (List._∷_ 84
-      (List._∷_ 105 (List._∷_ 108 (List._∷_ 101 (List._∷_ 80 (List._∷_ 97 (List._∷_ 114 (List._∷_ 116 (List._∷_ 69 (List._∷_ 110 (List._∷_ 116 (List._∷_ 114 (List._∷_ 121
-      List.[])))))))))))))))))))) (Syntax.tcons (Syntax.tyInt Syntax.w16) (Syntax.tcons (Syntax.tyInt Syntax.w64) (Syntax.tcons (Syntax.tyInt Syntax.w64) Syntax.tnil)))) 2048)
-      Syntax.tnil))),
-) (List._∷_ (1, Rows'.sslice (Referent.rtF (Referent.fInt Syntax.w8)) (Syntax.tyRef (Syntax.named 0) Syntax.imm (Syntax.tyInt Syntax.w8)) 0) (List._∷_ (
-  2,
-  Rows'.sc-here (Row.sInt Syntax.w64),
-) (List._∷_ (3, Rows.arr-owed LentTilePartEntry.row 2048 1) (List._∷_ (
-  4,
-  Rows'.any-gone (Syntax.tyEnum (List._∷_ 112 (List._∷_ 97 (List._∷_
-      114 (List._∷_ 116 (List._∷_ 115 (List._∷_ 58 (List._∷_ 58 (List._∷_ 115 (List._∷_ 99 (List._∷_ 97 (List._∷_ 110 (List._∷_ 58 (List._∷_ 58 (List._∷_ 83 (List._∷_ 99 (List._∷_ 97
-      (List._∷_ 110 (List._∷_ 110 (List._∷_ 101 (List._∷_ 100 List.[])))))))))))))))))))) (Syntax.ttcons (Syntax.tcons (Syntax.tyInt Syntax.w64) Syntax.tnil) (Syntax.ttcons
-      (Syntax.tcons (Syntax.tyStruct (List._∷_ 116 (List._∷_ 121 (List._∷_ 112 (List._∷_ 101 (List._∷_ 115 (List._∷_ 58 (List._∷_ 58 (List._∷_ 82 (List._∷_ 101 (List._∷_ 102
-      (List._∷_ 117 (List._∷_ 115 (List._∷_ 97 (List._∷_ 108 List.[])))))))))))))) (Syntax.tcons (Syntax.tyInt Syntax.w32) (Syntax.tcons (Syntax.tyInt Syntax.w64) Syntax.tnil)))
-      Syntax.tnil) Syntax.ttnil))),
-) (List._∷_ (5, Rows'.any-gone (Syntax.tyArray LentTilePartEntry.spelled 2048)) (List._∷_ (
-  6,
-  Relend.msptr LentTilePartEntry.row (Syntax.tyRef
-      Syntax.erased Syntax.mut (Syntax.tyArray LentTilePartEntry.pointee 2048)) 1,
-) (List._∷_ (
-  7,
-  Rows'.any-gone (Syntax.tyStruct (List._∷_ 38 (List._∷_ 91 (List._∷_ 93 List.[])))
-      (Syntax.tcons (Syntax.tyRef Syntax.erased Syntax.mut LentTilePartEntry.pointee) (Syntax.tcons (Syntax.tyInt Syntax.w64) Syntax.tnil))),
-) List.[])))))))
-
-abbrev pub t6 : List.List Row.Entry
-t6 = List._∷_ (
-  0,
-  Rows'.any-gone (Syntax.tyStruct (List._∷_ 114 (List._∷_ 101 (List._∷_ 99 (List._∷_ 111 (List._∷_ 114 (List._∷_ 100 (List._∷_ 115 (List._∷_ 58 (List._∷_ 58
-      (List._∷_ 116 (List._∷_ 97 (List._∷_ 98 (List._∷_ 108 (List._∷_ 101 (List._∷_ 115 (List._∷_ 58 (List._∷_ 58 (List._∷_ 83 (List._∷_ 99 (List._∷_ 97 (List._∷_ 110 (List._∷_ 84
-      (List._∷_ 97 (List._∷_ 98 (List._∷_ 108 (List._∷_ 101 List.[])))))))))))))))))))))))))) (Syntax.tcons (Syntax.tyEnum (List._∷_ 112 (List._∷_ 97 (List._∷_ 114 (List._∷_ 116
-      (List._∷_ 115 (List._∷_ 58 (List._∷_ 58 (List._∷_ 115 (List._∷_ 99 (List._∷_ 97 (List._∷_ 110 (List._∷_ 58 (List._∷_ 58 (List._∷_ 83 (List._∷_ 99 (List._∷_ 97 (List._∷_ 110
-      (List._∷_ 110 (List._∷_ 101 (List._∷_ 100 List.[])))))))))))))))))))) (Syntax.ttcons (Syntax.tcons (Syntax.tyInt Syntax.w64) Syntax.tnil) (Syntax.ttcons (Syntax.tcons
-      (Syntax.tyStruct (List._∷_ 116 (List._∷_ 121 (List._∷_ 112 (List._∷_ 101 (List._∷_ 115 (List._∷_ 58 (List._∷_ 58 (List._∷_ 82 (List._∷_ 101 (List._∷_ 102 (List._∷_ 117
-      (List._∷_ 115 (List._∷_ 97 (List._∷_ 108 List.[])))))))))))))) (Syntax.tcons (Syntax.tyInt Syntax.w32) (Syntax.tcons (Syntax.tyInt Syntax.w64) Syntax.tnil))) Syntax.tnil)
-      Syntax.ttnil))) (Syntax.tcons (Syntax.tyArray (Syntax.tyStruct (List._∷_ 116 (List._∷_ 121 (List._∷_ 112 (List._∷_ 101 (List._∷_ 115 (List._∷_ 58 (List._∷_ 58 (List._∷_ 84
-      (List._∷_ 105 (List._∷_ 108 (List._∷_ 101 (List._∷_ 80 (List._∷_ 97 (List._∷_ 114 (List._∷_ 116 (List._∷_ 69 (List._∷_ 110 (List._∷_ 116 (List._∷_ 114 (List._∷_ 121
-      List.[])))))))))))))))))))) (Syntax.tcons (Syntax.tyInt Syntax.w16) (Syntax.tcons (Syntax.tyInt Syntax.w64) (Syntax.tcons (Syntax.tyInt Syntax.w64) Syntax.tnil)))) 2048)
-      Syntax.tnil))),
-) (List._∷_ (1, Rows'.sslice (Referent.rtF (Referent.fInt Syntax.w8)) (Syntax.tyRef (Syntax.named 0) Syntax.imm (Syntax.tyInt Syntax.w8)) 0) (List._∷_ (
-  2,
-  Rows'.sc-here (Row.sInt Syntax.w64),
-) (List._∷_ (3, Rows.arr-owed LentTilePartEntry.row 2048 1) (List._∷_ (
-  4,
-  Rows'.any-gone (Syntax.tyEnum (List._∷_ 112 (List._∷_ 97 (List._∷_
-      114 (List._∷_ 116 (List._∷_ 115 (List._∷_ 58 (List._∷_ 58 (List._∷_ 115 (List._∷_ 99 (List._∷_ 97 (List._∷_ 110 (List._∷_ 58 (List._∷_ 58 (List._∷_ 83 (List._∷_ 99 (List._∷_ 97
-      (List._∷_ 110 (List._∷_ 110 (List._∷_ 101 (List._∷_ 100 List.[])))))))))))))))))))) (Syntax.ttcons (Syntax.tcons (Syntax.tyInt Syntax.w64) Syntax.tnil) (Syntax.ttcons
-      (Syntax.tcons (Syntax.tyStruct (List._∷_ 116 (List._∷_ 121 (List._∷_ 112 (List._∷_ 101 (List._∷_ 115 (List._∷_ 58 (List._∷_ 58 (List._∷_ 82 (List._∷_ 101 (List._∷_ 102
-      (List._∷_ 117 (List._∷_ 115 (List._∷_ 97 (List._∷_ 108 List.[])))))))))))))) (Syntax.tcons (Syntax.tyInt Syntax.w32) (Syntax.tcons (Syntax.tyInt Syntax.w64) Syntax.tnil)))
-      Syntax.tnil) Syntax.ttnil))),
-) (List._∷_ (5, Rows'.any-gone (Syntax.tyArray LentTilePartEntry.spelled 2048)) (List._∷_ (
-  6,
-  Rows'.any-gone (Syntax.tyRef Syntax.erased Syntax.mut
-      (Syntax.tyArray LentTilePartEntry.pointee 2048)),
-) (List._∷_ (7, Mut.mslice LentTilePartEntry.row (Syntax.tyRef Syntax.erased Syntax.mut LentTilePartEntry.pointee) 1)
-    List.[])))))))
-
-abbrev pub t7 : List.List Row.Entry
-t7 = List._∷_ (
-  0,
-  Rows'.any-gone (Syntax.tyStruct (List._∷_ 114 (List._∷_ 101 (List._∷_ 99 (List._∷_ 111 (List._∷_ 114 (List._∷_ 100 (List._∷_ 115 (List._∷_ 58 (List._∷_ 58
-      (List._∷_ 116 (List._∷_ 97 (List._∷_ 98 (List._∷_ 108 (List._∷_ 101 (List._∷_ 115 (List._∷_ 58 (List._∷_ 58 (List._∷_ 83 (List._∷_ 99 (List._∷_ 97 (List._∷_ 110 (List._∷_ 84
-      (List._∷_ 97 (List._∷_ 98 (List._∷_ 108 (List._∷_ 101 List.[])))))))))))))))))))))))))) (Syntax.tcons (Syntax.tyEnum (List._∷_ 112 (List._∷_ 97 (List._∷_ 114 (List._∷_ 116
-      (List._∷_ 115 (List._∷_ 58 (List._∷_ 58 (List._∷_ 115 (List._∷_ 99 (List._∷_ 97 (List._∷_ 110 (List._∷_ 58 (List._∷_ 58 (List._∷_ 83 (List._∷_ 99 (List._∷_ 97 (List._∷_ 110
-      (List._∷_ 110 (List._∷_ 101 (List._∷_ 100 List.[])))))))))))))))))))) (Syntax.ttcons (Syntax.tcons (Syntax.tyInt Syntax.w64) Syntax.tnil) (Syntax.ttcons (Syntax.tcons
-      (Syntax.tyStruct (List._∷_ 116 (List._∷_ 121 (List._∷_ 112 (List._∷_ 101 (List._∷_ 115 (List._∷_ 58 (List._∷_ 58 (List._∷_ 82 (List._∷_ 101 (List._∷_ 102 (List._∷_ 117
-      (List._∷_ 115 (List._∷_ 97 (List._∷_ 108 List.[])))))))))))))) (Syntax.tcons (Syntax.tyInt Syntax.w32) (Syntax.tcons (Syntax.tyInt Syntax.w64) Syntax.tnil))) Syntax.tnil)
-      Syntax.ttnil))) (Syntax.tcons (Syntax.tyArray (Syntax.tyStruct (List._∷_ 116 (List._∷_ 121 (List._∷_ 112 (List._∷_ 101 (List._∷_ 115 (List._∷_ 58 (List._∷_ 58 (List._∷_ 84
-      (List._∷_ 105 (List._∷_ 108 (List._∷_ 101 (List._∷_ 80 (List._∷_ 97 (List._∷_ 114 (List._∷_ 116 (List._∷_ 69 (List._∷_ 110 (List._∷_ 116 (List._∷_ 114 (List._∷_ 121
-      List.[])))))))))))))))))))) (Syntax.tcons (Syntax.tyInt Syntax.w16) (Syntax.tcons (Syntax.tyInt Syntax.w64) (Syntax.tcons (Syntax.tyInt Syntax.w64) Syntax.tnil)))) 2048)
-      Syntax.tnil))),
-) (List._∷_ (1, Rows'.sslice (Referent.rtF (Referent.fInt Syntax.w8)) (Syntax.tyRef (Syntax.named 0) Syntax.imm (Syntax.tyInt Syntax.w8)) 0) (List._∷_ (
-  2,
-  Rows'.sc-here (Row.sInt Syntax.w64),
-) (List._∷_ (3, Rows.arr-owed LentTilePartEntry.row 2048 1) (List._∷_ (4, Rows'.whole (Declared.row Scanned.the-type)) (List._∷_ (
-  5,
-  Rows'.any-gone (Syntax.tyArray LentTilePartEntry.spelled 2048),
-) (List._∷_ (
-  6,
-  Rows'.any-gone (Syntax.tyRef Syntax.erased Syntax.mut (Syntax.tyArray LentTilePartEntry.pointee
-      2048)),
-) (List._∷_ (7, Mut.msleft LentTilePartEntry.row (Syntax.tyRef Syntax.erased Syntax.mut LentTilePartEntry.pointee)) List.[])))))))
-
-abbrev pub t8 : List.List Row.Entry
-t8 = List._∷_ (
-  0,
-  Rows'.any-gone (Syntax.tyStruct (List._∷_ 114 (List._∷_ 101 (List._∷_ 99 (List._∷_ 111 (List._∷_ 114 (List._∷_ 100 (List._∷_ 115 (List._∷_ 58 (List._∷_ 58
-      (List._∷_ 116 (List._∷_ 97 (List._∷_ 98 (List._∷_ 108 (List._∷_ 101 (List._∷_ 115 (List._∷_ 58 (List._∷_ 58 (List._∷_ 83 (List._∷_ 99 (List._∷_ 97 (List._∷_ 110 (List._∷_ 84
-      (List._∷_ 97 (List._∷_ 98 (List._∷_ 108 (List._∷_ 101 List.[])))))))))))))))))))))))))) (Syntax.tcons (Syntax.tyEnum (List._∷_ 112 (List._∷_ 97 (List._∷_ 114 (List._∷_ 116
-      (List._∷_ 115 (List._∷_ 58 (List._∷_ 58 (List._∷_ 115 (List._∷_ 99 (List._∷_ 97 (List._∷_ 110 (List._∷_ 58 (List._∷_ 58 (List._∷_ 83 (List._∷_ 99 (List._∷_ 97 (List._∷_ 110
-      (List._∷_ 110 (List._∷_ 101 (List._∷_ 100 List.[])))))))))))))))))))) (Syntax.ttcons (Syntax.tcons (Syntax.tyInt Syntax.w64) Syntax.tnil) (Syntax.ttcons (Syntax.tcons
-      (Syntax.tyStruct (List._∷_ 116 (List._∷_ 121 (List._∷_ 112 (List._∷_ 101 (List._∷_ 115 (List._∷_ 58 (List._∷_ 58 (List._∷_ 82 (List._∷_ 101 (List._∷_ 102 (List._∷_ 117
-      (List._∷_ 115 (List._∷_ 97 (List._∷_ 108 List.[])))))))))))))) (Syntax.tcons (Syntax.tyInt Syntax.w32) (Syntax.tcons (Syntax.tyInt Syntax.w64) Syntax.tnil))) Syntax.tnil)
-      Syntax.ttnil))) (Syntax.tcons (Syntax.tyArray (Syntax.tyStruct (List._∷_ 116 (List._∷_ 121 (List._∷_ 112 (List._∷_ 101 (List._∷_ 115 (List._∷_ 58 (List._∷_ 58 (List._∷_ 84
-      (List._∷_ 105 (List._∷_ 108 (List._∷_ 101 (List._∷_ 80 (List._∷_ 97 (List._∷_ 114 (List._∷_ 116 (List._∷_ 69 (List._∷_ 110 (List._∷_ 116 (List._∷_ 114 (List._∷_ 121
-      List.[])))))))))))))))))))) (Syntax.tcons (Syntax.tyInt Syntax.w16) (Syntax.tcons (Syntax.tyInt Syntax.w64) (Syntax.tcons (Syntax.tyInt Syntax.w64) Syntax.tnil)))) 2048)
-      Syntax.tnil))),
-) (List._∷_ (1, Rows'.sslice (Referent.rtF (Referent.fInt Syntax.w8)) (Syntax.tyRef (Syntax.named 0) Syntax.imm (Syntax.tyInt Syntax.w8)) 0) (List._∷_ (
-  2,
-  Rows'.sc-here (Row.sInt Syntax.w64),
-) (List._∷_ (3, Rows.arrF LentTilePartEntry.row 2048 0) (List._∷_ (4, Rows'.whole (Declared.row Scanned.the-type)) (List._∷_ (
-  5,
-  Rows'.any-gone (Syntax.tyArray LentTilePartEntry.spelled 2048),
-) (List._∷_ (
-  6,
-  Rows'.any-gone (Syntax.tyRef Syntax.erased Syntax.mut (Syntax.tyArray LentTilePartEntry.pointee
-      2048)),
-) (List._∷_ (
-  7,
-  Rows'.any-gone (Syntax.tyStruct (List._∷_ 38 (List._∷_ 91 (List._∷_ 93 List.[]))) (Syntax.tcons (Syntax.tyRef Syntax.erased Syntax.mut
-      LentTilePartEntry.pointee) (Syntax.tcons (Syntax.tyInt Syntax.w64) Syntax.tnil))),
-) List.[])))))))
-
-abbrev pub t9 : List.List Row.Entry
-t9 = List._∷_ (
-  0,
-  Rows'.any-gone (Syntax.tyStruct (List._∷_ 114 (List._∷_ 101 (List._∷_ 99 (List._∷_ 111 (List._∷_ 114 (List._∷_ 100 (List._∷_ 115 (List._∷_ 58 (List._∷_ 58
-      (List._∷_ 116 (List._∷_ 97 (List._∷_ 98 (List._∷_ 108 (List._∷_ 101 (List._∷_ 115 (List._∷_ 58 (List._∷_ 58 (List._∷_ 83 (List._∷_ 99 (List._∷_ 97 (List._∷_ 110 (List._∷_ 84
-      (List._∷_ 97 (List._∷_ 98 (List._∷_ 108 (List._∷_ 101 List.[])))))))))))))))))))))))))) (Syntax.tcons (Syntax.tyEnum (List._∷_ 112 (List._∷_ 97 (List._∷_ 114 (List._∷_ 116
-      (List._∷_ 115 (List._∷_ 58 (List._∷_ 58 (List._∷_ 115 (List._∷_ 99 (List._∷_ 97 (List._∷_ 110 (List._∷_ 58 (List._∷_ 58 (List._∷_ 83 (List._∷_ 99 (List._∷_ 97 (List._∷_ 110
-      (List._∷_ 110 (List._∷_ 101 (List._∷_ 100 List.[])))))))))))))))))))) (Syntax.ttcons (Syntax.tcons (Syntax.tyInt Syntax.w64) Syntax.tnil) (Syntax.ttcons (Syntax.tcons
-      (Syntax.tyStruct (List._∷_ 116 (List._∷_ 121 (List._∷_ 112 (List._∷_ 101 (List._∷_ 115 (List._∷_ 58 (List._∷_ 58 (List._∷_ 82 (List._∷_ 101 (List._∷_ 102 (List._∷_ 117
-      (List._∷_ 115 (List._∷_ 97 (List._∷_ 108 List.[])))))))))))))) (Syntax.tcons (Syntax.tyInt Syntax.w32) (Syntax.tcons (Syntax.tyInt Syntax.w64) Syntax.tnil))) Syntax.tnil)
-      Syntax.ttnil))) (Syntax.tcons (Syntax.tyArray (Syntax.tyStruct (List._∷_ 116 (List._∷_ 121 (List._∷_ 112 (List._∷_ 101 (List._∷_ 115 (List._∷_ 58 (List._∷_ 58 (List._∷_ 84
-      (List._∷_ 105 (List._∷_ 108 (List._∷_ 101 (List._∷_ 80 (List._∷_ 97 (List._∷_ 114 (List._∷_ 116 (List._∷_ 69 (List._∷_ 110 (List._∷_ 116 (List._∷_ 114 (List._∷_ 121
-      List.[])))))))))))))))))))) (Syntax.tcons (Syntax.tyInt Syntax.w16) (Syntax.tcons (Syntax.tyInt Syntax.w64) (Syntax.tcons (Syntax.tyInt Syntax.w64) Syntax.tnil)))) 2048)
-      Syntax.tnil))),
-) (List._∷_ (1, Rows'.sslice (Referent.rtF (Referent.fInt Syntax.w8)) (Syntax.tyRef (Syntax.named 0) Syntax.imm (Syntax.tyInt Syntax.w8)) 0) (List._∷_ (
-  2,
-  Rows'.sc-here (Row.sInt Syntax.w64),
-) (List._∷_ (3, Rows.arrF LentTilePartEntry.row 2048 0) (List._∷_ (4, Rows'.whole (Declared.row Scanned.the-type)) (List._∷_ (
-  5,
-  Rows.arrF
-      LentTilePartEntry.row 2048 0,
-) (List._∷_ (6, Rows'.any-gone (Syntax.tyRef Syntax.erased Syntax.mut (Syntax.tyArray LentTilePartEntry.pointee 2048))) (List._∷_ (
-  7,
-  Rows'.any-gone
-      (Syntax.tyStruct (List._∷_ 38 (List._∷_ 91 (List._∷_ 93 List.[]))) (Syntax.tcons (Syntax.tyRef Syntax.erased Syntax.mut LentTilePartEntry.pointee) (Syntax.tcons (Syntax.tyInt
-      Syntax.w64) Syntax.tnil))),
-) List.[])))))))
-
-abbrev pub t10 : List.List Row.Entry
-t10 = List._∷_ (
-  0,
-  Rows'.any-gone (Syntax.tyStruct (List._∷_ 114 (List._∷_ 101 (List._∷_ 99 (List._∷_ 111 (List._∷_ 114 (List._∷_ 100 (List._∷_ 115 (List._∷_ 58 (List._∷_ 58
-      (List._∷_ 116 (List._∷_ 97 (List._∷_ 98 (List._∷_ 108 (List._∷_ 101 (List._∷_ 115 (List._∷_ 58 (List._∷_ 58 (List._∷_ 83 (List._∷_ 99 (List._∷_ 97 (List._∷_ 110 (List._∷_ 84
-      (List._∷_ 97 (List._∷_ 98 (List._∷_ 108 (List._∷_ 101 List.[])))))))))))))))))))))))))) (Syntax.tcons (Syntax.tyEnum (List._∷_ 112 (List._∷_ 97 (List._∷_ 114 (List._∷_ 116
-      (List._∷_ 115 (List._∷_ 58 (List._∷_ 58 (List._∷_ 115 (List._∷_ 99 (List._∷_ 97 (List._∷_ 110 (List._∷_ 58 (List._∷_ 58 (List._∷_ 83 (List._∷_ 99 (List._∷_ 97 (List._∷_ 110
-      (List._∷_ 110 (List._∷_ 101 (List._∷_ 100 List.[])))))))))))))))))))) (Syntax.ttcons (Syntax.tcons (Syntax.tyInt Syntax.w64) Syntax.tnil) (Syntax.ttcons (Syntax.tcons
-      (Syntax.tyStruct (List._∷_ 116 (List._∷_ 121 (List._∷_ 112 (List._∷_ 101 (List._∷_ 115 (List._∷_ 58 (List._∷_ 58 (List._∷_ 82 (List._∷_ 101 (List._∷_ 102 (List._∷_ 117
-      (List._∷_ 115 (List._∷_ 97 (List._∷_ 108 List.[])))))))))))))) (Syntax.tcons (Syntax.tyInt Syntax.w32) (Syntax.tcons (Syntax.tyInt Syntax.w64) Syntax.tnil))) Syntax.tnil)
-      Syntax.ttnil))) (Syntax.tcons (Syntax.tyArray (Syntax.tyStruct (List._∷_ 116 (List._∷_ 121 (List._∷_ 112 (List._∷_ 101 (List._∷_ 115 (List._∷_ 58 (List._∷_ 58 (List._∷_ 84
-      (List._∷_ 105 (List._∷_ 108 (List._∷_ 101 (List._∷_ 80 (List._∷_ 97 (List._∷_ 114 (List._∷_ 116 (List._∷_ 69 (List._∷_ 110 (List._∷_ 116 (List._∷_ 114 (List._∷_ 121
-      List.[])))))))))))))))))))) (Syntax.tcons (Syntax.tyInt Syntax.w16) (Syntax.tcons (Syntax.tyInt Syntax.w64) (Syntax.tcons (Syntax.tyInt Syntax.w64) Syntax.tnil)))) 2048)
-      Syntax.tnil))),
-) (List._∷_ (1, Rows'.sslice (Referent.rtF (Referent.fInt Syntax.w8)) (Syntax.tyRef (Syntax.named 0) Syntax.imm (Syntax.tyInt Syntax.w8)) 0) (List._∷_ (
-  2,
-  Rows'.sc-here (Row.sInt Syntax.w64),
-) (List._∷_ (3, Rows'.any-gone (Syntax.tyArray LentTilePartEntry.spelled 2048)) (List._∷_ (4, Rows'.whole (Declared.row Scanned.the-type))
-    (List._∷_ (5, Rows.arrF LentTilePartEntry.row 2048 0) (List._∷_ (6, Rows'.any-gone (Syntax.tyRef Syntax.erased Syntax.mut (Syntax.tyArray LentTilePartEntry.pointee 2048)))
-    (List._∷_ (
-      7,
-      Rows'.any-gone (Syntax.tyStruct (List._∷_ 38 (List._∷_ 91 (List._∷_ 93 List.[]))) (Syntax.tcons (Syntax.tyRef Syntax.erased Syntax.mut LentTilePartEntry.pointee)
-          (Syntax.tcons (Syntax.tyInt Syntax.w64) Syntax.tnil))),
-    ) List.[])))))))
-
-abbrev pub t11 : List.List Row.Entry
-t11 = List._∷_ (0, Rows'.whole (Declared'.row ScanTable.the-type)) (List._∷_ (
   1,
   Rows'.sslice (Referent.rtF (Referent.fInt Syntax.w8)) (Syntax.tyRef (Syntax.named 0) Syntax.imm
       (Syntax.tyInt Syntax.w8)) 0,
-) (List._∷_ (2, Rows'.sc-here (Row.sInt Syntax.w64)) (List._∷_ (3, Rows'.any-gone (Syntax.tyArray LentTilePartEntry.spelled 2048)) (List._∷_ (
-  4,
-  Rows'.whole (Declared.row Scanned.the-type),
-) (List._∷_ (5, Rows.arrF LentTilePartEntry.row 2048 0) (List._∷_ (
-  6,
-  Rows'.any-gone (Syntax.tyRef Syntax.erased Syntax.mut
-      (Syntax.tyArray LentTilePartEntry.pointee 2048)),
-) (List._∷_ (
-  7,
-  Rows'.any-gone (Syntax.tyStruct (List._∷_ 38 (List._∷_ 91 (List._∷_ 93 List.[]))) (Syntax.tcons (Syntax.tyRef
-      Syntax.erased Syntax.mut LentTilePartEntry.pointee) (Syntax.tcons (Syntax.tyInt Syntax.w64) Syntax.tnil))),
-) List.[])))))))
-
-abbrev pub t12 : List.List Row.Entry
-t12 = List._∷_ (0, Rows'.whole (Declared'.row ScanTable.the-type)) (List._∷_ (
-  1,
-  Rows'.sslice (Referent.rtF (Referent.fInt Syntax.w8)) (Syntax.tyRef (Syntax.named 0) Syntax.imm
-      (Syntax.tyInt Syntax.w8)) 0,
-) (List._∷_ (2, Rows'.sc-here (Row.sInt Syntax.w64)) (List._∷_ (3, Rows'.any-gone (Syntax.tyArray LentTilePartEntry.spelled 2048)) (List._∷_ (
+) (List._∷_ (2, Rows'.whole (Declared'.row CodestreamOffset.the-type)) (List._∷_ (3, Rows.arrF LentTilePartEntry.row 2048 0) (List._∷_ (
   4,
   Rows'.any-gone (Syntax.tyEnum (List._∷_ 112 (List._∷_ 97 (List._∷_ 114 (List._∷_ 116 (List._∷_ 115 (List._∷_ 58 (List._∷_ 58 (List._∷_ 115 (List._∷_ 99 (List._∷_ 97 (List._∷_
       110 (List._∷_ 58 (List._∷_ 58 (List._∷_ 83 (List._∷_ 99 (List._∷_ 97 (List._∷_ 110 (List._∷_ 110 (List._∷_ 101 (List._∷_ 100 List.[])))))))))))))))))))) (Syntax.ttcons
@@ -599,12 +403,27 @@ t12 = List._∷_ (0, Rows'.whole (Declared'.row ScanTable.the-type)) (List._∷_
       (List._∷_ 93 List.[]))) (Syntax.tcons (Syntax.tyRef Syntax.erased Syntax.mut LentTilePartEntry.pointee) (Syntax.tcons (Syntax.tyInt Syntax.w64) Syntax.tnil))),
 ) List.[])))))))
 
-abbrev pub t13 : List.List Row.Entry
-t13 = List._∷_ (0, Rows'.whole (Declared'.row ScanTable.the-type)) (List._∷_ (
+abbrev pub t4 : List.List Row.Entry
+t4 = List._∷_ (
+  0,
+  Rows'.any-gone (Syntax.tyStruct (List._∷_ 114 (List._∷_ 101 (List._∷_ 99 (List._∷_ 111 (List._∷_ 114 (List._∷_ 100 (List._∷_ 115 (List._∷_ 58 (List._∷_ 58
+      (List._∷_ 116 (List._∷_ 97 (List._∷_ 98 (List._∷_ 108 (List._∷_ 101 (List._∷_ 115 (List._∷_ 58 (List._∷_ 58 (List._∷_ 83 (List._∷_ 99 (List._∷_ 97 (List._∷_ 110 (List._∷_ 84
+      (List._∷_ 97 (List._∷_ 98 (List._∷_ 108 (List._∷_ 101 List.[])))))))))))))))))))))))))) (Syntax.tcons (Syntax.tyEnum (List._∷_ 112 (List._∷_ 97 (List._∷_ 114 (List._∷_ 116
+      (List._∷_ 115 (List._∷_ 58 (List._∷_ 58 (List._∷_ 115 (List._∷_ 99 (List._∷_ 97 (List._∷_ 110 (List._∷_ 58 (List._∷_ 58 (List._∷_ 83 (List._∷_ 99 (List._∷_ 97 (List._∷_ 110
+      (List._∷_ 110 (List._∷_ 101 (List._∷_ 100 List.[])))))))))))))))))))) (Syntax.ttcons (Syntax.tcons (Syntax.tyInt Syntax.w64) Syntax.tnil) (Syntax.ttcons (Syntax.tcons
+      (Syntax.tyStruct (List._∷_ 116 (List._∷_ 121 (List._∷_ 112 (List._∷_ 101 (List._∷_ 115 (List._∷_ 58 (List._∷_ 58 (List._∷_ 82 (List._∷_ 101 (List._∷_ 102 (List._∷_ 117
+      (List._∷_ 115 (List._∷_ 97 (List._∷_ 108 List.[])))))))))))))) (Syntax.tcons (Syntax.tyInt Syntax.w32) (Syntax.tcons (Syntax.tyInt Syntax.w64) Syntax.tnil))) Syntax.tnil)
+      Syntax.ttnil))) (Syntax.tcons (Syntax.tyArray (Syntax.tyStruct (List._∷_ 116 (List._∷_ 121 (List._∷_ 112 (List._∷_ 101 (List._∷_ 115 (List._∷_ 58 (List._∷_ 58 (List._∷_ 84
+      (List._∷_ 105 (List._∷_ 108 (List._∷_ 101 (List._∷_ 80 (List._∷_ 97 (List._∷_ 114 (List._∷_ 116 (List._∷_ 69 (List._∷_ 110 (List._∷_ 116 (List._∷_ 114 (List._∷_ 121
+      List.[])))))))))))))))))))) (Syntax.tcons (Syntax.tyInt Syntax.w16) (Syntax.tcons (Syntax.tyStruct (List._∷_ 116 (List._∷_ 121 (List._∷_ 112 (List._∷_ 101 (List._∷_ 115
+      (List._∷_ 58 (List._∷_ 58 (List._∷_ 67 (List._∷_ 111 (List._∷_ 100 (List._∷_ 101 (List._∷_ 115 (List._∷_ 116 (List._∷_ 114 (List._∷_ 101 (List._∷_ 97 (List._∷_ 109 (List._∷_ 79
+      (List._∷_ 102 (List._∷_ 102 (List._∷_ 115 (List._∷_ 101 (List._∷_ 116 List.[]))))))))))))))))))))))) (Syntax.tcons (Syntax.tyInt Syntax.w64) Syntax.tnil)) (Syntax.tcons
+      (Syntax.tyInt Syntax.w64) Syntax.tnil)))) 2048) Syntax.tnil))),
+) (List._∷_ (
   1,
   Rows'.sslice (Referent.rtF (Referent.fInt Syntax.w8)) (Syntax.tyRef (Syntax.named 0) Syntax.imm
       (Syntax.tyInt Syntax.w8)) 0,
-) (List._∷_ (2, Rows'.sc-here (Row.sInt Syntax.w64)) (List._∷_ (3, Rows'.any-gone (Syntax.tyArray LentTilePartEntry.spelled 2048)) (List._∷_ (
+) (List._∷_ (2, Rows'.whole (Declared'.row CodestreamOffset.the-type)) (List._∷_ (3, Rows.arrF LentTilePartEntry.row 2048 0) (List._∷_ (
   4,
   Rows'.any-gone (Syntax.tyEnum (List._∷_ 112 (List._∷_ 97 (List._∷_ 114 (List._∷_ 116 (List._∷_ 115 (List._∷_ 58 (List._∷_ 58 (List._∷_ 115 (List._∷_ 99 (List._∷_ 97 (List._∷_
       110 (List._∷_ 58 (List._∷_ 58 (List._∷_ 83 (List._∷_ 99 (List._∷_ 97 (List._∷_ 110 (List._∷_ 110 (List._∷_ 101 (List._∷_ 100 List.[])))))))))))))))))))) (Syntax.ttcons
@@ -618,6 +437,315 @@ t13 = List._∷_ (0, Rows'.whole (Declared'.row ScanTable.the-type)) (List._∷_
           (List._∷_ 91 (List._∷_ 93 List.[]))) (Syntax.tcons (Syntax.tyRef Syntax.erased Syntax.mut LentTilePartEntry.pointee) (Syntax.tcons (Syntax.tyInt Syntax.w64) Syntax.tnil))),
     )
     List.[])))))))
+
+abbrev pub t5 : List.List Row.Entry
+t5 = List._∷_ (
+  0,
+  Rows'.any-gone (Syntax.tyStruct (List._∷_ 114 (List._∷_ 101 (List._∷_ 99 (List._∷_ 111 (List._∷_ 114 (List._∷_ 100 (List._∷_ 115 (List._∷_ 58 (List._∷_ 58
+      (List._∷_ 116 (List._∷_ 97 (List._∷_ 98 (List._∷_ 108 (List._∷_ 101 (List._∷_ 115 (List._∷_ 58 (List._∷_ 58 (List._∷_ 83 (List._∷_ 99 (List._∷_ 97 (List._∷_ 110 (List._∷_ 84
+      (List._∷_ 97 (List._∷_ 98 (List._∷_ 108 (List._∷_ 101 List.[])))))))))))))))))))))))))) (Syntax.tcons (Syntax.tyEnum (List._∷_ 112 (List._∷_ 97 (List._∷_ 114 (List._∷_ 116
+      (List._∷_ 115 (List._∷_ 58 (List._∷_ 58 (List._∷_ 115 (List._∷_ 99 (List._∷_ 97 (List._∷_ 110 (List._∷_ 58 (List._∷_ 58 (List._∷_ 83 (List._∷_ 99 (List._∷_ 97 (List._∷_ 110
+      (List._∷_ 110 (List._∷_ 101 (List._∷_ 100 List.[])))))))))))))))))))) (Syntax.ttcons (Syntax.tcons (Syntax.tyInt Syntax.w64) Syntax.tnil) (Syntax.ttcons (Syntax.tcons
+      (Syntax.tyStruct (List._∷_ 116 (List._∷_ 121 (List._∷_ 112 (List._∷_ 101 (List._∷_ 115 (List._∷_ 58 (List._∷_ 58 (List._∷_ 82 (List._∷_ 101 (List._∷_ 102 (List._∷_ 117
+      (List._∷_ 115 (List._∷_ 97 (List._∷_ 108 List.[])))))))))))))) (Syntax.tcons (Syntax.tyInt Syntax.w32) (Syntax.tcons (Syntax.tyInt Syntax.w64) Syntax.tnil))) Syntax.tnil)
+      Syntax.ttnil))) (Syntax.tcons (Syntax.tyArray (Syntax.tyStruct (List._∷_ 116 (List._∷_ 121 (List._∷_ 112 (List._∷_ 101 (List._∷_ 115 (List._∷_ 58 (List._∷_ 58 (List._∷_ 84
+      (List._∷_ 105 (List._∷_ 108 (List._∷_ 101 (List._∷_ 80 (List._∷_ 97 (List._∷_ 114 (List._∷_ 116 (List._∷_ 69 (List._∷_ 110 (List._∷_ 116 (List._∷_ 114 (List._∷_ 121
+      List.[])))))))))))))))))))) (Syntax.tcons (Syntax.tyInt Syntax.w16) (Syntax.tcons (Syntax.tyStruct (List._∷_ 116 (List._∷_ 121 (List._∷_ 112 (List._∷_ 101 (List._∷_ 115
+      (List._∷_ 58 (List._∷_ 58 (List._∷_ 67 (List._∷_ 111 (List._∷_ 100 (List._∷_ 101 (List._∷_ 115 (List._∷_ 116 (List._∷_ 114 (List._∷_ 101 (List._∷_ 97 (List._∷_ 109 (List._∷_ 79
+      (List._∷_ 102 (List._∷_ 102 (List._∷_ 115 (List._∷_ 101 (List._∷_ 116 List.[]))))))))))))))))))))))) (Syntax.tcons (Syntax.tyInt Syntax.w64) Syntax.tnil)) (Syntax.tcons
+      (Syntax.tyInt Syntax.w64) Syntax.tnil)))) 2048) Syntax.tnil))),
+) (List._∷_ (
+  1,
+  Rows'.sslice (Referent.rtF (Referent.fInt Syntax.w8)) (Syntax.tyRef (Syntax.named 0) Syntax.imm
+      (Syntax.tyInt Syntax.w8)) 0,
+) (List._∷_ (2, Rows'.whole (Declared'.row CodestreamOffset.the-type)) (List._∷_ (3, Rows.arr-owed LentTilePartEntry.row 2048 1) (List._∷_ (
+  4,
+  Rows'.any-gone (Syntax.tyEnum (List._∷_ 112 (List._∷_ 97 (List._∷_ 114 (List._∷_ 116 (List._∷_ 115 (List._∷_ 58 (List._∷_ 58 (List._∷_ 115 (List._∷_ 99 (List._∷_ 97 (List._∷_
+      110 (List._∷_ 58 (List._∷_ 58 (List._∷_ 83 (List._∷_ 99 (List._∷_ 97 (List._∷_ 110 (List._∷_ 110 (List._∷_ 101 (List._∷_ 100 List.[])))))))))))))))))))) (Syntax.ttcons
+      (Syntax.tcons (Syntax.tyInt Syntax.w64) Syntax.tnil) (Syntax.ttcons (Syntax.tcons (Syntax.tyStruct (List._∷_ 116 (List._∷_ 121 (List._∷_ 112 (List._∷_ 101 (List._∷_ 115
+      (List._∷_ 58 (List._∷_ 58 (List._∷_ 82 (List._∷_ 101 (List._∷_ 102 (List._∷_ 117 (List._∷_ 115 (List._∷_ 97 (List._∷_ 108 List.[])))))))))))))) (Syntax.tcons (Syntax.tyInt
+      Syntax.w32) (Syntax.tcons (Syntax.tyInt Syntax.w64) Syntax.tnil))) Syntax.tnil) Syntax.ttnil))),
+) (List._∷_ (5, Rows'.any-gone (Syntax.tyArray LentTilePartEntry.spelled 2048))
+    (List._∷_ (6, Relend.msptr LentTilePartEntry.row (Syntax.tyRef Syntax.erased Syntax.mut (Syntax.tyArray LentTilePartEntry.pointee 2048)) 1) (List._∷_ (
+      7,
+      Rows'.any-gone
+          (Syntax.tyStruct (List._∷_ 38 (List._∷_ 91 (List._∷_ 93 List.[]))) (Syntax.tcons (Syntax.tyRef Syntax.erased Syntax.mut LentTilePartEntry.pointee) (Syntax.tcons (Syntax.tyInt
+          Syntax.w64) Syntax.tnil))),
+    ) List.[])))))))
+
+abbrev pub t6 : List.List Row.Entry
+t6 = List._∷_ (
+  0,
+  Rows'.any-gone (Syntax.tyStruct (List._∷_ 114 (List._∷_ 101 (List._∷_ 99 (List._∷_ 111 (List._∷_ 114 (List._∷_ 100 (List._∷_ 115 (List._∷_ 58 (List._∷_ 58
+      (List._∷_ 116 (List._∷_ 97 (List._∷_ 98 (List._∷_ 108 (List._∷_ 101 (List._∷_ 115 (List._∷_ 58 (List._∷_ 58 (List._∷_ 83 (List._∷_ 99 (List._∷_ 97 (List._∷_ 110 (List._∷_ 84
+      (List._∷_ 97 (List._∷_ 98 (List._∷_ 108 (List._∷_ 101 List.[])))))))))))))))))))))))))) (Syntax.tcons (Syntax.tyEnum (List._∷_ 112 (List._∷_ 97 (List._∷_ 114 (List._∷_ 116
+      (List._∷_ 115 (List._∷_ 58 (List._∷_ 58 (List._∷_ 115 (List._∷_ 99 (List._∷_ 97 (List._∷_ 110 (List._∷_ 58 (List._∷_ 58 (List._∷_ 83 (List._∷_ 99 (List._∷_ 97 (List._∷_ 110
+      (List._∷_ 110 (List._∷_ 101 (List._∷_ 100 List.[])))))))))))))))))))) (Syntax.ttcons (Syntax.tcons (Syntax.tyInt Syntax.w64) Syntax.tnil) (Syntax.ttcons (Syntax.tcons
+      (Syntax.tyStruct (List._∷_ 116 (List._∷_ 121 (List._∷_ 112 (List._∷_ 101 (List._∷_ 115 (List._∷_ 58 (List._∷_ 58 (List._∷_ 82 (List._∷_ 101 (List._∷_ 102 (List._∷_ 117
+      (List._∷_ 115 (List._∷_ 97 (List._∷_ 108 List.[])))))))))))))) (Syntax.tcons (Syntax.tyInt Syntax.w32) (Syntax.tcons (Syntax.tyInt Syntax.w64) Syntax.tnil))) Syntax.tnil)
+      Syntax.ttnil))) (Syntax.tcons (Syntax.tyArray (Syntax.tyStruct (List._∷_ 116 (List._∷_ 121 (List._∷_ 112 (List._∷_ 101 (List._∷_ 115 (List._∷_ 58 (List._∷_ 58 (List._∷_ 84
+      (List._∷_ 105 (List._∷_ 108 (List._∷_ 101 (List._∷_ 80 (List._∷_ 97 (List._∷_ 114 (List._∷_ 116 (List._∷_ 69 (List._∷_ 110 (List._∷_ 116 (List._∷_ 114 (List._∷_ 121
+      List.[])))))))))))))))))))) (Syntax.tcons (Syntax.tyInt Syntax.w16) (Syntax.tcons (Syntax.tyStruct (List._∷_ 116 (List._∷_ 121 (List._∷_ 112 (List._∷_ 101 (List._∷_ 115
+      (List._∷_ 58 (List._∷_ 58 (List._∷_ 67 (List._∷_ 111 (List._∷_ 100 (List._∷_ 101 (List._∷_ 115 (List._∷_ 116 (List._∷_ 114 (List._∷_ 101 (List._∷_ 97 (List._∷_ 109 (List._∷_ 79
+      (List._∷_ 102 (List._∷_ 102 (List._∷_ 115 (List._∷_ 101 (List._∷_ 116 List.[]))))))))))))))))))))))) (Syntax.tcons (Syntax.tyInt Syntax.w64) Syntax.tnil)) (Syntax.tcons
+      (Syntax.tyInt Syntax.w64) Syntax.tnil)))) 2048) Syntax.tnil))),
+) (List._∷_ (
+  1,
+  Rows'.sslice (Referent.rtF (Referent.fInt Syntax.w8)) (Syntax.tyRef (Syntax.named 0) Syntax.imm
+      (Syntax.tyInt Syntax.w8)) 0,
+) (List._∷_ (2, Rows'.whole (Declared'.row CodestreamOffset.the-type)) (List._∷_ (3, Rows.arr-owed LentTilePartEntry.row 2048 1) (List._∷_ (
+  4,
+  Rows'.any-gone (Syntax.tyEnum (List._∷_ 112 (List._∷_ 97 (List._∷_ 114 (List._∷_ 116 (List._∷_ 115 (List._∷_ 58 (List._∷_ 58 (List._∷_ 115 (List._∷_ 99 (List._∷_ 97 (List._∷_
+      110 (List._∷_ 58 (List._∷_ 58 (List._∷_ 83 (List._∷_ 99 (List._∷_ 97 (List._∷_ 110 (List._∷_ 110 (List._∷_ 101 (List._∷_ 100 List.[])))))))))))))))))))) (Syntax.ttcons
+      (Syntax.tcons (Syntax.tyInt Syntax.w64) Syntax.tnil) (Syntax.ttcons (Syntax.tcons (Syntax.tyStruct (List._∷_ 116 (List._∷_ 121 (List._∷_ 112 (List._∷_ 101 (List._∷_ 115
+      (List._∷_ 58 (List._∷_ 58 (List._∷_ 82 (List._∷_ 101 (List._∷_ 102 (List._∷_ 117 (List._∷_ 115 (List._∷_ 97 (List._∷_ 108 List.[])))))))))))))) (Syntax.tcons (Syntax.tyInt
+      Syntax.w32) (Syntax.tcons (Syntax.tyInt Syntax.w64) Syntax.tnil))) Syntax.tnil) Syntax.ttnil))),
+) (List._∷_ (5, Rows'.any-gone (Syntax.tyArray LentTilePartEntry.spelled 2048))
+    (List._∷_ (6, Rows'.any-gone (Syntax.tyRef Syntax.erased Syntax.mut (Syntax.tyArray LentTilePartEntry.pointee 2048))) (List._∷_ (
+      7,
+      Mut.mslice LentTilePartEntry.row
+          (Syntax.tyRef Syntax.erased Syntax.mut LentTilePartEntry.pointee) 1,
+    ) List.[])))))))
+
+abbrev pub t7 : List.List Row.Entry
+t7 = List._∷_ (
+  0,
+  Rows'.any-gone (Syntax.tyStruct (List._∷_ 114 (List._∷_ 101 (List._∷_ 99 (List._∷_ 111 (List._∷_ 114 (List._∷_ 100 (List._∷_ 115 (List._∷_ 58 (List._∷_ 58
+      (List._∷_ 116 (List._∷_ 97 (List._∷_ 98 (List._∷_ 108 (List._∷_ 101 (List._∷_ 115 (List._∷_ 58 (List._∷_ 58 (List._∷_ 83 (List._∷_ 99 (List._∷_ 97 (List._∷_ 110 (List._∷_ 84
+      (List._∷_ 97 (List._∷_ 98 (List._∷_ 108 (List._∷_ 101 List.[])))))))))))))))))))))))))) (Syntax.tcons (Syntax.tyEnum (List._∷_ 112 (List._∷_ 97 (List._∷_ 114 (List._∷_ 116
+      (List._∷_ 115 (List._∷_ 58 (List._∷_ 58 (List._∷_ 115 (List._∷_ 99 (List._∷_ 97 (List._∷_ 110 (List._∷_ 58 (List._∷_ 58 (List._∷_ 83 (List._∷_ 99 (List._∷_ 97 (List._∷_ 110
+      (List._∷_ 110 (List._∷_ 101 (List._∷_ 100 List.[])))))))))))))))))))) (Syntax.ttcons (Syntax.tcons (Syntax.tyInt Syntax.w64) Syntax.tnil) (Syntax.ttcons (Syntax.tcons
+      (Syntax.tyStruct (List._∷_ 116 (List._∷_ 121 (List._∷_ 112 (List._∷_ 101 (List._∷_ 115 (List._∷_ 58 (List._∷_ 58 (List._∷_ 82 (List._∷_ 101 (List._∷_ 102 (List._∷_ 117
+      (List._∷_ 115 (List._∷_ 97 (List._∷_ 108 List.[])))))))))))))) (Syntax.tcons (Syntax.tyInt Syntax.w32) (Syntax.tcons (Syntax.tyInt Syntax.w64) Syntax.tnil))) Syntax.tnil)
+      Syntax.ttnil))) (Syntax.tcons (Syntax.tyArray (Syntax.tyStruct (List._∷_ 116 (List._∷_ 121 (List._∷_ 112 (List._∷_ 101 (List._∷_ 115 (List._∷_ 58 (List._∷_ 58 (List._∷_ 84
+      (List._∷_ 105 (List._∷_ 108 (List._∷_ 101 (List._∷_ 80 (List._∷_ 97 (List._∷_ 114 (List._∷_ 116 (List._∷_ 69 (List._∷_ 110 (List._∷_ 116 (List._∷_ 114 (List._∷_ 121
+      List.[])))))))))))))))))))) (Syntax.tcons (Syntax.tyInt Syntax.w16) (Syntax.tcons (Syntax.tyStruct (List._∷_ 116 (List._∷_ 121 (List._∷_ 112 (List._∷_ 101 (List._∷_ 115
+      (List._∷_ 58 (List._∷_ 58 (List._∷_ 67 (List._∷_ 111 (List._∷_ 100 (List._∷_ 101 (List._∷_ 115 (List._∷_ 116 (List._∷_ 114 (List._∷_ 101 (List._∷_ 97 (List._∷_ 109 (List._∷_ 79
+      (List._∷_ 102 (List._∷_ 102 (List._∷_ 115 (List._∷_ 101 (List._∷_ 116 List.[]))))))))))))))))))))))) (Syntax.tcons (Syntax.tyInt Syntax.w64) Syntax.tnil)) (Syntax.tcons
+      (Syntax.tyInt Syntax.w64) Syntax.tnil)))) 2048) Syntax.tnil))),
+) (List._∷_ (
+  1,
+  Rows'.sslice (Referent.rtF (Referent.fInt Syntax.w8)) (Syntax.tyRef (Syntax.named 0) Syntax.imm
+      (Syntax.tyInt Syntax.w8)) 0,
+) (List._∷_ (2, Rows'.whole (Declared'.row CodestreamOffset.the-type)) (List._∷_ (3, Rows.arr-owed LentTilePartEntry.row 2048 1) (List._∷_ (
+  4,
+  Rows'.whole (Declared.row Scanned.the-type),
+) (List._∷_ (5, Rows'.any-gone (Syntax.tyArray LentTilePartEntry.spelled 2048)) (List._∷_ (
+  6,
+  Rows'.any-gone (Syntax.tyRef
+      Syntax.erased Syntax.mut (Syntax.tyArray LentTilePartEntry.pointee 2048)),
+) (List._∷_ (
+  7,
+  Mut.msleft LentTilePartEntry.row (Syntax.tyRef Syntax.erased Syntax.mut
+      LentTilePartEntry.pointee),
+) List.[])))))))
+
+abbrev pub t8 : List.List Row.Entry
+t8 = List._∷_ (
+  0,
+  Rows'.any-gone (Syntax.tyStruct (List._∷_ 114 (List._∷_ 101 (List._∷_ 99 (List._∷_ 111 (List._∷_ 114 (List._∷_ 100 (List._∷_ 115 (List._∷_ 58 (List._∷_ 58
+      (List._∷_ 116 (List._∷_ 97 (List._∷_ 98 (List._∷_ 108 (List._∷_ 101 (List._∷_ 115 (List._∷_ 58 (List._∷_ 58 (List._∷_ 83 (List._∷_ 99 (List._∷_ 97 (List._∷_ 110 (List._∷_ 84
+      (List._∷_ 97 (List._∷_ 98 (List._∷_ 108 (List._∷_ 101 List.[])))))))))))))))))))))))))) (Syntax.tcons (Syntax.tyEnum (List._∷_ 112 (List._∷_ 97 (List._∷_ 114 (List._∷_ 116
+      (List._∷_ 115 (List._∷_ 58 (List._∷_ 58 (List._∷_ 115 (List._∷_ 99 (List._∷_ 97 (List._∷_ 110 (List._∷_ 58 (List._∷_ 58 (List._∷_ 83 (List._∷_ 99 (List._∷_ 97 (List._∷_ 110
+      (List._∷_ 110 (List._∷_ 101 (List._∷_ 100 List.[])))))))))))))))))))) (Syntax.ttcons (Syntax.tcons (Syntax.tyInt Syntax.w64) Syntax.tnil) (Syntax.ttcons (Syntax.tcons
+      (Syntax.tyStruct (List._∷_ 116 (List._∷_ 121 (List._∷_ 112 (List._∷_ 101 (List._∷_ 115 (List._∷_ 58 (List._∷_ 58 (List._∷_ 82 (List._∷_ 101 (List._∷_ 102 (List._∷_ 117
+      (List._∷_ 115 (List._∷_ 97 (List._∷_ 108 List.[])))))))))))))) (Syntax.tcons (Syntax.tyInt Syntax.w32) (Syntax.tcons (Syntax.tyInt Syntax.w64) Syntax.tnil))) Syntax.tnil)
+      Syntax.ttnil))) (Syntax.tcons (Syntax.tyArray (Syntax.tyStruct (List._∷_ 116 (List._∷_ 121 (List._∷_ 112 (List._∷_ 101 (List._∷_ 115 (List._∷_ 58 (List._∷_ 58 (List._∷_ 84
+      (List._∷_ 105 (List._∷_ 108 (List._∷_ 101 (List._∷_ 80 (List._∷_ 97 (List._∷_ 114 (List._∷_ 116 (List._∷_ 69 (List._∷_ 110 (List._∷_ 116 (List._∷_ 114 (List._∷_ 121
+      List.[])))))))))))))))))))) (Syntax.tcons (Syntax.tyInt Syntax.w16) (Syntax.tcons (Syntax.tyStruct (List._∷_ 116 (List._∷_ 121 (List._∷_ 112 (List._∷_ 101 (List._∷_ 115
+      (List._∷_ 58 (List._∷_ 58 (List._∷_ 67 (List._∷_ 111 (List._∷_ 100 (List._∷_ 101 (List._∷_ 115 (List._∷_ 116 (List._∷_ 114 (List._∷_ 101 (List._∷_ 97 (List._∷_ 109 (List._∷_ 79
+      (List._∷_ 102 (List._∷_ 102 (List._∷_ 115 (List._∷_ 101 (List._∷_ 116 List.[]))))))))))))))))))))))) (Syntax.tcons (Syntax.tyInt Syntax.w64) Syntax.tnil)) (Syntax.tcons
+      (Syntax.tyInt Syntax.w64) Syntax.tnil)))) 2048) Syntax.tnil))),
+) (List._∷_ (
+  1,
+  Rows'.sslice (Referent.rtF (Referent.fInt Syntax.w8)) (Syntax.tyRef (Syntax.named 0) Syntax.imm
+      (Syntax.tyInt Syntax.w8)) 0,
+) (List._∷_ (
+  2,
+  Rows'.any-gone (Syntax.tyStruct (List._∷_ 116 (List._∷_ 121 (List._∷_ 112 (List._∷_ 101 (List._∷_ 115 (List._∷_ 58 (List._∷_ 58
+      (List._∷_ 67 (List._∷_ 111 (List._∷_ 100 (List._∷_ 101 (List._∷_ 115 (List._∷_ 116 (List._∷_ 114 (List._∷_ 101 (List._∷_ 97 (List._∷_ 109 (List._∷_ 79 (List._∷_ 102 (List._∷_
+      102 (List._∷_ 115 (List._∷_ 101 (List._∷_ 116 List.[]))))))))))))))))))))))) (Syntax.tcons (Syntax.tyInt Syntax.w64) Syntax.tnil)),
+) (List._∷_ (
+  3,
+  Rows.arr-owed
+      LentTilePartEntry.row 2048 1,
+) (List._∷_ (4, Rows'.whole (Declared.row Scanned.the-type)) (List._∷_ (5, Rows'.any-gone (Syntax.tyArray LentTilePartEntry.spelled 2048)) (List._∷_
+    (6, Rows'.any-gone (Syntax.tyRef Syntax.erased Syntax.mut (Syntax.tyArray LentTilePartEntry.pointee 2048))) (List._∷_ (
+      7,
+      Mut.msleft LentTilePartEntry.row (Syntax.tyRef
+          Syntax.erased Syntax.mut LentTilePartEntry.pointee),
+    ) List.[])))))))
+
+abbrev pub t9 : List.List Row.Entry
+t9 = List._∷_ (
+  0,
+  Rows'.any-gone (Syntax.tyStruct (List._∷_ 114 (List._∷_ 101 (List._∷_ 99 (List._∷_ 111 (List._∷_ 114 (List._∷_ 100 (List._∷_ 115 (List._∷_ 58 (List._∷_ 58
+      (List._∷_ 116 (List._∷_ 97 (List._∷_ 98 (List._∷_ 108 (List._∷_ 101 (List._∷_ 115 (List._∷_ 58 (List._∷_ 58 (List._∷_ 83 (List._∷_ 99 (List._∷_ 97 (List._∷_ 110 (List._∷_ 84
+      (List._∷_ 97 (List._∷_ 98 (List._∷_ 108 (List._∷_ 101 List.[])))))))))))))))))))))))))) (Syntax.tcons (Syntax.tyEnum (List._∷_ 112 (List._∷_ 97 (List._∷_ 114 (List._∷_ 116
+      (List._∷_ 115 (List._∷_ 58 (List._∷_ 58 (List._∷_ 115 (List._∷_ 99 (List._∷_ 97 (List._∷_ 110 (List._∷_ 58 (List._∷_ 58 (List._∷_ 83 (List._∷_ 99 (List._∷_ 97 (List._∷_ 110
+      (List._∷_ 110 (List._∷_ 101 (List._∷_ 100 List.[])))))))))))))))))))) (Syntax.ttcons (Syntax.tcons (Syntax.tyInt Syntax.w64) Syntax.tnil) (Syntax.ttcons (Syntax.tcons
+      (Syntax.tyStruct (List._∷_ 116 (List._∷_ 121 (List._∷_ 112 (List._∷_ 101 (List._∷_ 115 (List._∷_ 58 (List._∷_ 58 (List._∷_ 82 (List._∷_ 101 (List._∷_ 102 (List._∷_ 117
+      (List._∷_ 115 (List._∷_ 97 (List._∷_ 108 List.[])))))))))))))) (Syntax.tcons (Syntax.tyInt Syntax.w32) (Syntax.tcons (Syntax.tyInt Syntax.w64) Syntax.tnil))) Syntax.tnil)
+      Syntax.ttnil))) (Syntax.tcons (Syntax.tyArray (Syntax.tyStruct (List._∷_ 116 (List._∷_ 121 (List._∷_ 112 (List._∷_ 101 (List._∷_ 115 (List._∷_ 58 (List._∷_ 58 (List._∷_ 84
+      (List._∷_ 105 (List._∷_ 108 (List._∷_ 101 (List._∷_ 80 (List._∷_ 97 (List._∷_ 114 (List._∷_ 116 (List._∷_ 69 (List._∷_ 110 (List._∷_ 116 (List._∷_ 114 (List._∷_ 121
+      List.[])))))))))))))))))))) (Syntax.tcons (Syntax.tyInt Syntax.w16) (Syntax.tcons (Syntax.tyStruct (List._∷_ 116 (List._∷_ 121 (List._∷_ 112 (List._∷_ 101 (List._∷_ 115
+      (List._∷_ 58 (List._∷_ 58 (List._∷_ 67 (List._∷_ 111 (List._∷_ 100 (List._∷_ 101 (List._∷_ 115 (List._∷_ 116 (List._∷_ 114 (List._∷_ 101 (List._∷_ 97 (List._∷_ 109 (List._∷_ 79
+      (List._∷_ 102 (List._∷_ 102 (List._∷_ 115 (List._∷_ 101 (List._∷_ 116 List.[]))))))))))))))))))))))) (Syntax.tcons (Syntax.tyInt Syntax.w64) Syntax.tnil)) (Syntax.tcons
+      (Syntax.tyInt Syntax.w64) Syntax.tnil)))) 2048) Syntax.tnil))),
+) (List._∷_ (
+  1,
+  Rows'.sslice (Referent.rtF (Referent.fInt Syntax.w8)) (Syntax.tyRef (Syntax.named 0) Syntax.imm
+      (Syntax.tyInt Syntax.w8)) 0,
+) (List._∷_ (
+  2,
+  Rows'.any-gone (Syntax.tyStruct (List._∷_ 116 (List._∷_ 121 (List._∷_ 112 (List._∷_ 101 (List._∷_ 115 (List._∷_ 58 (List._∷_ 58
+      (List._∷_ 67 (List._∷_ 111 (List._∷_ 100 (List._∷_ 101 (List._∷_ 115 (List._∷_ 116 (List._∷_ 114 (List._∷_ 101 (List._∷_ 97 (List._∷_ 109 (List._∷_ 79 (List._∷_ 102 (List._∷_
+      102 (List._∷_ 115 (List._∷_ 101 (List._∷_ 116 List.[]))))))))))))))))))))))) (Syntax.tcons (Syntax.tyInt Syntax.w64) Syntax.tnil)),
+) (List._∷_ (
+  3,
+  Rows.arrF
+      LentTilePartEntry.row 2048 0,
+) (List._∷_ (4, Rows'.whole (Declared.row Scanned.the-type)) (List._∷_ (5, Rows'.any-gone (Syntax.tyArray LentTilePartEntry.spelled 2048)) (List._∷_
+    (6, Rows'.any-gone (Syntax.tyRef Syntax.erased Syntax.mut (Syntax.tyArray LentTilePartEntry.pointee 2048))) (List._∷_ (
+      7,
+      Rows'.any-gone (Syntax.tyStruct (List._∷_ 38 (List._∷_
+          91 (List._∷_ 93 List.[]))) (Syntax.tcons (Syntax.tyRef Syntax.erased Syntax.mut LentTilePartEntry.pointee) (Syntax.tcons (Syntax.tyInt Syntax.w64) Syntax.tnil))),
+    )
+    List.[])))))))
+
+abbrev pub t10 : List.List Row.Entry
+t10 = List._∷_ (
+  0,
+  Rows'.any-gone (Syntax.tyStruct (List._∷_ 114 (List._∷_ 101 (List._∷_ 99 (List._∷_ 111 (List._∷_ 114 (List._∷_ 100 (List._∷_ 115 (List._∷_ 58 (List._∷_ 58
+      (List._∷_ 116 (List._∷_ 97 (List._∷_ 98 (List._∷_ 108 (List._∷_ 101 (List._∷_ 115 (List._∷_ 58 (List._∷_ 58 (List._∷_ 83 (List._∷_ 99 (List._∷_ 97 (List._∷_ 110 (List._∷_ 84
+      (List._∷_ 97 (List._∷_ 98 (List._∷_ 108 (List._∷_ 101 List.[])))))))))))))))))))))))))) (Syntax.tcons (Syntax.tyEnum (List._∷_ 112 (List._∷_ 97 (List._∷_ 114 (List._∷_ 116
+      (List._∷_ 115 (List._∷_ 58 (List._∷_ 58 (List._∷_ 115 (List._∷_ 99 (List._∷_ 97 (List._∷_ 110 (List._∷_ 58 (List._∷_ 58 (List._∷_ 83 (List._∷_ 99 (List._∷_ 97 (List._∷_ 110
+      (List._∷_ 110 (List._∷_ 101 (List._∷_ 100 List.[])))))))))))))))))))) (Syntax.ttcons (Syntax.tcons (Syntax.tyInt Syntax.w64) Syntax.tnil) (Syntax.ttcons (Syntax.tcons
+      (Syntax.tyStruct (List._∷_ 116 (List._∷_ 121 (List._∷_ 112 (List._∷_ 101 (List._∷_ 115 (List._∷_ 58 (List._∷_ 58 (List._∷_ 82 (List._∷_ 101 (List._∷_ 102 (List._∷_ 117
+      (List._∷_ 115 (List._∷_ 97 (List._∷_ 108 List.[])))))))))))))) (Syntax.tcons (Syntax.tyInt Syntax.w32) (Syntax.tcons (Syntax.tyInt Syntax.w64) Syntax.tnil))) Syntax.tnil)
+      Syntax.ttnil))) (Syntax.tcons (Syntax.tyArray (Syntax.tyStruct (List._∷_ 116 (List._∷_ 121 (List._∷_ 112 (List._∷_ 101 (List._∷_ 115 (List._∷_ 58 (List._∷_ 58 (List._∷_ 84
+      (List._∷_ 105 (List._∷_ 108 (List._∷_ 101 (List._∷_ 80 (List._∷_ 97 (List._∷_ 114 (List._∷_ 116 (List._∷_ 69 (List._∷_ 110 (List._∷_ 116 (List._∷_ 114 (List._∷_ 121
+      List.[])))))))))))))))))))) (Syntax.tcons (Syntax.tyInt Syntax.w16) (Syntax.tcons (Syntax.tyStruct (List._∷_ 116 (List._∷_ 121 (List._∷_ 112 (List._∷_ 101 (List._∷_ 115
+      (List._∷_ 58 (List._∷_ 58 (List._∷_ 67 (List._∷_ 111 (List._∷_ 100 (List._∷_ 101 (List._∷_ 115 (List._∷_ 116 (List._∷_ 114 (List._∷_ 101 (List._∷_ 97 (List._∷_ 109 (List._∷_ 79
+      (List._∷_ 102 (List._∷_ 102 (List._∷_ 115 (List._∷_ 101 (List._∷_ 116 List.[]))))))))))))))))))))))) (Syntax.tcons (Syntax.tyInt Syntax.w64) Syntax.tnil)) (Syntax.tcons
+      (Syntax.tyInt Syntax.w64) Syntax.tnil)))) 2048) Syntax.tnil))),
+) (List._∷_ (
+  1,
+  Rows'.sslice (Referent.rtF (Referent.fInt Syntax.w8)) (Syntax.tyRef (Syntax.named 0) Syntax.imm
+      (Syntax.tyInt Syntax.w8)) 0,
+) (List._∷_ (
+  2,
+  Rows'.any-gone (Syntax.tyStruct (List._∷_ 116 (List._∷_ 121 (List._∷_ 112 (List._∷_ 101 (List._∷_ 115 (List._∷_ 58 (List._∷_ 58
+      (List._∷_ 67 (List._∷_ 111 (List._∷_ 100 (List._∷_ 101 (List._∷_ 115 (List._∷_ 116 (List._∷_ 114 (List._∷_ 101 (List._∷_ 97 (List._∷_ 109 (List._∷_ 79 (List._∷_ 102 (List._∷_
+      102 (List._∷_ 115 (List._∷_ 101 (List._∷_ 116 List.[]))))))))))))))))))))))) (Syntax.tcons (Syntax.tyInt Syntax.w64) Syntax.tnil)),
+) (List._∷_ (
+  3,
+  Rows.arrF
+      LentTilePartEntry.row 2048 0,
+) (List._∷_ (4, Rows'.whole (Declared.row Scanned.the-type)) (List._∷_ (5, Rows.arrF LentTilePartEntry.row 2048 0) (List._∷_ (
+  6,
+  Rows'.any-gone
+      (Syntax.tyRef Syntax.erased Syntax.mut (Syntax.tyArray LentTilePartEntry.pointee 2048)),
+) (List._∷_ (
+  7,
+  Rows'.any-gone (Syntax.tyStruct (List._∷_ 38 (List._∷_ 91 (List._∷_ 93
+      List.[]))) (Syntax.tcons (Syntax.tyRef Syntax.erased Syntax.mut LentTilePartEntry.pointee) (Syntax.tcons (Syntax.tyInt Syntax.w64) Syntax.tnil))),
+) List.[])))))))
+
+abbrev pub t11 : List.List Row.Entry
+t11 = List._∷_ (
+  0,
+  Rows'.any-gone (Syntax.tyStruct (List._∷_ 114 (List._∷_ 101 (List._∷_ 99 (List._∷_ 111 (List._∷_ 114 (List._∷_ 100 (List._∷_ 115 (List._∷_ 58 (List._∷_ 58
+      (List._∷_ 116 (List._∷_ 97 (List._∷_ 98 (List._∷_ 108 (List._∷_ 101 (List._∷_ 115 (List._∷_ 58 (List._∷_ 58 (List._∷_ 83 (List._∷_ 99 (List._∷_ 97 (List._∷_ 110 (List._∷_ 84
+      (List._∷_ 97 (List._∷_ 98 (List._∷_ 108 (List._∷_ 101 List.[])))))))))))))))))))))))))) (Syntax.tcons (Syntax.tyEnum (List._∷_ 112 (List._∷_ 97 (List._∷_ 114 (List._∷_ 116
+      (List._∷_ 115 (List._∷_ 58 (List._∷_ 58 (List._∷_ 115 (List._∷_ 99 (List._∷_ 97 (List._∷_ 110 (List._∷_ 58 (List._∷_ 58 (List._∷_ 83 (List._∷_ 99 (List._∷_ 97 (List._∷_ 110
+      (List._∷_ 110 (List._∷_ 101 (List._∷_ 100 List.[])))))))))))))))))))) (Syntax.ttcons (Syntax.tcons (Syntax.tyInt Syntax.w64) Syntax.tnil) (Syntax.ttcons (Syntax.tcons
+      (Syntax.tyStruct (List._∷_ 116 (List._∷_ 121 (List._∷_ 112 (List._∷_ 101 (List._∷_ 115 (List._∷_ 58 (List._∷_ 58 (List._∷_ 82 (List._∷_ 101 (List._∷_ 102 (List._∷_ 117
+      (List._∷_ 115 (List._∷_ 97 (List._∷_ 108 List.[])))))))))))))) (Syntax.tcons (Syntax.tyInt Syntax.w32) (Syntax.tcons (Syntax.tyInt Syntax.w64) Syntax.tnil))) Syntax.tnil)
+      Syntax.ttnil))) (Syntax.tcons (Syntax.tyArray (Syntax.tyStruct (List._∷_ 116 (List._∷_ 121 (List._∷_ 112 (List._∷_ 101 (List._∷_ 115 (List._∷_ 58 (List._∷_ 58 (List._∷_ 84
+      (List._∷_ 105 (List._∷_ 108 (List._∷_ 101 (List._∷_ 80 (List._∷_ 97 (List._∷_ 114 (List._∷_ 116 (List._∷_ 69 (List._∷_ 110 (List._∷_ 116 (List._∷_ 114 (List._∷_ 121
+      List.[])))))))))))))))))))) (Syntax.tcons (Syntax.tyInt Syntax.w16) (Syntax.tcons (Syntax.tyStruct (List._∷_ 116 (List._∷_ 121 (List._∷_ 112 (List._∷_ 101 (List._∷_ 115
+      (List._∷_ 58 (List._∷_ 58 (List._∷_ 67 (List._∷_ 111 (List._∷_ 100 (List._∷_ 101 (List._∷_ 115 (List._∷_ 116 (List._∷_ 114 (List._∷_ 101 (List._∷_ 97 (List._∷_ 109 (List._∷_ 79
+      (List._∷_ 102 (List._∷_ 102 (List._∷_ 115 (List._∷_ 101 (List._∷_ 116 List.[]))))))))))))))))))))))) (Syntax.tcons (Syntax.tyInt Syntax.w64) Syntax.tnil)) (Syntax.tcons
+      (Syntax.tyInt Syntax.w64) Syntax.tnil)))) 2048) Syntax.tnil))),
+) (List._∷_ (
+  1,
+  Rows'.sslice (Referent.rtF (Referent.fInt Syntax.w8)) (Syntax.tyRef (Syntax.named 0) Syntax.imm
+      (Syntax.tyInt Syntax.w8)) 0,
+) (List._∷_ (
+  2,
+  Rows'.any-gone (Syntax.tyStruct (List._∷_ 116 (List._∷_ 121 (List._∷_ 112 (List._∷_ 101 (List._∷_ 115 (List._∷_ 58 (List._∷_ 58
+      (List._∷_ 67 (List._∷_ 111 (List._∷_ 100 (List._∷_ 101 (List._∷_ 115 (List._∷_ 116 (List._∷_ 114 (List._∷_ 101 (List._∷_ 97 (List._∷_ 109 (List._∷_ 79 (List._∷_ 102 (List._∷_
+      102 (List._∷_ 115 (List._∷_ 101 (List._∷_ 116 List.[]))))))))))))))))))))))) (Syntax.tcons (Syntax.tyInt Syntax.w64) Syntax.tnil)),
+) (List._∷_ (
+  3,
+  Rows'.any-gone (Syntax.tyArray
+      LentTilePartEntry.spelled 2048),
+) (List._∷_ (4, Rows'.whole (Declared.row Scanned.the-type)) (List._∷_ (5, Rows.arrF LentTilePartEntry.row 2048 0) (List._∷_ (
+  6,
+  Rows'.any-gone
+      (Syntax.tyRef Syntax.erased Syntax.mut (Syntax.tyArray LentTilePartEntry.pointee 2048)),
+) (List._∷_ (
+  7,
+  Rows'.any-gone (Syntax.tyStruct (List._∷_ 38 (List._∷_ 91 (List._∷_ 93
+      List.[]))) (Syntax.tcons (Syntax.tyRef Syntax.erased Syntax.mut LentTilePartEntry.pointee) (Syntax.tcons (Syntax.tyInt Syntax.w64) Syntax.tnil))),
+) List.[])))))))
+
+abbrev pub t12 : List.List Row.Entry
+t12 = List._∷_ (0, Rows'.whole (Declared'.row ScanTable.the-type)) (List._∷_ (
+  1,
+  Rows'.sslice (Referent.rtF (Referent.fInt Syntax.w8)) (Syntax.tyRef (Syntax.named 0) Syntax.imm
+      (Syntax.tyInt Syntax.w8)) 0,
+) (List._∷_ (
+  2,
+  Rows'.any-gone (Syntax.tyStruct (List._∷_ 116 (List._∷_ 121 (List._∷_ 112 (List._∷_ 101 (List._∷_ 115 (List._∷_ 58 (List._∷_ 58
+      (List._∷_ 67 (List._∷_ 111 (List._∷_ 100 (List._∷_ 101 (List._∷_ 115 (List._∷_ 116 (List._∷_ 114 (List._∷_ 101 (List._∷_ 97 (List._∷_ 109 (List._∷_ 79 (List._∷_ 102 (List._∷_
+      102 (List._∷_ 115 (List._∷_ 101 (List._∷_ 116 List.[]))))))))))))))))))))))) (Syntax.tcons (Syntax.tyInt Syntax.w64) Syntax.tnil)),
+) (List._∷_ (
+  3,
+  Rows'.any-gone (Syntax.tyArray
+      LentTilePartEntry.spelled 2048),
+) (List._∷_ (4, Rows'.whole (Declared.row Scanned.the-type)) (List._∷_ (5, Rows.arrF LentTilePartEntry.row 2048 0) (List._∷_ (
+  6,
+  Rows'.any-gone
+      (Syntax.tyRef Syntax.erased Syntax.mut (Syntax.tyArray LentTilePartEntry.pointee 2048)),
+) (List._∷_ (
+  7,
+  Rows'.any-gone (Syntax.tyStruct (List._∷_ 38 (List._∷_ 91 (List._∷_ 93
+      List.[]))) (Syntax.tcons (Syntax.tyRef Syntax.erased Syntax.mut LentTilePartEntry.pointee) (Syntax.tcons (Syntax.tyInt Syntax.w64) Syntax.tnil))),
+) List.[])))))))
+
+abbrev pub t13 : List.List Row.Entry
+t13 = List._∷_ (0, Rows'.whole (Declared'.row ScanTable.the-type)) (List._∷_ (
+  1,
+  Rows'.sslice (Referent.rtF (Referent.fInt Syntax.w8)) (Syntax.tyRef (Syntax.named 0) Syntax.imm
+      (Syntax.tyInt Syntax.w8)) 0,
+) (List._∷_ (
+  2,
+  Rows'.any-gone (Syntax.tyStruct (List._∷_ 116 (List._∷_ 121 (List._∷_ 112 (List._∷_ 101 (List._∷_ 115 (List._∷_ 58 (List._∷_ 58
+      (List._∷_ 67 (List._∷_ 111 (List._∷_ 100 (List._∷_ 101 (List._∷_ 115 (List._∷_ 116 (List._∷_ 114 (List._∷_ 101 (List._∷_ 97 (List._∷_ 109 (List._∷_ 79 (List._∷_ 102 (List._∷_
+      102 (List._∷_ 115 (List._∷_ 101 (List._∷_ 116 List.[]))))))))))))))))))))))) (Syntax.tcons (Syntax.tyInt Syntax.w64) Syntax.tnil)),
+) (List._∷_ (
+  3,
+  Rows'.any-gone (Syntax.tyArray
+      LentTilePartEntry.spelled 2048),
+) (List._∷_ (
+  4,
+  Rows'.any-gone (Syntax.tyEnum (List._∷_ 112 (List._∷_ 97 (List._∷_ 114 (List._∷_ 116 (List._∷_ 115 (List._∷_ 58 (List._∷_ 58
+      (List._∷_ 115 (List._∷_ 99 (List._∷_ 97 (List._∷_ 110 (List._∷_ 58 (List._∷_ 58 (List._∷_ 83 (List._∷_ 99 (List._∷_ 97 (List._∷_ 110 (List._∷_ 110 (List._∷_ 101 (List._∷_ 100
+      List.[])))))))))))))))))))) (Syntax.ttcons (Syntax.tcons (Syntax.tyInt Syntax.w64) Syntax.tnil) (Syntax.ttcons (Syntax.tcons (Syntax.tyStruct (List._∷_ 116 (List._∷_ 121
+      (List._∷_ 112 (List._∷_ 101 (List._∷_ 115 (List._∷_ 58 (List._∷_ 58 (List._∷_ 82 (List._∷_ 101 (List._∷_ 102 (List._∷_ 117 (List._∷_ 115 (List._∷_ 97 (List._∷_ 108
+      List.[])))))))))))))) (Syntax.tcons (Syntax.tyInt Syntax.w32) (Syntax.tcons (Syntax.tyInt Syntax.w64) Syntax.tnil))) Syntax.tnil) Syntax.ttnil))),
+) (List._∷_ (
+  5,
+  Rows.arrF
+      LentTilePartEntry.row 2048 0,
+) (List._∷_ (6, Rows'.any-gone (Syntax.tyRef Syntax.erased Syntax.mut (Syntax.tyArray LentTilePartEntry.pointee 2048))) (List._∷_ (
+  7,
+  Rows'.any-gone
+      (Syntax.tyStruct (List._∷_ 38 (List._∷_ 91 (List._∷_ 93 List.[]))) (Syntax.tcons (Syntax.tyRef Syntax.erased Syntax.mut LentTilePartEntry.pointee) (Syntax.tcons (Syntax.tyInt
+      Syntax.w64) Syntax.tnil))),
+) List.[])))))))
 
 abbrev pub T0 : Row.Cx
 T0 = record { locals = t0; slots = List.[] }
@@ -646,11 +774,11 @@ T8 = record { locals = t6; slots = List.[] }
 abbrev pub T9 : Row.Cx
 T9 = record { locals = t7; slots = List.[] }
 
-abbrev pub T11 : Row.Cx
-T11 = record { locals = t8; slots = List.[] }
+abbrev pub T10 : Row.Cx
+T10 = record { locals = t8; slots = List.[] }
 
-abbrev pub T13 : Row.Cx
-T13 = record { locals = t9; slots = List.[] }
+abbrev pub T12 : Row.Cx
+T12 = record { locals = t9; slots = List.[] }
 
 abbrev pub T14 : Row.Cx
 T14 = record { locals = t10; slots = List.[] }
@@ -696,29 +824,38 @@ module _ (claims· : Claims) where
   s7 = λ bs. Call.callB ps·1 r·1 (claims· .2) (claims· .3) T8 (
     record { pos = 1; ty = Syntax.tyRef (Syntax.named 0) Syntax.imm (Syntax.tyInt Syntax.w8); ref = λ x. x },
     (
-      Num.vAt 2
-          λ x. x,
+      record {
+        pos = 2;
+        st = List.[];
+        d = 0;
+        at = λ x. x;
+      },
       (record { pos = 7; ty = Syntax.tyRef Syntax.erased Syntax.mut LentTilePartEntry.pointee; ref = λ x. x }, tt),
     ),
-  ) 4 (List._∷_ 0 (List._∷_ 1 List.[])) (Syntax.tyEnum
-      (List._∷_ 112 (List._∷_ 97 (List._∷_ 114 (List._∷_ 116 (List._∷_ 115 (List._∷_ 58 (List._∷_ 58 (List._∷_ 115 (List._∷_ 99 (List._∷_ 97 (List._∷_ 110 (List._∷_ 58 (List._∷_ 58
-      (List._∷_ 83 (List._∷_ 99 (List._∷_ 97 (List._∷_ 110 (List._∷_ 110 (List._∷_ 101 (List._∷_ 100 List.[])))))))))))))))))))) (Syntax.ttcons (Syntax.tcons (Syntax.tyInt
-      Syntax.w64) Syntax.tnil) (Syntax.ttcons (Syntax.tcons (Syntax.tyStruct (List._∷_ 116 (List._∷_ 121 (List._∷_ 112 (List._∷_ 101 (List._∷_ 115 (List._∷_ 58 (List._∷_ 58
-      (List._∷_ 82 (List._∷_ 101 (List._∷_ 102 (List._∷_ 117 (List._∷_ 115 (List._∷_ 97 (List._∷_ 108 List.[])))))))))))))) (Syntax.tcons (Syntax.tyInt Syntax.w32) (Syntax.tcons
-      (Syntax.tyInt Syntax.w64) Syntax.tnil))) Syntax.tnil) Syntax.ttnil)))
+  ) 4 (List._∷_ 0
+      (List._∷_ 1 List.[])) (Syntax.tyEnum (List._∷_ 112 (List._∷_ 97 (List._∷_ 114 (List._∷_ 116 (List._∷_ 115 (List._∷_ 58 (List._∷_ 58 (List._∷_ 115 (List._∷_ 99 (List._∷_ 97
+      (List._∷_ 110 (List._∷_ 58 (List._∷_ 58 (List._∷_ 83 (List._∷_ 99 (List._∷_ 97 (List._∷_ 110 (List._∷_ 110 (List._∷_ 101 (List._∷_ 100 List.[]))))))))))))))))))))
+      (Syntax.ttcons (Syntax.tcons (Syntax.tyInt Syntax.w64) Syntax.tnil) (Syntax.ttcons (Syntax.tcons (Syntax.tyStruct (List._∷_ 116 (List._∷_ 121 (List._∷_ 112 (List._∷_ 101
+      (List._∷_ 115 (List._∷_ 58 (List._∷_ 58 (List._∷_ 82 (List._∷_ 101 (List._∷_ 102 (List._∷_ 117 (List._∷_ 115 (List._∷_ 97 (List._∷_ 108 List.[])))))))))))))) (Syntax.tcons
+      (Syntax.tyInt Syntax.w32) (Syntax.tcons (Syntax.tyInt Syntax.w64) Syntax.tnil))) Syntax.tnil) Syntax.ttnil)))
 
-  abbrev s9 : (bs : List.List Nat.ℕ) → Typed.Both T9 T11
-  s9 = λ bs. Borrow.k-back-arr LentTilePartEntry.row T9 7 3 1 2048 (Syntax.tyRef Syntax.erased Syntax.mut LentTilePartEntry.pointee) (λ x. x) λ x. x
+  abbrev s8 : (bs : List.List Nat.ℕ) → Typed.Mo T9 → Typed.Mo T10
+  s8 = λ bs. Scalar.n-room T9 2 (Syntax.tyStruct (List._∷_ 116 (List._∷_ 121 (List._∷_ 112 (List._∷_ 101 (List._∷_ 115 (List._∷_ 58 (List._∷_ 58 (List._∷_ 67 (List._∷_ 111
+      (List._∷_ 100 (List._∷_ 101 (List._∷_ 115 (List._∷_ 116 (List._∷_ 114 (List._∷_ 101 (List._∷_ 97 (List._∷_ 109 (List._∷_ 79 (List._∷_ 102 (List._∷_ 102 (List._∷_ 115
+      (List._∷_ 101 (List._∷_ 116 List.[]))))))))))))))))))))))) (Syntax.tcons (Syntax.tyInt Syntax.w64) Syntax.tnil))
 
-  abbrev s11 : (bs : List.List Nat.ℕ) → Typed.Mo T11 → Typed.Mo T13
-  s11 = λ bs. LocalCopy.n-val-copy T11 3 5 (Array'.Array LentTilePartEntry.row 2048) (Rows.arrF LentTilePartEntry.row 2048 0) (Rows.arrF LentTilePartEntry.row 2048 0) (λ x. x) (λ
+  abbrev s10 : (bs : List.List Nat.ℕ) → Typed.Both T10 T12
+  s10 = λ bs. Borrow.k-back-arr LentTilePartEntry.row T10 7 3 1 2048 (Syntax.tyRef Syntax.erased Syntax.mut LentTilePartEntry.pointee) (λ x. x) λ x. x
+
+  abbrev s12 : (bs : List.List Nat.ℕ) → Typed.Mo T12 → Typed.Mo T14
+  s12 = λ bs. LocalCopy.n-val-copy T12 3 5 (Array'.Array LentTilePartEntry.row 2048) (Rows.arrF LentTilePartEntry.row 2048 0) (Rows.arrF LentTilePartEntry.row 2048 0) (λ x. x) (λ
       x. x) λ x. x
 
-  abbrev s12 : (bs : List.List Nat.ℕ) → Typed.Mo T13 → Typed.Mo T14
-  s12 = λ bs. Scalar.n-room T13 3 (Syntax.tyArray LentTilePartEntry.spelled 2048)
+  abbrev s13 : (bs : List.List Nat.ℕ) → Typed.Mo T14 → Typed.Mo T15
+  s13 = λ bs. Scalar.n-room T14 3 (Syntax.tyArray LentTilePartEntry.spelled 2048)
 
-  abbrev s13 : (bs : List.List Nat.ℕ) → Typed.Both T14 T15
-  s13 = λ bs. Call.callB ps·2 r·2 (claims· .4) (claims· .5) T14 (record { pos = 4; st = List.[]; d = 0; at = λ x. x }, (record { pos = 5; st = List.[]; d = 0; at = λ x. x }, tt)) 0
+  abbrev s14 : (bs : List.List Nat.ℕ) → Typed.Both T15 T16
+  s14 = λ bs. Call.callB ps·2 r·2 (claims· .4) (claims· .5) T15 (record { pos = 4; st = List.[]; d = 0; at = λ x. x }, (record { pos = 5; st = List.[]; d = 0; at = λ x. x }, tt)) 0
       List.[] (Syntax.tyStruct (List._∷_ 114 (List._∷_ 101 (List._∷_ 99 (List._∷_ 111 (List._∷_ 114 (List._∷_ 100 (List._∷_ 115 (List._∷_ 58 (List._∷_ 58 (List._∷_ 116 (List._∷_ 97
       (List._∷_ 98 (List._∷_ 108 (List._∷_ 101 (List._∷_ 115 (List._∷_ 58 (List._∷_ 58 (List._∷_ 83 (List._∷_ 99 (List._∷_ 97 (List._∷_ 110 (List._∷_ 84 (List._∷_ 97 (List._∷_ 98
       (List._∷_ 108 (List._∷_ 101 List.[])))))))))))))))))))))))))) (Syntax.tcons (Syntax.tyEnum (List._∷_ 112 (List._∷_ 97 (List._∷_ 114 (List._∷_ 116 (List._∷_ 115 (List._∷_ 58
@@ -728,20 +865,20 @@ module _ (claims· : Claims) where
       108 List.[])))))))))))))) (Syntax.tcons (Syntax.tyInt Syntax.w32) (Syntax.tcons (Syntax.tyInt Syntax.w64) Syntax.tnil))) Syntax.tnil) Syntax.ttnil))) (Syntax.tcons
       (Syntax.tyArray (Syntax.tyStruct (List._∷_ 116 (List._∷_ 121 (List._∷_ 112 (List._∷_ 101 (List._∷_ 115 (List._∷_ 58 (List._∷_ 58 (List._∷_ 84 (List._∷_ 105 (List._∷_ 108
       (List._∷_ 101 (List._∷_ 80 (List._∷_ 97 (List._∷_ 114 (List._∷_ 116 (List._∷_ 69 (List._∷_ 110 (List._∷_ 116 (List._∷_ 114 (List._∷_ 121 List.[]))))))))))))))))))))
-      (Syntax.tcons (Syntax.tyInt Syntax.w16) (Syntax.tcons (Syntax.tyInt Syntax.w64) (Syntax.tcons (Syntax.tyInt Syntax.w64) Syntax.tnil)))) 2048) Syntax.tnil)))
+      (Syntax.tcons (Syntax.tyInt Syntax.w16) (Syntax.tcons (Syntax.tyStruct (List._∷_ 116 (List._∷_ 121 (List._∷_ 112 (List._∷_ 101 (List._∷_ 115 (List._∷_ 58 (List._∷_ 58
+      (List._∷_ 67 (List._∷_ 111 (List._∷_ 100 (List._∷_ 101 (List._∷_ 115 (List._∷_ 116 (List._∷_ 114 (List._∷_ 101 (List._∷_ 97 (List._∷_ 109 (List._∷_ 79 (List._∷_ 102 (List._∷_
+      102 (List._∷_ 115 (List._∷_ 101 (List._∷_ 116 List.[]))))))))))))))))))))))) (Syntax.tcons (Syntax.tyInt Syntax.w64) Syntax.tnil)) (Syntax.tcons (Syntax.tyInt Syntax.w64)
+      Syntax.tnil)))) 2048) Syntax.tnil)))
 
-  abbrev s14 : (bs : List.List Nat.ℕ) → Typed.Mo T15 → Typed.Mo T16
-  s14 = λ bs. Scalar.n-room T15 4 (Syntax.tyEnum (List._∷_ 112 (List._∷_ 97 (List._∷_ 114 (List._∷_ 116 (List._∷_ 115 (List._∷_ 58 (List._∷_ 58 (List._∷_ 115 (List._∷_ 99 (List._∷_
+  abbrev s15 : (bs : List.List Nat.ℕ) → Typed.Mo T16 → Typed.Mo T17
+  s15 = λ bs. Scalar.n-room T16 4 (Syntax.tyEnum (List._∷_ 112 (List._∷_ 97 (List._∷_ 114 (List._∷_ 116 (List._∷_ 115 (List._∷_ 58 (List._∷_ 58 (List._∷_ 115 (List._∷_ 99 (List._∷_
       97 (List._∷_ 110 (List._∷_ 58 (List._∷_ 58 (List._∷_ 83 (List._∷_ 99 (List._∷_ 97 (List._∷_ 110 (List._∷_ 110 (List._∷_ 101 (List._∷_ 100 List.[]))))))))))))))))))))
       (Syntax.ttcons (Syntax.tcons (Syntax.tyInt Syntax.w64) Syntax.tnil) (Syntax.ttcons (Syntax.tcons (Syntax.tyStruct (List._∷_ 116 (List._∷_ 121 (List._∷_ 112 (List._∷_ 101
       (List._∷_ 115 (List._∷_ 58 (List._∷_ 58 (List._∷_ 82 (List._∷_ 101 (List._∷_ 102 (List._∷_ 117 (List._∷_ 115 (List._∷_ 97 (List._∷_ 108 List.[])))))))))))))) (Syntax.tcons
       (Syntax.tyInt Syntax.w32) (Syntax.tcons (Syntax.tyInt Syntax.w64) Syntax.tnil))) Syntax.tnil) Syntax.ttnil)))
 
-  abbrev s15 : (bs : List.List Nat.ℕ) → Typed.Mo T16 → Typed.Mo T17
-  s15 = λ bs. Scalar.n-room T16 5 (Syntax.tyArray LentTilePartEntry.spelled 2048)
-
   abbrev s16 : (bs : List.List Nat.ℕ) → Typed.Mo T17 → Typed.Mo T18
-  s16 = λ bs. Scalar.n-room T17 2 (Syntax.tyInt Syntax.w64)
+  s16 = λ bs. Scalar.n-room T17 5 (Syntax.tyArray LentTilePartEntry.spelled 2048)
 
   module _ (Pre· : (κs : Lifetimes.Lfts 1) → Kinds.Dens κs ps → Type 0) (Post· : (κs : Lifetimes.Lfts 1) → (a : Kinds.Dens κs ps) → Kinds.Plain 1 ps r κs) where
     module _ (M : Type 1) where
@@ -762,25 +899,25 @@ module _ (claims· : Claims) where
       at2 = λ bs. λ Ψ. Typed.pass T16 T17 (s15 bs) (at1 bs Ψ)
 
       abbrev at3 : (bs : List.List Nat.ℕ) → Typed.TF T15 O0
-      at3 = λ bs. λ Ψ. Typed.pass T15 T16 (s14 bs) (at2 bs Ψ)
+      at3 = λ bs. λ Ψ. Typed.both (s14 bs) (at2 bs Ψ)
 
       abbrev at4 : (bs : List.List Nat.ℕ) → Typed.TF T14 O0
-      at4 = λ bs. λ Ψ. Typed.both (s13 bs) (at3 bs Ψ)
+      at4 = λ bs. λ Ψ. Typed.pass T14 T15 (s13 bs) (at3 bs Ψ)
 
-      abbrev at5 : (bs : List.List Nat.ℕ) → Typed.TF T13 O0
-      at5 = λ bs. λ Ψ. Typed.pass T13 T14 (s12 bs) (at4 bs Ψ)
+      abbrev at5 : (bs : List.List Nat.ℕ) → Typed.TF T12 O0
+      at5 = λ bs. λ Ψ. Typed.pass T12 T14 (s12 bs) (at4 bs Ψ)
 
-      abbrev at6 : (bs : List.List Nat.ℕ) → Typed.TF T11 O0
-      at6 = λ bs. λ Ψ. Typed.pass T11 T13 (s11 bs) (at5 bs Ψ)
+      abbrev at6 : (bs : List.List Nat.ℕ) → Typed.TF T12 O0
+      at6 = λ bs. λ Ψ. at5 bs Ψ
 
-      abbrev at7 : (bs : List.List Nat.ℕ) → Typed.TF T11 O0
-      at7 = λ bs. λ Ψ. at6 bs Ψ
+      abbrev at7 : (bs : List.List Nat.ℕ) → Typed.TF T10 O0
+      at7 = λ bs. λ Ψ. Typed.both (s10 bs) (at6 bs Ψ)
 
-      abbrev at8 : (bs : List.List Nat.ℕ) → Typed.TF T9 O0
-      at8 = λ bs. λ Ψ. Typed.both (s9 bs) (at7 bs Ψ)
+      abbrev at8 : (bs : List.List Nat.ℕ) → Typed.TF T10 O0
+      at8 = λ bs. λ Ψ. at7 bs Ψ
 
       abbrev at9 : (bs : List.List Nat.ℕ) → Typed.TF T9 O0
-      at9 = λ bs. λ Ψ. at8 bs Ψ
+      at9 = λ bs. λ Ψ. Typed.pass T9 T10 (s8 bs) (at8 bs Ψ)
 
       abbrev at10 : (bs : List.List Nat.ℕ) → Typed.TF T8 O0
       at10 = λ bs. λ Ψ. Typed.both (s7 bs) (at9 bs Ψ)
@@ -846,13 +983,13 @@ module _ (claims· : Claims) where
         G9 = record { locals = t7; slots = List._∷_ (Row.lease (κs .0) (qs .0)) (List._∷_ Row.alive List.[]) }
 
         abbrev G10 : Row.Cx
-        G10 = record { locals = t7; slots = List._∷_ (Row.lease (κs .0) (qs .0)) (List._∷_ Row.dead List.[]) }
+        G10 = record { locals = t8; slots = List._∷_ (Row.lease (κs .0) (qs .0)) (List._∷_ Row.alive List.[]) }
 
         abbrev G11 : Row.Cx
         G11 = record { locals = t8; slots = List._∷_ (Row.lease (κs .0) (qs .0)) (List._∷_ Row.dead List.[]) }
 
         abbrev G12 : Row.Cx
-        G12 = record { locals = t8; slots = List._∷_ (Row.lease (κs .0) (qs .0)) (List._∷_ Row.off List.[]) }
+        G12 = record { locals = t9; slots = List._∷_ (Row.lease (κs .0) (qs .0)) (List._∷_ Row.dead List.[]) }
 
         abbrev G13 : Row.Cx
         G13 = record { locals = t9; slots = List._∷_ (Row.lease (κs .0) (qs .0)) (List._∷_ Row.off List.[]) }
@@ -884,15 +1021,11 @@ module _ (claims· : Claims) where
           d0 = Typed.t-return 𝓤 H A W 𝓣 E Δ0 tt
 
           d1 : Typed.Typed 𝓤 H A 𝓣 E G17 b7 Δ0 (at1 bs)
-          d1 = Typed.g-pre 𝓤 H A W 𝓣 E G17 G18 b7 Δ0 (Typed.pass T17 T18 (s16 bs)) (at0 bs) (Scalar.g-room 𝓤 H A W E G17 2 (Syntax.tyInt Syntax.w64) (Scalar.room-sc 𝓤 H A W
-              (Row.sInt Syntax.w64))) d0
+          d1 = Typed.g-pre 𝓤 H A W 𝓣 E G17 G18 b7 Δ0 (Typed.pass T17 T18 (s16 bs)) (at0 bs) (Scalar.g-room 𝓤 H A W E G17 5 (Syntax.tyArray LentTilePartEntry.spelled 2048)
+              (Init.room-arr 𝓤 H A W LentTilePartEntry.row 2048 0 2048 Path'.refl)) d0
 
           d2 : Typed.Typed 𝓤 H A 𝓣 E G16 b7 Δ0 (at2 bs)
-          d2 = Typed.g-pre 𝓤 H A W 𝓣 E G16 G17 b7 Δ0 (Typed.pass T16 T17 (s15 bs)) (at1 bs) (Scalar.g-room 𝓤 H A W E G16 5 (Syntax.tyArray LentTilePartEntry.spelled 2048)
-              (Init.room-arr 𝓤 H A W LentTilePartEntry.row 2048 0 2048 Path'.refl)) d1
-
-          d3 : Typed.Typed 𝓤 H A 𝓣 E G15 b7 Δ0 (at3 bs)
-          d3 = Typed.g-pre 𝓤 H A W 𝓣 E G15 G16 b7 Δ0 (Typed.pass T15 T16 (s14 bs)) (at2 bs) (Scalar.g-room 𝓤 H A W E G15 4 (Syntax.tyEnum (List._∷_ 112 (List._∷_ 97 (List._∷_ 114
+          d2 = Typed.g-pre 𝓤 H A W 𝓣 E G16 G17 b7 Δ0 (Typed.pass T16 T17 (s15 bs)) (at1 bs) (Scalar.g-room 𝓤 H A W E G16 4 (Syntax.tyEnum (List._∷_ 112 (List._∷_ 97 (List._∷_ 114
               (List._∷_ 116 (List._∷_ 115 (List._∷_ 58 (List._∷_ 58 (List._∷_ 115 (List._∷_ 99 (List._∷_ 97 (List._∷_ 110 (List._∷_ 58 (List._∷_ 58 (List._∷_ 83 (List._∷_ 99
               (List._∷_ 97 (List._∷_ 110 (List._∷_ 110 (List._∷_ 101 (List._∷_ 100 List.[])))))))))))))))))))) (Syntax.ttcons (Syntax.tcons (Syntax.tyInt Syntax.w64) Syntax.tnil)
               (Syntax.ttcons (Syntax.tcons (Syntax.tyStruct (List._∷_ 116 (List._∷_ 121 (List._∷_ 112 (List._∷_ 101 (List._∷_ 115 (List._∷_ 58 (List._∷_ 58 (List._∷_ 82 (List._∷_
@@ -902,11 +1035,11 @@ module _ (claims· : Claims) where
               (List._∷_ 97 (List._∷_ 110 (List._∷_ 110 (List._∷_ 101 (List._∷_ 100 List.[])))))))))))))))))))) (Syntax.ttcons (Syntax.tcons (Syntax.tyInt Syntax.w64) Syntax.tnil)
               (Syntax.ttcons (Syntax.tcons (Syntax.tyStruct (List._∷_ 116 (List._∷_ 121 (List._∷_ 112 (List._∷_ 101 (List._∷_ 115 (List._∷_ 58 (List._∷_ 58 (List._∷_ 82 (List._∷_
               101 (List._∷_ 102 (List._∷_ 117 (List._∷_ 115 (List._∷_ 97 (List._∷_ 108 List.[])))))))))))))) (Syntax.tcons (Syntax.tyInt Syntax.w32) (Syntax.tcons (Syntax.tyInt
-              Syntax.w64) Syntax.tnil))) Syntax.tnil) Syntax.ttnil))) Path'.refl)) d2
+              Syntax.w64) Syntax.tnil))) Syntax.tnil) Syntax.ttnil))) Path'.refl)) d1
 
-          d4 : Typed.Typed 𝓤 H A 𝓣 E G14 b8 Δ0 (at4 bs)
-          d4 = Typed.s-seq 𝓤 H A W 𝓣 E G14 G15 b6 b7 Δ0 (Typed.both (s13 bs)) (at3 bs) (Plain.t-call-plain 𝓤 H A W 𝓣 0 ps·2 r·2 (claims· .4) (claims· .5)
-              "records::tables::scan_with" (known .2) E (λ pos β. β) G14 (
+          d3 : Typed.Typed 𝓤 H A 𝓣 E G15 b8 Δ0 (at3 bs)
+          d3 = Typed.s-seq 𝓤 H A W 𝓣 E G15 G16 b6 b7 Δ0 (Typed.both (s14 bs)) (at2 bs) (Plain.t-call-plain 𝓤 H A W 𝓣 0 ps·2 r·2 (claims· .4) (claims· .5)
+              "records::tables::scan_with" (known .2) E (λ pos β. β) G15 (
                 record { pos = 4; st = List.[]; d = 0; at = λ x. x },
                 (
                   record {
@@ -917,7 +1050,7 @@ module _ (claims· : Claims) where
                   },
                   tt,
                 ),
-              ) 0 List.[] (Call.sub-id 𝓤 H A W (G14 .slots)) (
+              ) 0 List.[] (Call.sub-id 𝓤 H A W (G15 .slots)) (
                 (
                   Yields.yields-copy 𝓤 H A W (λ ρ. Unit) (Declared.row Scanned.the-type) Path'.refl (Copies.cEnum
                       Scanned.the-type Laws.the-laws Laws.the-copy .copy 𝓤 H A W) (Rows'.whole (Declared.row Scanned.the-type)) (λ x. x) (λ x. x) (λ ρ told. Local.mem-whole 𝓤 H A W
@@ -942,32 +1075,43 @@ module _ (claims· : Claims) where
               (Syntax.tcons (Syntax.tyInt Syntax.w32) (Syntax.tcons (Syntax.tyInt Syntax.w64) Syntax.tnil))) Syntax.tnil) Syntax.ttnil))) (Syntax.tcons (Syntax.tyArray
               (Syntax.tyStruct (List._∷_ 116 (List._∷_ 121 (List._∷_ 112 (List._∷_ 101 (List._∷_ 115 (List._∷_ 58 (List._∷_ 58 (List._∷_ 84 (List._∷_ 105 (List._∷_ 108 (List._∷_
               101 (List._∷_ 80 (List._∷_ 97 (List._∷_ 114 (List._∷_ 116 (List._∷_ 69 (List._∷_ 110 (List._∷_ 116 (List._∷_ 114 (List._∷_ 121 List.[]))))))))))))))))))))
-              (Syntax.tcons (Syntax.tyInt Syntax.w16) (Syntax.tcons (Syntax.tyInt Syntax.w64) (Syntax.tcons (Syntax.tyInt Syntax.w64) Syntax.tnil)))) 2048) Syntax.tnil)))) tt
-              Path'.refl) d3
+              (Syntax.tcons (Syntax.tyInt Syntax.w16) (Syntax.tcons (Syntax.tyStruct (List._∷_ 116 (List._∷_ 121 (List._∷_ 112 (List._∷_ 101 (List._∷_ 115 (List._∷_ 58 (List._∷_ 58
+              (List._∷_ 67 (List._∷_ 111 (List._∷_ 100 (List._∷_ 101 (List._∷_ 115 (List._∷_ 116 (List._∷_ 114 (List._∷_ 101 (List._∷_ 97 (List._∷_ 109 (List._∷_ 79 (List._∷_ 102
+              (List._∷_ 102 (List._∷_ 115 (List._∷_ 101 (List._∷_ 116 List.[]))))))))))))))))))))))) (Syntax.tcons (Syntax.tyInt Syntax.w64) Syntax.tnil)) (Syntax.tcons
+              (Syntax.tyInt Syntax.w64) Syntax.tnil)))) 2048) Syntax.tnil)))) tt Path'.refl) d2
 
-          d5 : Typed.Typed 𝓤 H A 𝓣 E G13 b8 Δ0 (at5 bs)
-          d5 = Typed.g-pre 𝓤 H A W 𝓣 E G13 G14 b8 Δ0 (Typed.pass T13 T14 (s12 bs)) (at4 bs) (Scalar.g-room 𝓤 H A W E G13 3 (Syntax.tyArray LentTilePartEntry.spelled 2048)
-              (Init.room-arr 𝓤 H A W LentTilePartEntry.row 2048 0 2048 Path'.refl)) d4
+          d4 : Typed.Typed 𝓤 H A 𝓣 E G14 b8 Δ0 (at4 bs)
+          d4 = Typed.g-pre 𝓤 H A W 𝓣 E G14 G15 b8 Δ0 (Typed.pass T14 T15 (s13 bs)) (at3 bs) (Scalar.g-room 𝓤 H A W E G14 3 (Syntax.tyArray LentTilePartEntry.spelled 2048)
+              (Init.room-arr 𝓤 H A W LentTilePartEntry.row 2048 0 2048 Path'.refl)) d3
 
-          d6 : Typed.Typed 𝓤 H A 𝓣 E G12 b9 Δ0 (at6 bs)
-          d6 = Typed.s-seq 𝓤 H A W 𝓣 E G12 G13 b5 b8 Δ0 (Typed.pass T11 T13 (s11 bs)) (at5 bs) (LocalCopy.t-val-copy 𝓤 H A W E 𝓣 (λ ρ. Unit) G12 3 5 (Array'.Array
+          d5 : Typed.Typed 𝓤 H A 𝓣 E G13 b9 Δ0 (at5 bs)
+          d5 = Typed.s-seq 𝓤 H A W 𝓣 E G13 G14 b5 b8 Δ0 (Typed.pass T12 T14 (s12 bs)) (at4 bs) (LocalCopy.t-val-copy 𝓤 H A W E 𝓣 (λ ρ. Unit) G13 3 5 (Array'.Array
               LentTilePartEntry.row 2048) (Syntax.tyArray LentTilePartEntry.spelled 2048) (Syntax.tyArray LentTilePartEntry.spelled 2048) (Rows.arrF LentTilePartEntry.row 2048 0)
-              (Rows.arrF LentTilePartEntry.row 2048 0) (λ x. x) (λ x. x) (λ x. x) Path'.refl (Own.told-none 𝓤 H A (G12 .slots)) (Yields.yields-copy 𝓤 H A W (λ ρ. Unit)
+              (Rows.arrF LentTilePartEntry.row 2048 0) (λ x. x) (λ x. x) (λ x. x) Path'.refl (Own.told-none 𝓤 H A (G13 .slots)) (Yields.yields-copy 𝓤 H A W (λ ρ. Unit)
               (Array'.Array LentTilePartEntry.row 2048) Path'.refl (Copies.cArr LentTilePartEntry.row LentTilePartEntry.copies 2048 .copy 𝓤 H A W) (Rows.arrF LentTilePartEntry.row
               2048 0) (λ x. x) (λ x. x) (λ ρ told. Whole.mem-arr 𝓤 H A W LentTilePartEntry.row 2048 ρ) λ ρ told. Whole.arr-mem 𝓤 H A W LentTilePartEntry.row 2048 tt ρ)
               (Reads.room-gone 𝓤 H A (Syntax.tyArray LentTilePartEntry.spelled 2048)) (Yields.makes-mem 𝓤 H A W (λ ρ. Unit) (Array'.Array LentTilePartEntry.row 2048) Path'.refl
-              (Rows.arrF LentTilePartEntry.row 2048 0) (λ x. x) λ ρ told. Whole.arr-mem 𝓤 H A W LentTilePartEntry.row 2048 tt ρ) Path'.refl Path'.refl) d5
+              (Rows.arrF LentTilePartEntry.row 2048 0) (λ x. x) λ ρ told. Whole.arr-mem 𝓤 H A W LentTilePartEntry.row 2048 tt ρ) Path'.refl Path'.refl) d4
+
+          d6 : Typed.Typed 𝓤 H A 𝓣 E G12 b9 Δ0 (at6 bs)
+          d6 = Typed.g-pre 𝓤 H A W 𝓣 E G12 G13 b9 Δ0 (λ Ψ. Ψ) (at5 bs) (Lifetime.g-forget 𝓤 H A W E G12 1 Row.dead Path'.refl) d5
 
           d7 : Typed.Typed 𝓤 H A 𝓣 E G11 b9 Δ0 (at7 bs)
-          d7 = Typed.g-pre 𝓤 H A W 𝓣 E G11 G12 b9 Δ0 (λ Ψ. Ψ) (at6 bs) (Lifetime.g-forget 𝓤 H A W E G11 1 Row.dead Path'.refl) d6
+          d7 = Typed.g-pre 𝓤 H A W 𝓣 E G11 G12 b9 Δ0 (Typed.both (s10 bs)) (at6 bs) (Borrow.g-back-arr 𝓤 H A W E LentTilePartEntry.row G11 7 3 1 2048 (Syntax.tyRef Syntax.erased
+              Syntax.mut LentTilePartEntry.pointee) (λ x. x) (λ x. x) (Reads.as-is 𝓤 H A (Mut.msleft LentTilePartEntry.row (Syntax.tyRef Syntax.erased Syntax.mut
+              LentTilePartEntry.pointee))) (Reads.as-is 𝓤 H A (Rows.arr-owed LentTilePartEntry.row 2048 1)) Path'.refl) d6
 
           d8 : Typed.Typed 𝓤 H A 𝓣 E G10 b9 Δ0 (at8 bs)
-          d8 = Typed.g-pre 𝓤 H A W 𝓣 E G10 G11 b9 Δ0 (Typed.both (s9 bs)) (at7 bs) (Borrow.g-back-arr 𝓤 H A W E LentTilePartEntry.row G10 7 3 1 2048 (Syntax.tyRef Syntax.erased
-              Syntax.mut LentTilePartEntry.pointee) (λ x. x) (λ x. x) (Reads.as-is 𝓤 H A (Mut.msleft LentTilePartEntry.row (Syntax.tyRef Syntax.erased Syntax.mut
-              LentTilePartEntry.pointee))) (Reads.as-is 𝓤 H A (Rows.arr-owed LentTilePartEntry.row 2048 1)) Path'.refl) d7
+          d8 = Typed.g-pre 𝓤 H A W 𝓣 E G10 G11 b9 Δ0 (λ Ψ. Ψ) (at7 bs) (Lifetime.g-end 𝓤 H A W E G10 1 Path'.refl) d7
 
           d9 : Typed.Typed 𝓤 H A 𝓣 E G9 b9 Δ0 (at9 bs)
-          d9 = Typed.g-pre 𝓤 H A W 𝓣 E G9 G10 b9 Δ0 (λ Ψ. Ψ) (at8 bs) (Lifetime.g-end 𝓤 H A W E G9 1 Path'.refl) d8
+          d9 = Typed.g-pre 𝓤 H A W 𝓣 E G9 G10 b9 Δ0 (Typed.pass T9 T10 (s8 bs)) (at8 bs) (Scalar.g-room 𝓤 H A W E G9 2 (Syntax.tyStruct (List._∷_ 116 (List._∷_ 121 (List._∷_ 112
+              (List._∷_ 101 (List._∷_ 115 (List._∷_ 58 (List._∷_ 58 (List._∷_ 67 (List._∷_ 111 (List._∷_ 100 (List._∷_ 101 (List._∷_ 115 (List._∷_ 116 (List._∷_ 114 (List._∷_ 101
+              (List._∷_ 97 (List._∷_ 109 (List._∷_ 79 (List._∷_ 102 (List._∷_ 102 (List._∷_ 115 (List._∷_ 101 (List._∷_ 116 List.[]))))))))))))))))))))))) (Syntax.tcons
+              (Syntax.tyInt Syntax.w64) Syntax.tnil)) (Local.room-whole 𝓤 H A W (Declared'.row CodestreamOffset.the-type) (Syntax.tyStruct (List._∷_ 116 (List._∷_ 121 (List._∷_ 112
+              (List._∷_ 101 (List._∷_ 115 (List._∷_ 58 (List._∷_ 58 (List._∷_ 67 (List._∷_ 111 (List._∷_ 100 (List._∷_ 101 (List._∷_ 115 (List._∷_ 116 (List._∷_ 114 (List._∷_ 101
+              (List._∷_ 97 (List._∷_ 109 (List._∷_ 79 (List._∷_ 102 (List._∷_ 102 (List._∷_ 115 (List._∷_ 101 (List._∷_ 116 List.[]))))))))))))))))))))))) (Syntax.tcons
+              (Syntax.tyInt Syntax.w64) Syntax.tnil)) Path'.refl)) d8
 
           d10 : Typed.Typed 𝓤 H A 𝓣 E G8 b10 Δ0 (at10 bs)
           d10 = Typed.s-seq 𝓤 H A W 𝓣 E G8 G9 b4 b9 Δ0 (Typed.both (s7 bs)) (at9 bs) (Plain.t-call-plain 𝓤 H A W 𝓣 2 ps·1 r·1 (claims· .2) (claims· .3)
@@ -978,30 +1122,40 @@ module _ (claims· : Claims) where
                   ref = λ x.
                       x;
                 },
-                (Num.vAt 2 λ x. x, (record { pos = 7; ty = Syntax.tyRef Syntax.erased Syntax.mut LentTilePartEntry.pointee; ref = λ x. x }, tt)),
-              ) 4 (List._∷_ 0 (List._∷_ 1
-              List.[])) (Call.sub-id 𝓤 H A W (G8 .slots)) (
-                ShrSlice.spares-sslice 𝓤 H A W (Referent.rtF (Referent.fInt Syntax.w8)) (Syntax.tyRef (Syntax.named 0) Syntax.imm
-                    (Syntax.tyInt Syntax.w8)) 0,
-                Shared.reads-sslice 𝓤 H A W (Referent.rtF (Referent.fInt Syntax.w8)) (Syntax.tyRef (Syntax.named 0) Syntax.imm (Syntax.tyInt Syntax.w8))
-                    0,
+                (
+                  record { pos = 2; st = List.[]; d = 0; at = λ x. x },
+                  (
+                    record { pos = 7; ty = Syntax.tyRef Syntax.erased Syntax.mut LentTilePartEntry.pointee; ref = λ x. x },
+                    tt,
+                  ),
+                ),
+              ) 4 (List._∷_ 0 (List._∷_ 1 List.[])) (Call.sub-id 𝓤 H A W (G8 .slots)) (
+                ShrSlice.spares-sslice 𝓤 H A W (Referent.rtF (Referent.fInt Syntax.w8)) (Syntax.tyRef
+                    (Syntax.named 0) Syntax.imm (Syntax.tyInt Syntax.w8)) 0,
+                Shared.reads-sslice 𝓤 H A W (Referent.rtF (Referent.fInt Syntax.w8)) (Syntax.tyRef (Syntax.named 0)
+                    Syntax.imm (Syntax.tyInt Syntax.w8)) 0,
                 Path'.refl,
                 (
-                  (Scalar.reads-sc 𝓤 H A W (Row.sInt Syntax.w64), Path'.refl),
                   (
-                    Reads.as-is 𝓤 H A (Mut.mslice LentTilePartEntry.row (Syntax.tyRef Syntax.erased
-                        Syntax.mut LentTilePartEntry.pointee) 1),
-                    Mut.reads-mslice 𝓤 H A W LentTilePartEntry.row (Syntax.tyRef Syntax.erased Syntax.mut LentTilePartEntry.pointee) 1,
+                    Yields.yields-copy 𝓤 H A W (λ ρ. Unit) (Declared'.row CodestreamOffset.the-type) Path'.refl (Copies.cStruct
+                        CodestreamOffset.the-type Laws''.the-laws Laws''.the-copy .copy 𝓤 H A W) (Rows'.whole (Declared'.row CodestreamOffset.the-type)) (λ x. x) (λ x. x) (λ ρ told.
+                        Local.mem-whole 𝓤 H A W (Declared'.row CodestreamOffset.the-type) ρ) λ ρ told. Local.whole-mem 𝓤 H A W (Declared'.row CodestreamOffset.the-type) ρ,
+                    Path'.refl,
+                  ),
+                  (
+                    Reads.as-is 𝓤 H A (Mut.mslice LentTilePartEntry.row (Syntax.tyRef Syntax.erased Syntax.mut LentTilePartEntry.pointee) 1),
+                    Mut.reads-mslice 𝓤 H A W
+                        LentTilePartEntry.row (Syntax.tyRef Syntax.erased Syntax.mut LentTilePartEntry.pointee) 1,
                     Path'.refl,
                     tt,
                   ),
                 ),
-              ) (Reads.room-gone 𝓤 H A (Syntax.tyEnum (List._∷_ 112 (List._∷_ 97 (List._∷_ 114 (List._∷_ 116 (List._∷_ 115 (List._∷_ 58 (List._∷_ 58 (List._∷_ 115
-              (List._∷_ 99 (List._∷_ 97 (List._∷_ 110 (List._∷_ 58 (List._∷_ 58 (List._∷_ 83 (List._∷_ 99 (List._∷_ 97 (List._∷_ 110 (List._∷_ 110 (List._∷_ 101 (List._∷_ 100
-              List.[])))))))))))))))))))) (Syntax.ttcons (Syntax.tcons (Syntax.tyInt Syntax.w64) Syntax.tnil) (Syntax.ttcons (Syntax.tcons (Syntax.tyStruct (List._∷_ 116 (List._∷_
-              121 (List._∷_ 112 (List._∷_ 101 (List._∷_ 115 (List._∷_ 58 (List._∷_ 58 (List._∷_ 82 (List._∷_ 101 (List._∷_ 102 (List._∷_ 117 (List._∷_ 115 (List._∷_ 97 (List._∷_
-              108 List.[])))))))))))))) (Syntax.tcons (Syntax.tyInt Syntax.w32) (Syntax.tcons (Syntax.tyInt Syntax.w64) Syntax.tnil))) Syntax.tnil) Syntax.ttnil)))) (tt, (tt, tt))
-              Path'.refl) d9
+              ) (Reads.room-gone 𝓤 H A (Syntax.tyEnum (List._∷_ 112
+              (List._∷_ 97 (List._∷_ 114 (List._∷_ 116 (List._∷_ 115 (List._∷_ 58 (List._∷_ 58 (List._∷_ 115 (List._∷_ 99 (List._∷_ 97 (List._∷_ 110 (List._∷_ 58 (List._∷_ 58
+              (List._∷_ 83 (List._∷_ 99 (List._∷_ 97 (List._∷_ 110 (List._∷_ 110 (List._∷_ 101 (List._∷_ 100 List.[])))))))))))))))))))) (Syntax.ttcons (Syntax.tcons (Syntax.tyInt
+              Syntax.w64) Syntax.tnil) (Syntax.ttcons (Syntax.tcons (Syntax.tyStruct (List._∷_ 116 (List._∷_ 121 (List._∷_ 112 (List._∷_ 101 (List._∷_ 115 (List._∷_ 58 (List._∷_ 58
+              (List._∷_ 82 (List._∷_ 101 (List._∷_ 102 (List._∷_ 117 (List._∷_ 115 (List._∷_ 97 (List._∷_ 108 List.[])))))))))))))) (Syntax.tcons (Syntax.tyInt Syntax.w32)
+              (Syntax.tcons (Syntax.tyInt Syntax.w64) Syntax.tnil))) Syntax.tnil) Syntax.ttnil)))) (tt, (tt, tt)) Path'.refl) d9
 
           d11 : Typed.Typed 𝓤 H A 𝓣 E G7 b11 Δ0 (at11 bs)
           d11 = Typed.s-seq 𝓤 H A W 𝓣 E G7 G8 b3 b10 Δ0 (Typed.ask (s6 bs)) (at10 bs) (Relend.t-sl-aggregate 𝓤 H A W E LentTilePartEntry.row 𝓣 (Relend.asMut LentTilePartEntry.row)
@@ -1048,14 +1202,30 @@ module _ (claims· : Claims) where
       module _ (κs : Lifetimes.Lfts 1) where
         pub record Args : Type 0 where
           pub codestream : Kinds.Den {n = 1} κs (ShrSlice.pShrS (Referent.rtF (Referent.fInt Syntax.w8)) 0 tt)
-          pub first-sot-offset : Kinds.Den {n = 1} κs (Num.pNum Syntax.w64)
+          pub first-sot-offset : Kinds.Den {n = 1} κs (Value.pVal record {
+            ty = Declared'.row CodestreamOffset.the-type;
+            one = Path'.refl;
+            val = Laws'4.val
+                CodestreamOffset.the-type Laws''.the-laws;
+            tells = Laws'4.tells CodestreamOffset.the-type Laws''.the-laws;
+            still = Laws'4.still CodestreamOffset.the-type
+                Laws''.the-copy Exit.yes;
+            row = Rows'.whole (Declared'.row CodestreamOffset.the-type);
+            rd = λ x. x;
+            mk = λ x. x;
+          } λ M 𝓤 H A W. record {
+            copies = Laws'4.copy
+                CodestreamOffset.the-type Laws''.the-copy 𝓤 H A W;
+            lawful = Laws'4.lawful CodestreamOffset.the-type Laws''.the-laws 𝓤 H A W;
+            makes = Laws'4.makes
+                CodestreamOffset.the-type Laws''.the-plain 𝓤 H A;
+            in-mem = Local.mem-whole 𝓤 H A W (Declared'.row CodestreamOffset.the-type);
+            of-mem = Local.whole-mem 𝓤 H A W
+                (Declared'.row CodestreamOffset.the-type);
+          })
 
         abbrev pub dens : (a : Args) → Kinds.Dens κs ps
         dens = λ a. (a .codestream, (a .first-sot-offset, tt))
-
-        module _ (args· : Args) where
-          pub record Ranges : Type 0 where
-            pub first-sot-offset : Val.Fits Syntax.w64 (args· .first-sot-offset)
 
       abbrev pub m0 : (κs : Lifetimes.Lfts 1) → (args : Args κs) → (blocks : List.List Nat.ℕ) → Typed.Mo T0
       m0 = λ κs args blocks. (tt, Enter.partsP κs 1 ps xs (dens κs args))
@@ -1073,7 +1243,6 @@ module _ (claims· : Claims) where
         pub args : Args κs
         pub blocks : List.List Nat.ℕ
         pub good : Kinds.GoodsP κs ps (dens κs args)
-        pub fits : Ranges κs args
         pub pre : Pre· κs (dens κs args)
 
       abbrev pub m1 : (before : Start) → (given : s0 (before .blocks) .gives (m0 (before .κs) (before .args) (before .blocks))) → Typed.Mo T2
@@ -1141,9 +1310,14 @@ module _ (claims· : Claims) where
             ty = Syntax.tyRef (Syntax.named 0) Syntax.imm (Syntax.tyInt Syntax.w8);
             ref = λ x. x;
           },
-          (Num.vAt 2 λ x. x, (record { pos = 7; ty = Syntax.tyRef Syntax.erased Syntax.mut LentTilePartEntry.pointee; ref = λ x. x }, tt)),
-        ) (m6 (before· .before) (before·
-            .table .given))
+          (
+            record { pos = 2; st = List.[]; d = 0; at = λ x. x },
+            (
+              record { pos = 7; ty = Syntax.tyRef Syntax.erased Syntax.mut LentTilePartEntry.pointee; ref = λ x. x },
+              tt,
+            ),
+          ),
+        ) (m6 (before· .before) (before· .table .given))
 
       pub record After-scan-sot-markers : Type 0 where
         pub before : After-table
@@ -1158,54 +1332,62 @@ module _ (claims· : Claims) where
           ref = λ x.
               x;
         },
-        (Num.vAt 2 λ x. x, (record { pos = 7; ty = Syntax.tyRef Syntax.erased Syntax.mut LentTilePartEntry.pointee; ref = λ x. x }, tt)),
-      ) (m6 (c .before .before) (c
-          .before .table .given)) (c .scan-sot-markers)
+        (
+          record { pos = 2; st = List.[]; d = 0; at = λ x. x },
+          (
+            record { pos = 7; ty = Syntax.tyRef Syntax.erased Syntax.mut LentTilePartEntry.pointee; ref = λ x. x },
+            tt,
+          ),
+        ),
+      ) (m6 (c .before .before) (c .before .table .given)) (c .scan-sot-markers)
 
-      abbrev pub m8 : (before : After-scan-sot-markers) → (given : s9 (before .before .before .before .before .blocks) .gives (m7 (before .before) (After-scan-sot-markers·gave
-          before))) → Typed.Mo T11
-      m8 = λ before given. s9 (before .before .before .before .before .blocks) .next (m7 (before .before) (After-scan-sot-markers·gave before)) given
+      abbrev pub m8 : (before : After-table) → (given : s7 (before .before .before .before .blocks) .gives (m6 (before .before) (before .table .given))) → Typed.Mo T10
+      m8 = λ before given. s8 (before .before .before .before .blocks) (m7 before given)
 
-      abbrev pub m9 : (before : After-scan-sot-markers) → (given : s9 (before .before .before .before .before .blocks) .gives (m7 (before .before) (After-scan-sot-markers·gave
-          before))) → Typed.Mo T13
-      m9 = λ before given. s11 (before .before .before .before .before .blocks) (m8 before given)
+      abbrev pub m9 : (before : After-scan-sot-markers) → (given : s10 (before .before .before .before .before .blocks) .gives (m8 (before .before) (After-scan-sot-markers·gave
+          before))) → Typed.Mo T12
+      m9 = λ before given. s10 (before .before .before .before .before .blocks) .next (m8 (before .before) (After-scan-sot-markers·gave before)) given
 
-      abbrev pub m10 : (before : After-scan-sot-markers) → (given : s9 (before .before .before .before .before .blocks) .gives (m7 (before .before) (After-scan-sot-markers·gave
+      abbrev pub m10 : (before : After-scan-sot-markers) → (given : s10 (before .before .before .before .before .blocks) .gives (m8 (before .before) (After-scan-sot-markers·gave
           before))) → Typed.Mo T14
       m10 = λ before given. s12 (before .before .before .before .before .blocks) (m9 before given)
 
+      abbrev pub m11 : (before : After-scan-sot-markers) → (given : s10 (before .before .before .before .before .blocks) .gives (m8 (before .before) (After-scan-sot-markers·gave
+          before))) → Typed.Mo T15
+      m11 = λ before given. s13 (before .before .before .before .before .blocks) (m10 before given)
+
       module _ (before· : After-scan-sot-markers) where
         pub record After-table2·own : Type 0 where
-          pub given : s9 (before· .before .before .before .before .blocks) .gives (m7 (before· .before) (After-scan-sot-markers·gave before·))
+          pub given : s10 (before· .before .before .before .before .blocks) .gives (m8 (before· .before) (After-scan-sot-markers·gave before·))
 
       pub record After-table2 : Type 0 where
         pub before : After-scan-sot-markers
         pub table2 : After-table2·own before
 
       abbrev pub Need-scan-with-requires : Type 0
-      Need-scan-with-requires = (c : After-table2) → s13 (c .before .before .before .before .before .blocks) .asks (m10 (c .before) (c .table2 .given))
+      Need-scan-with-requires = (c : After-table2) → s14 (c .before .before .before .before .before .blocks) .asks (m11 (c .before) (c .table2 .given))
 
-      abbrev pub m11 : (before : After-table2) → (given : s13 (before .before .before .before .before .before .blocks) .gives (m10 (before .before) (before .table2 .given))) →
-          Typed.Mo T15
-      m11 = λ before given. s13 (before .before .before .before .before .before .blocks) .next (m10 (before .before) (before .table2 .given)) given
+      abbrev pub m12 : (before : After-table2) → (given : s14 (before .before .before .before .before .before .blocks) .gives (m11 (before .before) (before .table2 .given))) →
+          Typed.Mo T16
+      m12 = λ before given. s14 (before .before .before .before .before .before .blocks) .next (m11 (before .before) (before .table2 .given)) given
 
       module _ (before· : After-table2) where
         abbrev pub After-scan-with·own : Type 0
-        After-scan-with·own = Called.Called ps·2 r·2 (claims· .5) T14 (
+        After-scan-with·own = Called.Called ps·2 r·2 (claims· .5) T15 (
           record { pos = 4; st = List.[]; d = 0; at = λ x. x },
           (
             record { pos = 5; st = List.[]; d = 0; at = λ x. x },
             tt,
           ),
-        ) (m10 (before· .before) (before· .table2 .given))
+        ) (m11 (before· .before) (before· .table2 .given))
 
       pub record After-scan-with : Type 0 where
         pub before : After-table2
         pub scan-with : After-scan-with·own before
 
-      abbrev pub After-scan-with·gave : (c : After-scan-with) → s13 (c .before .before .before .before .before .before .blocks) .gives (m10 (c .before .before) (c .before .table2
+      abbrev pub After-scan-with·gave : (c : After-scan-with) → s14 (c .before .before .before .before .before .before .blocks) .gives (m11 (c .before .before) (c .before .table2
           .given))
-      After-scan-with·gave = λ c. Called.given ps·2 r·2 (claims· .5) T14 (
+      After-scan-with·gave = λ c. Called.given ps·2 r·2 (claims· .5) T15 (
         record { pos = 4; st = List.[]; d = 0; at = λ x. x },
         (
           record {
@@ -1216,17 +1398,13 @@ module _ (claims· : Claims) where
           },
           tt,
         ),
-      ) (m10 (c .before .before) (c .before .table2 .given)) (c .scan-with)
+      ) (m11 (c .before .before) (c .before .table2 .given)) (c .scan-with)
 
-      abbrev pub m12 : (before : After-table2) → (given : s13 (before .before .before .before .before .before .blocks) .gives (m10 (before .before) (before .table2 .given))) →
-          Typed.Mo T16
-      m12 = λ before given. s14 (before .before .before .before .before .before .blocks) (m11 before given)
-
-      abbrev pub m13 : (before : After-table2) → (given : s13 (before .before .before .before .before .before .blocks) .gives (m10 (before .before) (before .table2 .given))) →
+      abbrev pub m13 : (before : After-table2) → (given : s14 (before .before .before .before .before .before .blocks) .gives (m11 (before .before) (before .table2 .given))) →
           Typed.Mo T17
       m13 = λ before given. s15 (before .before .before .before .before .before .blocks) (m12 before given)
 
-      abbrev pub m14 : (before : After-table2) → (given : s13 (before .before .before .before .before .before .blocks) .gives (m10 (before .before) (before .table2 .given))) →
+      abbrev pub m14 : (before : After-table2) → (given : s14 (before .before .before .before .before .before .blocks) .gives (m11 (before .before) (before .table2 .given))) →
           Typed.Mo T18
       m14 = λ before given. s16 (before .before .before .before .before .before .blocks) (m13 before given)
 
@@ -1239,8 +1417,8 @@ module _ (claims· : Claims) where
 
       module _ (new-table-requires : Need-new-table-requires) (slice-aggregate-scan-sot-markers : Need-slice-aggregate-scan-sot-markers) (scan-sot-markers-requires :
           Need-scan-sot-markers-requires) (scan-with-requires : Need-scan-with-requires) (returns : Need-returns) where
-        lay3 : (c : After-scan-with) → at3 (c .before .before .before .before .before .before .blocks) (W0 (c .before .before .before .before .before .before .κs) (c .before
-            .before .before .before .before .before .args) (c .before .before .before .before .before .before .blocks)) (m11 (c .before) (After-scan-with·gave c))
+        lay3 : (c : After-scan-with) → at2 (c .before .before .before .before .before .before .blocks) (W0 (c .before .before .before .before .before .before .κs) (c .before
+            .before .before .before .before .before .args) (c .before .before .before .before .before .before .blocks)) (m12 (c .before) (After-scan-with·gave c))
         lay3 = λ c. ((Path'.refl, (tt, tt)), returns record { before = c .before; scan-with = c .scan-with })
 
         lay2 : (c : After-scan-sot-markers) → at9 (c .before .before .before .before .blocks) (W0 (c .before .before .before .before .κs) (c .before .before .before .before .args)
@@ -1252,7 +1430,7 @@ module _ (claims· : Claims) where
             λ g'. lay3 record {
               before = record { before = record { before = c .before; scan-sot-markers = c .scan-sot-markers }; table2 = record { given = g } };
               scan-with =
-                  Called.called ps·2 r·2 (claims· .5) T14 (record { pos = 4; st = List.[]; d = 0; at = λ x. x }, (record { pos = 5; st = List.[]; d = 0; at = λ x. x }, tt)) (m10 record {
+                  Called.called ps·2 r·2 (claims· .5) T15 (record { pos = 4; st = List.[]; d = 0; at = λ x. x }, (record { pos = 5; st = List.[]; d = 0; at = λ x. x }, tt)) (m11 record {
                     before = c .before;
                     scan-sot-markers = c .scan-sot-markers;
                   } g) g';
@@ -1293,13 +1471,13 @@ module _ (claims· : Claims) where
                   ref = λ x. x;
                 },
                 (
-                  Num.vAt 2 λ x. x,
+                  record { pos = 2; st = List.[]; d = 0; at = λ x. x },
                   (
                     record {
                       pos = 7;
-                      ty = Syntax.tyRef Syntax.erased Syntax.mut LentTilePartEntry.pointee;
-                      ref =
-                          λ x. x;
+                      ty = Syntax.tyRef Syntax.erased
+                          Syntax.mut LentTilePartEntry.pointee;
+                      ref = λ x. x;
                     },
                     tt,
                   ),
@@ -1325,16 +1503,7 @@ module _ (claims· : Claims) where
         module _ (κs : Lifetimes.Lfts 1) (qs : Lifetimes.Shares 1) where
           pub asked : (a : Kinds.Dens κs ps) → (good : Kinds.GoodsP κs ps a) → (pre : Pre· κs a) → (bs : List.List Nat.ℕ) → Φ bs (Any.wantQ 1 ps r xs m κs qs a (Post· κs a))
               (Function.init 1 ps r xs m κs qs a)
-          asked = λ a good pre bs. laid record {
-            κs = κs;
-            args = record { codestream = a .0; first-sot-offset = a .1 .0 };
-            blocks = bs;
-            good = good;
-            fits = record {
-              first-sot-offset = record { fits = good .1 .0 .1 };
-            };
-            pre = pre;
-          }
+          asked = λ a good pre bs. laid record { κs = κs; args = record { codestream = a .0; first-sot-offset = a .1 .0 }; blocks = bs; good = good; pre = pre }
 
         module _ {M : Type 1} (𝓤 : URA.URA M) (H : Wp.Heap 𝓤) (A : Atoms.Atoms 𝓤) (W : Kit.Given 𝓤 H A) (𝓣 : Wp.Tables 𝓤 H) (known0 : Plain.Known 𝓤 H A W 𝓣 0 ps·0 r·0 (claims· .0)
             (claims· .1) "records::tables::new_table") (known1 : Plain.Known 𝓤 H A W 𝓣 2 ps·1 r·1 (claims· .2) (claims· .3) "records::scan::scan_sot_markers") (known2 : Plain.Known
