@@ -64,13 +64,7 @@ impl CodestreamOffset {
 }
 
 impl FileOffset {
-    // The same for the file's bytes.
-    pub fn at(position: usize) -> FileOffset
-        ensures { λ r. ⌜ r .0 ≡ position ⌝ }
-    {
-        FileOffset(position as u64)
-    }
-
+    // An offset as a position in the file's bytes.
     pub fn position(self) -> usize
         ensures { λ r. ⌜ r ≡ self .0 ⌝ }
     {
