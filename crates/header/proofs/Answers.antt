@@ -6,7 +6,7 @@ use mathlib.Core.Bool.{true, false, _&&_}
 use mathlib.Core.List.{List, _++_}
 use lib.ListN.{length, drop}
 use lib.Dec.{leb, eqb}
-use borrow.Author.Tests.{le-leb, lt-leb, leb-true}
+use borrow.Author.Tests.{le-leb, lt-leb, eq-eqb, leb-true}
 use Rattle.numbers.specs.Bytes.{be, put}
 use Rattle.numbers.proofs.Laws.{put-start}
 use Rattle.types.specs.Row.{rowsOf}
@@ -45,6 +45,10 @@ module _ (s : List ℕ) where
 and-first : (a b : mathlib.Core.Bool.Bool) → (a && b) ≡ true → a ≡ true
 and-first true b e = refl
 and-first false b e = e
+
+pub stands-there : (s : List ℕ) (at marker : ℕ) → at + 2 ≤ length s → be 2 s at ≡ marker → stands s at marker ≡ true
+unfolding stands
+stands-there s at marker h e = rw (le-leb _ _ h, eq-eqb _ _ e)
 
 pub stands-inside : (s : List ℕ) (at marker : ℕ) → stands s at marker ≡ true → at + 2 ≤ length s
 unfolding stands

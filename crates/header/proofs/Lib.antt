@@ -11,3 +11,4 @@ pub mod Lengths
 pub mod Answers
 pub mod Standard
 pub mod StandardTlm
+pub mod StandardMain

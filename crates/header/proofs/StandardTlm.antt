@@ -1,70 +1,134 @@
--- Where document 01's TLM entries are the standard's: the segments stand in the order of Ztlm, and every one of them has indices or there is one
--- segment only.
-use Prim.Native.Nat.{ℕ, zero, suc, _+_, _≤_}
-use native.Mathlib.Nat.{zero-add}
+-- A TLM segment by the standard, anywhere in a codestream, is passed whole and read entry by entry: each row stands where the rows before it end.
+-- Segments in the order of Ztlm, all with indices, and a single segment make the standard's table.
+use Prim.Native.Nat.{ℕ, _+_, _*_, _^_, _<_}
+use native.Mathlib.Nat.{add-zero, zero-mul, suc-mul, add-mul, add-sub-cancel-left, mul-div-cancel}
+use native.Mathlib.Omega.{arith}
 use mathlib.Core.Path.{_≡_, refl, sym, ap, ap₂, _∙_}
 use mathlib.Core.Bool.{Bool, true, false, cond}
-use mathlib.Core.List.{List, [], _∷_, _++_}
-use borrow.Author.Tests.{le-leb}
-use Rattle.chain.specs.Chain.{Visit}
-use Rattle.header.specs.Tlm.{entryCount, Entry, entryIn, entriesIn}
-use Rattle.header.specs.Strip.{isTlm, tlmEntries}
-use Rattle.header.specs.IsoTlm.{segments, ztlm, insert, ordered, unindexed, numbered, isoFrom, isoEntries}
+use mathlib.Core.List.{List, [], _∷_, _++_, append-assoc}
+use lib.ListN.{length, take, length-append}
+use lib.Dec.{eqb}
+use borrow.Author.Tests.{le-leb, ne-eqb}
+use Rattle.numbers.specs.Bytes.{be}
+use Rattle.numbers.specs.Rows.{row, bytesOfRows, widths}
+use Rattle.numbers.proofs.Laws.{be-rest}
+use Rattle.numbers.proofs.Rows.{length-rows, be-row, be-behind, be-one}
+use Rattle.types.specs.Markers.{TLM}
+use Rattle.header.specs.Step.{delimits, segmentEnd, stepAt}
+use Rattle.header.specs.Tlm.{ltlm, stlm, indexSize, lengthSize, entryCount, tlmAt, entryIn, entriesIn}
+use Rattle.header.specs.IsoTlm.{Pointer, TlmSegment, pointerWidth, pointerRows, tlmRows, Held, TlmRanges, numbered, numberedOn, insert, ordered, isoTable, restarted, InOrder, AllIndexed}
+use Rattle.header.specs.declared.step.HeaderStep.the-variants.{Segment}
+use Rattle.header.specs.declared.tlm.Tlm.the-variants.{Entries}
+use Rattle.header.proofs.Steps.{step-segment}
+use Rattle.header.proofs.Tlms as tlms
 
--- the segments' entries by document 01, one after the other
-plain : List ℕ → List ℕ → List Entry
-plain s [] = []
-plain s (p ∷ rest) = entriesIn s p 0 (entryCount s p) ++ plain s rest
+-- ---- a segment's entries
 
-entries-plain : (s : List ℕ) (visits : List Visit) → tlmEntries s visits ≡ plain s (segments s visits)
-unfolding tlmEntries segments plain
-entries-plain s [] = refl
-entries-plain s (v ∷ rest) = by (isTlm s v) (entries-plain s rest)
-  where
-    by : (b : Bool) → tlmEntries s rest ≡ plain s (segments s rest)
-        → cond b (entriesIn s (v .at) 0 (entryCount s (v .at)) ++ tlmEntries s rest) (tlmEntries s rest) ≡ plain s (cond b (v .at ∷ segments s rest) (segments s rest))
-    by true e = ap (λ (es : List Entry). entriesIn s (v .at) 0 (entryCount s (v .at)) ++ es) e
-    by false e = e
+widths-pointers : (ST SP : ℕ) (ps : List Pointer) → widths (pointerRows ST SP ps) ≡ length ps * (ST + pointerWidth SP)
+unfolding pointerRows widths
+widths-pointers ST SP [] = sym (zero-mul _)
+widths-pointers ST SP (p ∷ more) = omega (arith, widths-pointers ST SP more, suc-mul (length more) (ST + pointerWidth SP))
 
--- Ztlm does not fall from a segment to the next
-abbrev pub InOrder : List ℕ → List ℕ → Type 0
-InOrder s [] = Unit {0}
-InOrder s (p ∷ []) = Unit {0}
-InOrder s (p ∷ q ∷ rest) = (ztlm s p ≤ ztlm s q) × InOrder s (q ∷ rest)
+-- the first entry's index, and its length
+module _ (front : List ℕ) (ST SP : ℕ) (p : Pointer) (more : List Pointer) (rest : List ℕ) where
+  index-read : p .Ttlm < 256 ^ ST → be ST (front ++ (bytesOfRows (pointerRows ST SP (p ∷ more)) ++ rest)) (length front) ≡ p .Ttlm
+  unfolding pointerRows widths
+  index-read h = be-behind ST front _ ∙ be-row [] ST (p .Ttlm) _ rest h
 
-ordered-same : (s ps : List ℕ) → InOrder s ps → ordered s ps ≡ ps
-unfolding ordered insert
-ordered-same s [] o = refl
-ordered-same s (p ∷ []) o = refl
-ordered-same s (p ∷ q ∷ rest) o = ap (insert s p) (ordered-same s (q ∷ rest) (o .1)) ∙ rw (le-leb _ _ (o .0))
+  length-read : p .Ptlm < 256 ^ pointerWidth SP → be (pointerWidth SP) (front ++ (bytesOfRows (pointerRows ST SP (p ∷ more)) ++ rest)) (length front + ST) ≡ p .Ptlm
+  unfolding pointerRows widths
+  length-read h = be-rest (pointerWidth SP) front _ ST ∙ rw add-zero at (be-row (row ST (p .Ttlm) ∷ []) (pointerWidth SP) (p .Ptlm) (pointerRows ST SP more) rest h)
 
--- with indices, or from 0 on, the numbering is document 01's
-numbered-indexed : (s : List ℕ) (at k i n : ℕ) → unindexed s at ≡ false → numbered s at k i n ≡ entriesIn s at i n
-unfolding numbered entriesIn entryIn
-numbered-indexed s at k i zero e = refl
-numbered-indexed s at k i (suc n) e = rw (e, numbered-indexed s at k (i + 1) n e)
+same-choice : (b : Bool) (x : ℕ) {y z : ℕ} → (b ≡ false → y ≡ z) → cond b x y ≡ cond b x z
+same-choice true x e = refl
+same-choice false x e = e refl
 
-numbered-first : (s : List ℕ) (at i n : ℕ) → numbered s at 0 i n ≡ entriesIn s at i n
-unfolding numbered entriesIn entryIn
-numbered-first s at i zero = refl
-numbered-first s at i (suc n) = rw (zero-add i, numbered-first s at (i + 1) n)
+-- the entries whose rows stand where the i-th has its place
+module _ (s : List ℕ) (at ST SP : ℕ) (narrow : indexSize (stlm s at) ≡ ST) (wide : lengthSize (stlm s at) ≡ pointerWidth SP) where
+  entries-rows : (front : List ℕ) (i : ℕ) (ps : List Pointer) (rest : List ℕ) → s ≡ front ++ (bytesOfRows (pointerRows ST SP ps) ++ rest)
+      → length front ≡ at + 6 + i * (ST + pointerWidth SP) → Held ST SP ps → entriesIn s at i (length ps) ≡ numbered ST i ps
+  unfolding entriesIn entryIn numbered pointerRows bytesOfRows widths Held
+  entries-rows front i [] rest whole place h = refl
+  entries-rows front i (p ∷ more) rest whole place h =
+      let index : entryIn s at i .index ≡ cond (eqb ST 0) i (p .Ttlm) =
+      rw (narrow, wide, whole, ← place) (same-choice (eqb ST 0) i (λ e. index-read front ST SP p more rest (h .0 .0 e))) in
+      let bytes : entryIn s at i .bytes ≡ p .Ptlm = rw (narrow, wide, whole, ← place) (length-read front ST SP p more rest (h .0 .1)) in
+      let passed : List ℕ = front ++ bytesOfRows (row ST (p .Ttlm) ∷ row (pointerWidth SP) (p .Ptlm) ∷ []) in
+      let next : length passed ≡ at + 6 + (i + 1) * (ST + pointerWidth SP) =
+      rw (length-append, length-rows) (omega (arith, add-mul i 1 (ST + pointerWidth SP))) in
+      ap₂ _∷_ (λ j. record { index = index j; bytes = bytes j }) (entries-rows passed (i + 1) more rest (whole ∙ simp append-assoc) next (h .1))
 
-abbrev pub AllIndexed : List ℕ → List ℕ → Type 0
-AllIndexed s [] = Unit {0}
-AllIndexed s (p ∷ rest) = (unindexed s p ≡ false) × AllIndexed s rest
+-- ---- a segment
 
-iso-indexed : (s : List ℕ) (k : ℕ) (ps : List ℕ) → AllIndexed s ps → isoFrom s k ps ≡ plain s ps
-unfolding isoFrom plain
-iso-indexed s k [] a = refl
-iso-indexed s k (p ∷ rest) a = ap₂ _++_ (numbered-indexed s p k 0 (entryCount s p) (a .0)) (iso-indexed s _ rest (a .1))
+module _ (front : List ℕ) (t : TlmSegment) (rest : List ℕ) (r : TlmRanges t) where
+  pub tlm-marker : be 2 (front ++ (bytesOfRows (tlmRows t) ++ rest)) (length front) ≡ TLM
+  unfolding tlmRows widths
+  tlm-marker = be-behind 2 front _ ∙ be-row [] 2 TLM _ rest (omega arith)
 
--- every segment has indices
-pub tlm-indexed : (s : List ℕ) (visits : List Visit) → InOrder s (segments s visits) → AllIndexed s (segments s visits) → tlmEntries s visits ≡ isoEntries s visits
-unfolding isoEntries
-tlm-indexed s visits o a = entries-plain s visits ∙ sym (ap (isoFrom s 0) (ordered-same s (segments s visits) o) ∙ iso-indexed s 0 (segments s visits) a)
+  -- Ltlm, and Stlm taken apart
+  length-field : ltlm (front ++ (bytesOfRows (tlmRows t) ++ rest)) (length front) ≡ 4 + length (t .pointers) * (t .ST + pointerWidth (t .SP))
+  unfolding tlmRows widths
+  length-field = be-rest 2 front _ 2 ∙ be-row (take 1 (tlmRows t)) 2 _ _ rest (r .Ltlm)
 
--- one segment only
-pub tlm-single : (s : List ℕ) (visits : List Visit) (p : ℕ) → segments s visits ≡ p ∷ [] → tlmEntries s visits ≡ isoEntries s visits
-unfolding isoEntries ordered insert isoFrom plain
-tlm-single s visits p e =
-    entries-plain s visits ∙ rw e (ap (λ (es : List Entry). es ++ []) (sym (numbered-first s p 0 (entryCount s p))))
+  sizes-field : stlm (front ++ (bytesOfRows (tlmRows t) ++ rest)) (length front) ≡ 64 * t .SP + 16 * t .ST
+  unfolding tlmRows widths
+  sizes-field = sym (be-one _ _) ∙ be-rest 1 front _ 5 ∙ be-row (take 3 (tlmRows t)) 1 _ _ rest (omega arith)
+
+  narrow : indexSize (stlm (front ++ (bytesOfRows (tlmRows t) ++ rest)) (length front)) ≡ t .ST
+  narrow = omega (arith, sizes-field)
+
+  wide : lengthSize (stlm (front ++ (bytesOfRows (tlmRows t) ++ rest)) (length front)) ≡ pointerWidth (t .SP)
+  wide = omega (arith, sizes-field)
+
+  -- it is passed whole
+  pub tlm-step : stepAt (front ++ (bytesOfRows (tlmRows t) ++ rest)) (length front) ≡ Segment (length front + length (bytesOfRows (tlmRows t)))
+  unfolding delimits segmentEnd tlmRows widths
+  tlm-step =
+      let s : List ℕ = front ++ (bytesOfRows (tlmRows t) ++ rest) in
+      let size : length (bytesOfRows (tlmRows t)) ≡ 6 + length (t .pointers) * (t .ST + pointerWidth (t .SP)) =
+      length-rows (tlmRows t) ∙ omega (arith, widths-pointers (t .ST) (t .SP) (t .pointers)) in
+      let whole : length s ≡ length front + (length (bytesOfRows (tlmRows t)) + length rest) = simp length-append in
+      let ends : segmentEnd s (length front) ≡ length front + length (bytesOfRows (tlmRows t)) = omega (arith, length-field) in
+      step-segment s (length front) (omega arith) (λ e. omega (arith, tlm-marker)) (ap delimits tlm-marker) (omega arith) (omega arith) ∙ ap Segment ends
+
+  -- it is accepted, and read entry by entry
+  pub tlm-count : entryCount (front ++ (bytesOfRows (tlmRows t) ++ rest)) (length front) ≡ length (t .pointers)
+  unfolding entryCount
+  tlm-count = rw (length-field, narrow, wide, add-sub-cancel-left 4) (mul-div-cancel (length (t .pointers)) (omega arith))
+
+  pub tlm-read : tlmAt (front ++ (bytesOfRows (tlmRows t) ++ rest)) (length front) ≡ Entries (length (t .pointers))
+  tlm-read = tlms.tlm-entries _ _ (omega (arith, length-field)) (λ e. omega (arith, narrow)) ∙ ap Entries tlm-count
+
+  pub tlm-entries : entriesIn (front ++ (bytesOfRows (tlmRows t) ++ rest)) (length front) 0 (length (t .pointers)) ≡ numbered (t .ST) 0 (t .pointers)
+  unfolding tlmRows bytesOfRows widths
+  tlm-entries =
+      let head : List ℕ = front ++ bytesOfRows (take 4 (tlmRows t)) in
+      entries-rows _ (length front) (t .ST) (t .SP) narrow wide head 0 (t .pointers) rest (simp append-assoc) (rw (length-append, length-rows) (omega arith)) (r .held)
+
+-- ---- the table
+
+ordered-same : (ts : List TlmSegment) → InOrder ts → ordered ts ≡ ts
+unfolding ordered insert InOrder
+ordered-same [] o = refl
+ordered-same (t ∷ []) o = refl
+ordered-same (t ∷ u ∷ more) o = ap (insert t) (ordered-same (u ∷ more) (o .1)) ∙ rw (le-leb _ _ (o .0))
+
+-- with an index, the numbering is not looked at
+numbered-indexed : (ST k n : ℕ) (ps : List Pointer) → (ST ≡ 0 → ⊥) → numbered ST k ps ≡ numbered ST n ps
+unfolding numbered
+numbered-indexed ST k n [] h = refl
+numbered-indexed ST k n (p ∷ more) h = rw (ne-eqb ST 0 h, numbered-indexed ST (k + 1) (n + 1) more h)
+
+on-indexed : (k : ℕ) (ts : List TlmSegment) → AllIndexed ts → restarted ts ≡ numberedOn k ts
+unfolding restarted numberedOn AllIndexed
+on-indexed k [] a = refl
+on-indexed k (t ∷ more) a = ap₂ _++_ (numbered-indexed (t .ST) 0 k (t .pointers) (a .0)) (on-indexed _ more (a .1))
+
+-- Document 01's table is the standard's: for indexed segments in the order of Ztlm, and for a single segment.
+pub restarted-indexed : (ts : List TlmSegment) → InOrder ts → AllIndexed ts → restarted ts ≡ isoTable ts
+unfolding isoTable
+restarted-indexed ts o a = on-indexed 0 ts a ∙ ap (numberedOn 0) (sym (ordered-same ts o))
+
+pub restarted-single : (t : TlmSegment) → restarted (t ∷ []) ≡ isoTable (t ∷ [])
+unfolding restarted isoTable ordered insert numberedOn
+restarted-single t = refl

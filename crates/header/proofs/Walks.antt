@@ -94,7 +94,7 @@ Tells s at (Passed p) = PassedIs s at p
 Tells s at FirstSot = Unit {0}
 Tells s at (Refused r) = Unit {0}
 
-not-true-false : true ≡ false → ⊥
+pub not-true-false : true ≡ false → ⊥
 not-true-false e = let z : _≡_ {A = ℕ} 0 1 = cc in omega arith
 
 tells-tlm : (s : List ℕ) (at next : ℕ) → at < next → next ≤ length s → be 2 s at ≡ TLM → next ≡ segmentEnd s at → Tells s at (tlmStep next (tlmAt s at))

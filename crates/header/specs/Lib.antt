@@ -6,3 +6,4 @@ pub mod Strip
 pub mod Parse
 pub mod Iso
 pub mod IsoTlm
+pub mod IsoMain

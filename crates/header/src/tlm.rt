@@ -44,7 +44,7 @@ pub fn tlm_at(codestream: &[u8], at: usize) -> Tlm
     if ltlm < 4 {
         return Tlm::Refused(Refusal { number: 4, place });
     }
-    let stlm = codestream[at + 5];
+    let stlm = codestream[at + 5]; // behind Ztlm, which is not read
     let index_bytes = index_size(stlm);
     if index_bytes == 3 {
         return Tlm::Refused(Refusal { number: 5, place });

@@ -15,7 +15,6 @@ use Rattle.parts.specs.Tiles.{ofTile}
 use Rattle.tile.specs.Siz.{pair, oneTile}
 use Rattle.tile.specs.Rewrite.{fitting, less, axisOf, columnsOf, sized, bothAxes, inGrid, sizeIn, tileSize, cutTo, rewritten, over, rewriteAnswer, rewriteOut}
 use Rattle.tile.specs.Assembly.{rows, rangesFrom, ranges, rangeOf, andPart, partsIn, isSot, patched, partSize, sizeFor, joined, assembled, answerFor, assemblyAnswer, assemblyOut}
-use Rattle.tile.specs.Iso.{isoColumns, isoStart, isoEnd, isoExtent, isoWidth}
 use Rattle.reader.specs.Search.{boxAt, content, passed, onBox, foundFrom, isJp2, foundIn}
 use Rattle.laws.specs.Sample.{two, four, siz, header, tlm, sot, part, head, withTlm, A, signature, jp2c}
 use Rattle.parts.specs.Scan as scan
@@ -47,10 +46,6 @@ split-runs = tt
 unfoldable pub tiles : Unit {0}
 unfolding samples pair oneTile ceilDiv fitting less axisOf columnsOf sized bothAxes inGrid sizeIn tileSize cutTo rewritten rewrite.withRoom rewrite.judged over rewriteAnswer rewriteOut rows rangesFrom ranges rangeOf andPart partsIn isSot patched partSize sizeFor joined assembled answerFor assemblyAnswer assemblyOut
 tiles = tt
-
-unfoldable pub iso-tiles : Unit {0}
-unfolding samples ceilDiv isoColumns isoStart isoEnd isoExtent isoWidth
-iso-tiles = tt
 
 unfoldable pub searches : Unit {0}
 unfolding samples boxAt content passed onBox search.moveAt foundFrom isJp2 foundIn

@@ -34,9 +34,10 @@ use Rattle.tile.specs.declared.rewrite.Written.{Written}
 use Rattle.tile.specs.declared.rewrite.Written.the-variants.{Bytes}
 use Rattle.tile.proofs.Rewrites.{room-enough}
 use Rattle.tile.proofs.Headers.{length-rewritten}
+use Rattle.tile.proofs.Rows.{All, none, more}
 use Rattle.tile.proofs.Assemblies.{part-sot, for-first, assembled-is}
 use Rattle.laws.specs.Demand3.{Accepted, decodeHeaderOf, assembledOf, Assembles, Standing, Reassembled, Demand3}
-use Rattle.laws.proofs.Entries.{OfTile, All, none, more, entries-of-tile, ranges-back, parts-in}
+use Rattle.laws.proofs.Entries.{OfTile, entries-of-tile, ranges-back, parts-in}
 use Rattle.laws.proofs.Rewalked.{Rewalked, rewalked}
 use Rattle.laws.proofs.Rescanned.{part-tile, part-is-sot, patched-long, patched-marker, rescan, scans-table}
 use Rattle.header.specs.declared.parse.MainHeader.the-variants as parse
@@ -177,7 +178,7 @@ module _ (s : List ℕ) (p : ℕ) (c : Accepted s p) (tile : ℕ) (es : List Til
         info = accepted .0;
         walk = accepted .1;
         first = accepted .2 ∙ sym (length-rewritten (decodeHeaderOf s) tile);
-        scan = scans-table scanned;
+        scan = scans-table es scanned;
         entries = scanned .entries;
       })
 

@@ -20,14 +20,13 @@ use Rattle.parts.specs.Tiles.{ofTile}
 use Rattle.parts.specs.declared.scan.Scanned.the-variants.{Table}
 use Rattle.tile.specs.Rewrite.{outside, tileSize, rewritten, rewriteAnswer, rewriteOut}
 use Rattle.tile.specs.Assembly.{assemblyAnswer, assemblyOut}
-use Rattle.tile.specs.Iso.{isoWidth}
 use Rattle.tile.specs.declared.rewrite.TileSize.the-variants.{Whole, Cut}
 use Rattle.tile.specs.declared.rewrite.Written.the-variants.{Bytes}
 use Rattle.reader.specs.Search.{refused, foundIn}
 use Rattle.reader.specs.Growth.{regionAt, grown}
 use Rattle.reader.specs.declared.search.Found.the-variants.{Codestream}
 use Rattle.reader.proofs.Regions.{region-pow, whole-suffices, truncated-not, grown-end, grown-on}
-use Rattle.laws.proofs.Computing.{samples, extents, walks, scan-runs, split-runs, tiles, iso-tiles, searches, siz-readings}
+use Rattle.laws.proofs.Computing.{samples, extents, walks, scan-runs, split-runs, tiles, searches, siz-readings}
 use Rattle.laws.specs.Sample.{zeros, header, tlm, sot, part, head, withTlm, A, signature, jp2c}
 use Rattle.header.specs.Tlm as tlms
 use Rattle.header.specs.declared.parse.MainHeader.the-variants as parse
@@ -260,23 +259,3 @@ one-left = refl
 pub nothing : siz-reading.sizRead [] ≡ siz-reading.refused 21 2
 unfolding siz-readings
 nothing = refl
-
--- ---- beside the table: the smallest tiles on which document 01 and the standard differ
-
--- XTOsiz 0, XOsiz 1, Xsiz 3, XTsiz 2: by the standard tile 0 covers column 1, by document 01 it has full size
-pub origins-iso : isoWidth (header 3 1 1 0 2 1) 0 ≡ 1
-unfolding iso-tiles
-origins-iso = refl
-
-pub origins-differ : tileSize (header 3 1 1 0 2 1) 0 ≡ Whole
-unfolding tiles
-origins-differ = refl
-
--- tile 1, 1 by 1 by the standard, is by document 01 in a second row with no height
-pub origins-iso-one : isoWidth (header 3 1 1 0 2 1) 1 ≡ 1
-unfolding iso-tiles
-origins-iso-one = refl
-
-pub origins-differ-one : tileSize (header 3 1 1 0 2 1) 1 ≡ Cut 2 0
-unfolding tiles
-origins-differ-one = refl

@@ -1,20 +1,18 @@
 -- What a scan's entries of one tile are: at each an SOT with Lsot 10 and the tile's index stands whole, so the rows of the entries are read back as
 -- those entries, and their ranges are kept.
-use Prim.Native.Nat.{ℕ, _+_, _-_, _/_, _≤_}
-use native.Mathlib.Nat.{add-zero}
+use Prim.Native.Nat.{ℕ, _+_, _-_, _≤_}
 use native.Mathlib.Omega.{arith}
 use mathlib.Core.Path.{_≡_, refl, sym, ap, ap₂, _∙_}
 use mathlib.Core.Bool.{Bool, true, false, _&&_}
-use mathlib.Core.List.{List, [], _∷_, _++_, map, append-assoc}
-use lib.ListN.{length, take, drop, length-append}
-use lib.Seq.{drop-append-seam}
+use mathlib.Core.List.{List, _∷_, map}
+use lib.ListN.{length, take, drop}
 use lib.Dec.{leb, eqb}
 use borrow.Author.Tests.{ne-eqb, eqb-true, eqb-false}
-use Rattle.numbers.specs.Bytes.{be, put}
-use Rattle.numbers.proofs.Laws.{be-rest, be-bound, put-start}
+use Rattle.numbers.specs.Bytes.{be}
+use Rattle.numbers.proofs.Laws.{be-bound}
 use Rattle.types.specs.Markers.{SOT, EOC}
-use Rattle.types.specs.Row.{entryAt, rowOf, rowsOf}
-use Rattle.types.proofs.Laws.{Fits, length-row, length-rows, entry-put}
+use Rattle.types.specs.Row.{rowsOf}
+use Rattle.types.proofs.Laws.{Fits}
 use Rattle.types.specs.declared.TilePartEntry.{TilePartEntry}
 use Rattle.chain.specs.Chain.{on, Visit, Run, stay, step}
 use Rattle.chain.proofs.Laws.{chain-run, end-on}
@@ -22,10 +20,12 @@ use Rattle.parts.specs.Sot.{lsot, isot}
 use Rattle.parts.specs.Scan.{refusal, ended, refused, eocAt, moveOf, moveAt, scanFrom, visited, entriesFrom}
 use Rattle.parts.specs.Tiles.{ofTile, bytesAt}
 use Rattle.numbers.proofs.Choice.{by-test}
-use Rattle.parts.proofs.Scans.{Stands, move-passed, rises, sot-lsot, step-sot}
-use Rattle.tile.specs.Assembly.{rows, rangesFrom, ranges, andPart, partsIn}
+use Rattle.parts.proofs.Scans.{Stands, move-passed, rises, sot-lsot, sot-no-eoc, step-sot}
+use Rattle.tile.specs.Assembly.{ranges, andPart, partsIn}
 use Rattle.tile.specs.declared.assembly.Range.{Range}
 use Rattle.tile.proofs.Ranges.{range-kept}
+use Rattle.tile.proofs.Rows.{All, none, more, all-map}
+use Rattle.tile.proofs.Rows as rows
 use Rattle.laws.specs.Demand3.{AllBytes}
 
 -- ---- a scan's entries
@@ -34,23 +34,6 @@ pub record OfTile (s : List ℕ) (tile : ℕ) (e : TilePartEntry) : Type 0 where
   pub stands : Stands s (e .offset .0) e
   pub lsot : lsot s (e .offset .0) ≡ 10
   pub isot : isot s (e .offset .0) ≡ tile
-
-pub data All (P : TilePartEntry → Type 0) : List TilePartEntry → Type 0 where
-  none : All P []
-  more : {e : TilePartEntry} {rest : List TilePartEntry} → P e → All P rest → All P (e ∷ rest)
-
-pub all-map : {P Q : TilePartEntry → Type 0} → ((e : TilePartEntry) → P e → Q e) → {es : List TilePartEntry} → All P es → All Q es
-all-map f none = none
-all-map f (more {e = e} p rest) = more (f e p) (all-map f rest)
-
-and-false : (b : Bool) → b && false ≡ false
-and-false true = refl
-and-false false = refl
-
--- no SOT is an EOC
-pub sot-no-eoc : (s : List ℕ) (at : ℕ) → be 2 s at ≡ SOT → eocAt s at ≡ false
-unfolding eocAt
-sot-no-eoc s at m = rw (ne-eqb (be 2 s at) EOC (λ e. omega arith)) (and-false (leb (at + 2) (length s)))
 
 -- the scan moves on only where Lsot is 10
 passed-lsot : (s : List ℕ) (at next : ℕ) → moveAt s at ≡ on next → lsot s at ≡ 10
@@ -95,35 +78,9 @@ entry-fits s tile bytes short e o =
       length = omega arith;
     }
 
-row-here : (e : TilePartEntry) (rest : List ℕ) → Fits e → entryAt (rowOf e ++ rest) 0 ≡ e
-row-here e rest f =
-    let whole : List ℕ = rowOf e ++ rest in
-    let same : put whole 0 (rowOf e) ≡ whole = put-start whole (rowOf e) ∙ ap (λ (l : List ℕ). rowOf e ++ l) (drop-append-seam (rowOf e) rest) in
-    ap (λ (l : List ℕ). entryAt l 0) (sym same) ∙ entry-put e whole 0 f (simp length-append (omega (arith, length-row e)))
-
-entry-past : (front s : List ℕ) → entryAt (front ++ s) (length front) ≡ entryAt s 0
-entry-past front s =
-    let first : be 2 (front ++ s) (length front) ≡ be 2 s 0 = ap (be 2 (front ++ s)) (sym (add-zero (length front))) ∙ be-rest 2 front s 0 in
-    λ i. record { «tile_index» = first i; offset = record { 0 = be-rest 8 front s 2 i }; length = be-rest 8 front s 10 i }
-
-row-ends : (front : List ℕ) (e : TilePartEntry) → length front + 18 ≡ length (front ++ rowOf e)
-row-ends front e = simp length-append (omega (arith, length-row e))
-
-rows-back : {es : List TilePartEntry} → All Fits es → (front : List ℕ) → rows (length es) (front ++ rowsOf es) (length front) ≡ es
-unfolding rows rowsOf
-rows-back none front = refl
-rows-back (more {e = e} {rest = rest} f fits) front =
-    ap₂ (λ (x : TilePartEntry) (xs : List TilePartEntry). x ∷ xs)
-    (entry-past front (rowOf e ++ rowsOf rest) ∙ row-here e (rowsOf rest) f)
-    (ap₂ (λ (l : List ℕ) (n : ℕ). rows (length rest) l n) (sym (append-assoc front (rowOf e) (rowsOf rest))) (row-ends front e)
-    ∙ rows-back fits (front ++ rowOf e))
-
 -- the rows of entries, read back
 pub ranges-back : (s : List ℕ) (tile : ℕ) → AllBytes s → length s ≤ 0xffff_ffff → {es : List TilePartEntry} → All (OfTile s tile) es → ranges (rowsOf es) ≡ es
-unfolding ranges rangesFrom
-ranges-back s tile bytes short {es} all =
-    let count : (length (rowsOf es) - 0) / 18 ≡ length es = omega (arith, length-rows es) in
-    ap (λ (n : ℕ). rows n (rowsOf es) 0) count ∙ rows-back (all-map (entry-fits s tile bytes short) all) []
+ranges-back s tile bytes short all = rows.ranges-back (all-map (entry-fits s tile bytes short) all)
 
 -- ---- their ranges
 

@@ -3,27 +3,29 @@
 use Prim.Native.Nat.{ℕ, suc, _+_, _≤_}
 use native.Mathlib.Nat.{add-zero}
 use native.Mathlib.Omega.{arith}
-use mathlib.Core.Path.{_≡_, refl, sym, ap, ap₂, _∙_}
+use mathlib.Core.Path.{_≡_, refl, sym, ap, _∙_}
 use mathlib.Core.Logic.{⊎-elim}
 use mathlib.Core.Bool.{true}
-use mathlib.Core.List.{List, [], _∷_, _++_, map, append-assoc}
-use lib.ListN.{length, length-append, length-take, length-drop, length-map}
+use mathlib.Core.List.{List, [], _∷_, _++_, map, append-assoc, append-nil}
+use lib.ListN.{length, length-append, length-take, length-drop}
 use borrow.Author.Tests.{le-leb, eq-eqb}
 use Rattle.numbers.specs.Bytes.{be, bytesOf, put}
 use Rattle.numbers.proofs.Laws.{be-rest, be-front, be-part, be-put, be-put-before, be-put-after, be-bytesOf, length-bytes}
 use Rattle.types.specs.Markers.{SOT, EOC}
 use Rattle.types.specs.declared.TilePartEntry.{TilePartEntry}
-use Rattle.chain.specs.Chain.{Chain, also}
 use Rattle.parts.specs.Sot.{lsot, isot, psot}
-use Rattle.parts.specs.Scan.{ScanEnd, ended, eocAt, scanStepAt, scanFrom, visited, entriesFrom, endedAs, judged}
+use Rattle.parts.specs.Scan.{scanStepAt, scanFrom, judged}
 use Rattle.parts.specs.Tiles.{bytesAt, AllLong}
-use Rattle.parts.specs.declared.scan.ScanStep.the-variants.{Part, Ended}
+use Rattle.parts.specs.declared.scan.ScanStep.the-variants.{Part}
 use Rattle.parts.specs.declared.scan.Scanned.the-variants.{Table}
-use Rattle.parts.proofs.Scans.{step-eoc, step-sot, sot-part, scan-ended, scan-part, entries-ended, entries-part, same-part}
+use Rattle.parts.proofs.Scans.{step-sot, sot-no-eoc, sot-part, same-part, Scans, scans-end, scans-part}
+use Rattle.parts.proofs.Answers.{scans-judged}
+use Rattle.parts.proofs.Iso.{eoc-ends}
 use Rattle.tile.specs.Assembly.{isSot, patched, joined}
 use Rattle.tile.proofs.Assemblies.{patched-sot, length-patched}
+use Rattle.tile.proofs.Rows.{All, none, more}
 use Rattle.laws.specs.Demand3.{NoPsot0, underZero}
-use Rattle.laws.proofs.Entries.{OfTile, All, none, more, sot-no-eoc}
+use Rattle.laws.proofs.Entries.{OfTile}
 
 -- ---- a part, with Isot 0
 
@@ -88,49 +90,19 @@ module _ (s : List ℕ) (tile : ℕ) (e : TilePartEntry) (o : OfTile s tile e) (
 
 -- ---- all of them, and EOC
 
-eoc-ends : (front : List ℕ) → scanStepAt (front ++ bytesOf 2 EOC) (length front) ≡ Ended
-unfolding eocAt
-eoc-ends front =
-    let a : List ℕ = front ++ bytesOf 2 EOC in
-    let whole : length a ≡ length front + 2 = simp (length-append, length-bytes) in
-    let marker : be 2 a (length front) ≡ EOC =
-    ap (be 2 a) (sym (add-zero (length front))) ∙ be-rest 2 front (bytesOf 2 EOC) 0 ∙ be-bytesOf 2 EOC (omega arith) in
-    step-eoc a (length front) (omega arith) (rw (le-leb (length front + 2) (length a) (omega arith), eq-eqb _ _ marker))
-
--- the scan from a position on is not refused, and gives these entries' lengths under index 0
-pub record Scans (a : List ℕ) (at : ℕ) (es : List TilePartEntry) : Type 0 where
-  pub stops : scanFrom a at .ended ≡ ended
-  pub entries : entriesFrom a at ≡ underZero at es
-
-scans-as : {a b : List ℕ} {at there : ℕ} {es : List TilePartEntry} → a ≡ b → at ≡ there → Scans a at es → Scans b there es
-scans-as e f h = rw (← e, ← f) h
-
-scans-end : (a : List ℕ) (at : ℕ) → scanStepAt a at ≡ Ended → Scans a at []
-unfolding underZero
-scans-end a at e = record { stops = ap (λ (c : Chain ScanEnd). c .ended) (scan-ended a at e); entries = entries-ended a at e }
-
-scans-part : (a : List ℕ) (at : ℕ) (e : TilePartEntry) (es : List TilePartEntry)
-    → scanStepAt a at ≡ Part (record { «tile_index» = 0; offset = record { 0 = at }; length = e .length }) → Scans a (at + e .length) es → Scans a at (e ∷ es)
-unfolding underZero also
-scans-part a at e es found after =
-    let part : TilePartEntry = record { «tile_index» = 0; offset = record { 0 = at }; length = e .length } in
-    record {
-      stops = ap (λ (c : Chain ScanEnd). c .ended) (scan-part a at part found) ∙ after .stops;
-      entries = entries-part a at part found ∙ ap (λ (l : List TilePartEntry). part ∷ l) (after .entries);
-    }
-
 pub rescan : (s : List ℕ) (tile : ℕ) {es : List TilePartEntry} → All (OfTile s tile) es → AllLong es → NoPsot0 s es → (front : List ℕ)
-    → Scans (front ++ (joined (map (bytesAt s) es) ++ bytesOf 2 EOC)) (length front) es
-unfolding AllLong NoPsot0 joined
-rescan s tile none long some front = scans-end (front ++ bytesOf 2 EOC) (length front) (eoc-ends front)
+    → Scans (front ++ (joined (map (bytesAt s) es) ++ bytesOf 2 EOC)) (length front) (underZero (length front) es)
+unfolding AllLong NoPsot0 joined underZero
+rescan s tile none long some front = scans-end (front ++ bytesOf 2 EOC) (length front) (rw append-nil at (eoc-ends front []))
 rescan s tile (more {e = e} {rest = rest} o all) long some front =
     let part : List ℕ = patched (bytesAt s e) in
     let y : List ℕ = joined (map (bytesAt s) rest) in
     let there : length (front ++ part) ≡ length front + e .length = length-append front part ∙ ap (λ (n : ℕ). length front + n) (patched-long s tile e o (long .0)) in
+    let after = rescan s tile all (long .1) (some .1) (front ++ part) in
     rw (append-assoc part y (bytesOf 2 EOC))
-    (scans-part (front ++ (part ++ (y ++ bytesOf 2 EOC))) (length front) e rest
+    (scans-part (front ++ (part ++ (y ++ bytesOf 2 EOC))) (length front) _ _
     (step-there s tile e o (long .0) (some .0) front (y ++ bytesOf 2 EOC))
-    (scans-as (append-assoc front part (y ++ bytesOf 2 EOC)) there (rescan s tile all (long .1) (some .1) (front ++ part))))
+    (rw (there, append-assoc front part (y ++ bytesOf 2 EOC)) at after))
 
 length-under : (at : ℕ) (es : List TilePartEntry) → length (underZero at es) ≡ length es
 unfolding underZero
@@ -138,9 +110,5 @@ length-under at [] = refl
 length-under at (e ∷ es) = ap suc (length-under (at + e .length) es)
 
 -- so it is accepted
-pub scans-table : {a : List ℕ} {at : ℕ} {es : List TilePartEntry} → Scans a at es → judged (scanFrom a at) ≡ Table (length es)
-unfolding judged endedAs entriesFrom
-scans-table {a} {at} {es} h =
-    let count : length (scanFrom a at .visits) ≡ length es =
-    sym (length-map (scanFrom a at .visits) (visited a)) ∙ ap length (h .entries) ∙ length-under at es in
-    ap₂ endedAs (h .stops) count
+pub scans-table : {a : List ℕ} {at : ℕ} (es : List TilePartEntry) → Scans a at (underZero at es) → judged (scanFrom a at) ≡ Table (length es)
+scans-table {a} {at} es h = scans-judged (length es) h (length-under at es)

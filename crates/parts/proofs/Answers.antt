@@ -15,7 +15,7 @@ use Rattle.types.specs.declared.TilePartEntry.{TilePartEntry}
 use Rattle.parts.specs.Scan.{refusal, ScanEnd, ended, refused, scanFrom, visited, entriesFrom, endedAs, judged, withRoom, scanned, written, scannedTable}
 use Rattle.parts.specs.declared.scan.Scanned.{Scanned}
 use Rattle.parts.specs.declared.scan.Scanned.the-variants.{Table, Refused}
-use Rattle.parts.proofs.Scans.{step-outside, scan-ended, entries-ended}
+use Rattle.parts.proofs.Scans.{step-outside, scan-ended, entries-ended, Scans}
 use Rattle.numbers.proofs.Choice.{by-test}
 
 -- ---- the answer
@@ -56,6 +56,17 @@ module _ (s : List ℕ) (start rows : ℕ) where
 
   pub answer-outside : length s ≤ start → scanned s start rows ≡ Table 0
   answer-outside h = answer-table 0 (judged-outside h) (omega arith)
+
+-- a scan that is not refused gives as many records as it lists, and is accepted where the table has room
+pub scans-judged : {s : List ℕ} {start : ℕ} {es : List TilePartEntry} (n : ℕ) → Scans s start es → length es ≡ n → judged (scanFrom s start) ≡ Table n
+unfolding judged endedAs entriesFrom
+scans-judged {s} {start} n h count =
+    let visits : length (scanFrom s start .visits) ≡ n = sym (length-map (scanFrom s start .visits) (visited s)) ∙ ap length (h .entries) ∙ count in
+    ap₂ endedAs (h .stops) visits
+
+pub scans-accepted : {s : List ℕ} {start : ℕ} {es : List TilePartEntry} (n rows : ℕ) → Scans s start es → length es ≡ n → n ≤ rows
+    → scanned s start rows ≡ Table n
+scans-accepted {s} {start} n rows h count room = answer-table s start rows n (scans-judged n h count) room
 
 -- ---- the table
 

@@ -84,7 +84,7 @@ module _ (s : List ℕ) (e : TilePartEntry) (stands : Stands s (e .offset .0) e)
 
   found : (psot s (e .offset .0) ≡ e .length) ⊎ ((psot s (e .offset .0) ≡ 0) × (after ≡ [])) → splitStepAt buffer (length before) ≡ Part (length before + e .length)
   found ends =
-      let p : psot buffer (length before) ≡ psot s (e .offset .0) = read 4 6 (omega arith) in
+      let p : psot buffer (length before) ≡ psot s (e .offset .0) = read 4 _ (omega arith) in
       let some = stands .some in
       let n = length-buffer in
       step-part buffer (length before) (omega arith) marker

@@ -4,13 +4,13 @@ use Prim.Native.Nat.{ℕ, _+_, _-_, _≤_, _<_}
 use native.Mathlib.Omega.{arith}
 use mathlib.Core.Path.{_≡_, refl, sym, ap, _∙_}
 use mathlib.Core.Logic.{_⊎_, inl, inr, ⊎-elim}
-use mathlib.Core.Bool.{true, false}
+use mathlib.Core.Bool.{Bool, true, false, _&&_}
 use mathlib.Core.List.{List, [], _∷_, map}
 use lib.ListN.{length}
 use lib.Dec.{leb, eqb}
 use borrow.Author.Tests.{le-leb, lt-leb, eq-eqb, ne-eqb, leb-true, eqb-true, eqb-false}
 use Rattle.numbers.specs.Bytes.{be}
-use Rattle.types.specs.Markers.{SOT}
+use Rattle.types.specs.Markers.{SOT, EOC}
 use Rattle.types.specs.declared.Refusal.{Refusal}
 use Rattle.types.specs.declared.TilePartEntry.{TilePartEntry}
 use Rattle.chain.specs.Chain.{on, Chain, Rises, also}
@@ -65,6 +65,15 @@ module _ (s : List ℕ) (at : ℕ) where
         pub step-sot : be 2 s at ≡ SOT → scanStepAt s at ≡ sotStepAt s at
         unfolding scanStepAt
         step-sot e = rw (lt-leb _ _ inside, more, le-leb _ _ room, eq-eqb _ _ e)
+
+and-false : (b : Bool) → b && false ≡ false
+and-false true = refl
+and-false false = refl
+
+-- no SOT is an EOC
+pub sot-no-eoc : (s : List ℕ) (at : ℕ) → be 2 s at ≡ SOT → eocAt s at ≡ false
+unfolding eocAt
+sot-no-eoc s at m = rw (ne-eqb (be 2 s at) EOC (λ e. omega arith)) (and-false (leb (at + 2) (length s)))
 
 -- ---- what the bytes are where the step finds a tile-part
 
@@ -171,6 +180,24 @@ entries-part s at e found =
     let rest : List TilePartEntry = map (visited s) (scanFrom s (at + e .length) .visits) in
     let same : entryOf s at (at + e .length - at) ≡ e = ap (entryOf s at) (omega arith) ∙ sym (part-stands s at e found .entry) in
     ap (λ (c : Chain ScanEnd). map (visited s) (c .visits)) (scan-part s at e found) ∙ ap (λ (x : TilePartEntry). x ∷ rest) same
+
+-- ---- a scan that is not refused, and its records
+
+pub record Scans (s : List ℕ) (at : ℕ) (es : List TilePartEntry) : Type 0 where
+  pub stops : scanFrom s at .ended ≡ ended
+  pub entries : entriesFrom s at ≡ es
+
+pub scans-end : (s : List ℕ) (at : ℕ) → scanStepAt s at ≡ Ended → Scans s at []
+scans-end s at e = record { stops = ap (λ (c : Chain ScanEnd). c .ended) (scan-ended s at e); entries = entries-ended s at e }
+
+pub scans-part : (s : List ℕ) (at : ℕ) (e : TilePartEntry) (es : List TilePartEntry) → scanStepAt s at ≡ Part e → Scans s (at + e .length) es
+    → Scans s at (e ∷ es)
+unfolding also
+scans-part s at e es found after =
+    record {
+      stops = ap (λ (c : Chain ScanEnd). c .ended) (scan-part s at e found) ∙ after .stops;
+      entries = entries-part s at e found ∙ ap (λ (l : List TilePartEntry). e ∷ l) (after .entries);
+    }
 
 -- ---- its next record, which the bytes there say
 

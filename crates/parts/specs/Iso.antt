@@ -1,47 +1,55 @@
--- A tile-part as the standard has it (ISO/IEC 15444-1, A.4.2), beside document 01's: the SOT marker segment's fields within their ranges,
--- and the bytes that Psot gives. TNsot may be any byte.
-use Prim.Native.Nat.{ℕ, _+_, _-_}
-use mathlib.Core.Bool.{cond}
-use mathlib.Core.List.{List}
+-- Tile-parts as ISO/IEC 15444-1 has them (A.4.2, A.4.3): the SOT marker segment's fields as rows of a width and a value, the rest of the tile-part's
+-- header, SOD, and the packets. `proofs/Iso.antt` says that document 01's scan lists them.
+use Prim.Native.Nat.{ℕ, _+_, _^_, _≤_, _<_}
+use mathlib.Core.List.{List, [], _∷_, _++_}
 use lib.ListN.{length}
-use lib.Dec.{leb, eqb}
-use Rattle.numbers.specs.Bytes.{be}
-use Rattle.types.specs.Markers.{SOT, EOC}
+use Rattle.numbers.specs.Bytes.{bytesOf}
+use Rattle.numbers.specs.Rows.{Row, row, bytesOfRows}
+use Rattle.types.specs.Markers.{SOT, SOD}
 use Rattle.types.specs.declared.TilePartEntry.{TilePartEntry}
-use Rattle.parts.specs.Sot.{lsot, isot, psot}
-use Rattle.parts.specs.Scan.{entryOf}
 
-pub data IsoTilePart : Type 0 where
-  -- Psot is the length: from the marker's first byte to the tile-part's end
-  sized : TilePartEntry → IsoTilePart
-  -- Psot is 0, in the last tile-part alone: all up to EOC
-  toEoc : TilePartEntry → IsoTilePart
-  none : IsoTilePart
+pub record TilePart : Type 0 where
+  pub Isot : ℕ
+  pub TPsot : ℕ
+  pub TNsot : ℕ
+  -- the marker segments between SOT and SOD
+  pub header : List ℕ
+  pub packets : List ℕ
 
--- the tile-part's index among its tile's
-abbrev pub tpsot : List ℕ → ℕ → ℕ
-tpsot s at = be 1 s (at + 10)
+-- marker, Lsot, Isot, Psot, TPsot, TNsot
+unfoldable pub sotRows : ℕ → TilePart → List Row
+sotRows Psot t = row 2 SOT ∷ row 2 10 ∷ row 2 (t .Isot) ∷ row 4 Psot ∷ row 1 (t .TPsot) ∷ row 1 (t .TNsot) ∷ []
 
--- by Psot: 0, with EOC as the codestream's last two bytes; or 14 or more, the marker segment's 12 bytes and at least SOD
-unfoldable pub isoLength : List ℕ → ℕ → IsoTilePart
-isoLength s at =
-    cond (eqb (psot s at) 0)
-    (cond (leb (at + 16) (length s))
-    (cond (eqb (be 2 s (length s - 2)) EOC) (toEoc (entryOf s at (length s - 2 - at))) none)
-    none)
-    (cond (leb 14 (psot s at))
-    (cond (leb (at + psot s at) (length s)) (sized (entryOf s at (psot s at))) none)
-    none)
+-- the bytes of a tile-part, with a Psot
+unfoldable pub partBytes : ℕ → TilePart → List ℕ
+unfolding sotRows
+partBytes Psot t = bytesOfRows (sotRows Psot t) ++ (t .header ++ (bytesOf 2 SOD ++ t .packets))
 
-unfoldable pub isoTilePart : List ℕ → ℕ → IsoTilePart
-unfolding isoLength
-isoTilePart s at =
-    cond (leb (at + 14) (length s))
-    (cond (eqb (be 2 s at) SOT)
-    (cond (eqb (lsot s at) 10)
-    (cond (leb (isot s at) 65534)
-    (cond (leb (tpsot s at) 254) (isoLength s at) none)
-    none)
-    none)
-    none)
-    none
+-- what Psot says: the bytes from the first of SOT to the last of the packets
+abbrev pub lengthOf : TilePart → ℕ
+lengthOf t = 12 + (length (t .header) + (2 + length (t .packets)))
+
+-- the fields' ranges, with a size in Psot
+pub record Ranges (size : ℕ) (t : TilePart) : Type 0 where
+  pub Isot : t .Isot ≤ 65534
+  pub Psot : size < 2 ^ 32
+  pub TPsot : t .TPsot ≤ 254
+  pub TNsot : t .TNsot ≤ 255
+
+unfoldable pub AllRanges : List TilePart → Type 0
+AllRanges [] = Unit {0}
+AllRanges (t ∷ more) = Ranges (lengthOf t) t × AllRanges more
+
+-- tile-parts one after the other, each with its own Psot
+unfoldable pub partsBytes : List TilePart → List ℕ
+partsBytes [] = []
+partsBytes (t ∷ more) = partBytes (lengthOf t) t ++ partsBytes more
+
+-- the record of a tile-part of n bytes at a place
+abbrev pub listed : ℕ → ℕ → TilePart → TilePartEntry
+listed at n t = record { «tile_index» = t .Isot; offset = record { 0 = at }; length = n }
+
+-- their list, from a place on
+unfoldable pub listedFrom : ℕ → List TilePart → List TilePartEntry
+listedFrom at [] = []
+listedFrom at (t ∷ more) = listed at (lengthOf t) t ∷ listedFrom (at + lengthOf t) more

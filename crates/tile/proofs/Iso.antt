@@ -1,97 +1,195 @@
--- Where tile origin and image origin are one, a tile that document 01's steps accept has the standard's width and height.
-use Prim.Native.Nat.{ℕ, _+_, _-_, _*_, _/_, _%_, _^_, _≤_, min}
-use native.Mathlib.Nat.{add-mul, one-mul}
+-- Where tile origin and image origin are one, and a tile's sums fit 32 bits, document 01's rewrite of a SIZ by the standard gives a tile of the
+-- grid its size by B-11. The fields are read where the rows before them end; a cell below the count of cells starts before the image ends, so
+-- that no step of the rewrite fails; and the eight fields that it writes are rows again.
+use Prim.Native.Nat.{ℕ, _+_, _-_, _*_, _^_, _≤_, _<_}
+use native.Mathlib.Nat.{add-mul, one-mul, mul-comm, zero-mul, mod-lt, le-div-iff-mul-le, div-lt-iff-lt-mul, pos-of-ne-zero}
 use native.Mathlib.Omega.{arith}
 use mathlib.Core.Path.{_≡_, refl, sym, ap, _∙_}
-use mathlib.Core.Bool.{Bool, true, false, _&&_}
-use mathlib.Core.List.{List}
-use lib.ListN.{length}
-use lib.Dec.{leb, ltb, eqb}
-use borrow.Author.Tests.{eqb-true, eqb-false}
-use Rattle.numbers.specs.Bytes.{be}
+use mathlib.Core.Bool.{_&&_}
+use mathlib.Core.List.{List, [], _∷_, _++_, append-assoc, append-nil}
+use lib.ListN.{length, take, drop, length-append}
+use lib.Seq.{take-at, drop-at}
+use lib.Dec.{eqb}
+use Rattle.numbers.specs.Bytes.{be, put}
+use Rattle.numbers.specs.Rows.{Row, row, bytesOfRows, widths}
 use Rattle.numbers.specs.Ceiling.{ceilDiv}
+use Rattle.numbers.proofs.Choice.{by-test, by-bool}
+use Rattle.numbers.proofs.Rows.{length-rows, be-row}
 use Rattle.types.specs.Markers.{SIZ}
-use Rattle.tile.specs.Siz.{xsiz, ysiz, xosiz, yosiz, xtsiz, ytsiz, xtosiz, ytosiz}
-use Rattle.tile.specs.Rewrite.{fitting, less, axisOf, columnsOf, sized, bothAxes, inGrid, sizeIn, tileSize}
-use Rattle.tile.specs.Iso.{isoColumns, isoStart, isoEnd, isoExtent, isoWidth, isoHeight}
-use Rattle.tile.specs.declared.rewrite.Axis.{Axis}
-use Rattle.tile.specs.declared.rewrite.Axis.the-variants.{Extent, Outside}
+use Rattle.types.specs.IsoSiz.{Size, componentRows, sizRows, Ranges, TileRanges}
+use Rattle.tile.specs.Siz.{xsiz, ysiz, xosiz, yosiz, xtsiz, ytsiz, xtosiz, ytosiz, pair, oneTile}
+use Rattle.tile.specs.Rewrite.{axisOf, columnsOf, sized, inGrid, sizeIn, tileSize, cutTo, judged, rewritten, over, rewriteAnswer, rewriteOut}
+use Rattle.tile.specs.Iso.{numXtiles, numYtiles, columnOf, rowOf, startOf, endOf, widthOf, heightOf, headerOf, cutSize, forTile}
+use Rattle.tile.specs.declared.rewrite.Axis.the-variants.{Extent}
 use Rattle.tile.specs.declared.rewrite.TileSize.{TileSize}
-use Rattle.tile.specs.declared.rewrite.TileSize.the-variants.{Whole, Cut, Refused}
-use Rattle.numbers.proofs.Choice.{by-test}
-use Rattle.tile.proofs.Rewrites.{across, down, size-siz}
+use Rattle.tile.specs.declared.rewrite.Written.the-variants.{Bytes}
+use Rattle.tile.proofs.Rewrites.{axis-inside, columns-some, grid-both, size-siz, room-enough}
+
+-- ---- the fields
+
+-- what document 01 reads of a header is a SIZ's
+pub record Read (z : Size) (h : List ℕ) : Type 0 where
+  pub long : 40 ≤ length h
+  pub marker : be 2 h 2 ≡ SIZ
+  pub Xsiz : xsiz h ≡ z .Xsiz
+  pub Ysiz : ysiz h ≡ z .Ysiz
+  pub XOsiz : xosiz h ≡ z .XOsiz
+  pub YOsiz : yosiz h ≡ z .YOsiz
+  pub XTsiz : xtsiz h ≡ z .XTsiz
+  pub YTsiz : ytsiz h ≡ z .YTsiz
+  pub XTOsiz : xtosiz h ≡ z .XTOsiz
+  pub YTOsiz : ytosiz h ≡ z .YTOsiz
+
+pub fields-standard : (z : Size) (rest : List ℕ) → Ranges z → TileRanges z → Read z (headerOf z rest)
+unfolding sizRows componentRows widths
+fields-standard z rest g t =
+    let before : ℕ → List Row = λ k. take k (sizRows z) in
+    record {
+      long = rw (length-append, length-rows) (omega arith);
+      marker = be-row (before 1) 2 SIZ _ rest (omega arith);
+      Xsiz = be-row (before 4) 4 (z .Xsiz) _ rest (g .Xsiz);
+      Ysiz = be-row (before 5) 4 (z .Ysiz) _ rest (g .Ysiz);
+      XOsiz = be-row (before 6) 4 (z .XOsiz) _ rest (omega arith);
+      YOsiz = be-row (before 7) 4 (z .YOsiz) _ rest (omega arith);
+      XTsiz = be-row (before 8) 4 (z .XTsiz) _ rest (t .XTsiz .1);
+      YTsiz = be-row (before 9) 4 (z .YTsiz) _ rest (t .YTsiz .1);
+      XTOsiz = be-row (before 10) 4 (z .XTOsiz) _ rest (omega arith);
+      YTOsiz = be-row (before 11) 4 (z .YTOsiz) _ rest (omega arith);
+    }
 
 -- ---- one axis
 
-abbrev Is : ℕ → Axis → Type 0
-Is n (Extent m) = m ≡ n
-Is n Outside = Unit {0}
+module _ (end origin tileOrigin size cell : ℕ) (some : 1 ≤ size) (inside : cell < ceilDiv (end - tileOrigin) size) where
+  next : (cell + 1) * size ≡ cell * size + size
+  next = omega (arith, add-mul cell 1 size, one-mul size)
 
-pub iso-axis : (end origin size cell : ℕ) → Is (isoExtent end origin origin size cell) (axisOf end origin size cell)
-unfolding axisOf fitting less isoExtent isoStart isoEnd
-iso-axis end origin size cell =
-    let P : Axis → Type 0 = Is (isoExtent end origin origin size cell) in
-    by-test P (ltb (cell * size) (2 ^ 32))
-    (λ _. by-test P (ltb (origin + cell * size) (2 ^ 32))
-    (λ _. by-test P (ltb (origin + cell * size + size) (2 ^ 32))
-    (λ _. by-test P (leb (origin + cell * size) (min (origin + cell * size + size) end))
-    (λ _. omega (arith, add-mul cell 1 size, one-mul size))
-    (λ _. tt))
-    (λ _. tt))
-    (λ _. tt))
-    (λ _. tt)
+  -- a cell below the count of cells starts before the image ends
+  starts-inside : tileOrigin + cell * size < end
+  unfolding ceilDiv
+  starts-inside = omega (arith, le-div-iff-mul-le some .0 inside, next)
+
+  extent-some : origin < end → origin < tileOrigin + size → 1 ≤ endOf end tileOrigin size cell - startOf origin tileOrigin size cell
+  unfolding startOf endOf
+  extent-some a b = omega (arith, starts-inside, next)
+
+  axis-standard : tileOrigin ≡ origin → tileOrigin + (cell + 1) * size < 2 ^ 32
+      → axisOf end origin size cell ≡ Extent (endOf end tileOrigin size cell - startOf origin tileOrigin size cell)
+  unfolding startOf endOf
+  axis-standard same fits =
+      axis-inside end origin size cell (omega (arith, next)) (omega (arith, starts-inside)) ∙ ap Extent (omega (arith, starts-inside, next))
 
 -- ---- the grid
 
-abbrev Agrees : ℕ → ℕ → ℕ → ℕ → TileSize → Type 0
-Agrees width height xt yt Whole = (xt ≡ width) × (yt ≡ height)
-Agrees width height xt yt (Cut w g) = (w ≡ width) × (g ≡ height)
-Agrees width height xt yt (Refused r) = Unit {0}
+module _ (z : Size) (tile : ℕ) (inside : tile < numXtiles z * numYtiles z) where
+  columns-positive : 0 < numXtiles z
+  columns-positive = pos-of-ne-zero (λ e. omega (arith, ap (λ (n : ℕ). n * numYtiles z) e, zero-mul (numYtiles z)))
 
-and-both : (a b : Bool) → a && b ≡ true → (a ≡ true) × (b ≡ true)
-and-both true b e = (refl, e)
-and-both false b e = (e, absurd (let z : _≡_ {A = Bool} false true = e in no z))
-  where
-    no : _≡_ {A = Bool} false true → ⊥
-    no e = let z : _≡_ {A = ℕ} 0 1 = cc in omega arith
+  column-inside : columnOf z tile < numXtiles z
+  unfolding columnOf
+  column-inside = mod-lt tile columns-positive
 
-both : (a d : Axis) (width height xt yt : ℕ) → Is width a → Is height d → Agrees width height xt yt (bothAxes a d xt yt)
-unfolding bothAxes sized
-both (Extent w) (Extent g) width height xt yt e f =
-    by-test (Agrees width height xt yt) (eqb w xt && eqb g yt)
-    (λ t. let s = and-both (eqb w xt) (eqb g yt) t in (sym (eqb-true _ _ (s .0)) ∙ e, sym (eqb-true _ _ (s .1)) ∙ f))
-    (λ _. (e, f))
-both (Extent w) Outside width height xt yt e f = tt
-both Outside d width height xt yt e f = tt
+  row-inside : rowOf z tile < numYtiles z
+  unfolding rowOf
+  row-inside = div-lt-iff-lt-mul columns-positive .1 (omega (arith, mul-comm (numXtiles z) (numYtiles z)))
 
-columns-iso : (h : List ℕ) → xtosiz h ≡ xosiz h → (columnsOf (xsiz h) (xosiz h) (xtsiz h) ≡ 0 → ⊥) → isoColumns h ≡ columnsOf (xsiz h) (xosiz h) (xtsiz h)
-unfolding columnsOf isoColumns
-columns-iso h same =
-    let P : ℕ → Type 0 = λ n. (n ≡ 0 → ⊥) → isoColumns h ≡ n in
-    by-test P (leb (xosiz h) (xsiz h))
-    (λ _. by-test P (eqb (xtsiz h) 0) (λ _ n. absurd (n refl)) (λ _ _. ap (λ (o : ℕ). ceilDiv (xsiz h - o) (xtsiz h)) same))
-    (λ _ n. absurd (n refl))
+  -- No tile of the grid is empty.
+  pub width-some : Ranges z → TileRanges z → 1 ≤ widthOf z tile
+  unfolding widthOf numXtiles
+  width-some g t = extent-some (z .Xsiz) (z .XOsiz) (z .XTOsiz) (z .XTsiz) (columnOf z tile) (t .XTsiz .0) column-inside (g .XOsiz) (t .XTOsiz .1)
 
-module _ (h : List ℕ) (tile : ℕ) (x : xtosiz h ≡ xosiz h) (y : ytosiz h ≡ yosiz h) where
-  grid-iso : Agrees (isoWidth h tile) (isoHeight h tile) (xtsiz h) (ytsiz h) (sizeIn h tile)
-  unfolding sizeIn inGrid isoWidth isoHeight
-  grid-iso =
-      let columns : ℕ = columnsOf (xsiz h) (xosiz h) (xtsiz h) in
-      by-test (Agrees (isoWidth h tile) (isoHeight h tile) (xtsiz h) (ytsiz h)) (eqb columns 0) (λ _. tt)
-      (λ n. let e = columns-iso h x (eqb-false _ _ n) in
-      rw (x, y, e)
-      (both (across h columns tile) (down h columns tile) _ _ (xtsiz h) (ytsiz h)
-      (iso-axis (xsiz h) (xosiz h) (xtsiz h) (tile % columns))
-      (iso-axis (ysiz h) (yosiz h) (ytsiz h) (tile / columns))))
+  pub height-some : Ranges z → TileRanges z → 1 ≤ heightOf z tile
+  unfolding heightOf numYtiles
+  height-some g t = extent-some (z .Ysiz) (z .YOsiz) (z .YTOsiz) (z .YTsiz) (rowOf z tile) (t .YTsiz .0) row-inside (g .YOsiz) (t .YTOsiz .1)
 
-  module _ (long : 40 ≤ length h) (siz : be 2 h 2 ≡ SIZ) where
-    size-iso : Agrees (isoWidth h tile) (isoHeight h tile) (xtsiz h) (ytsiz h) (tileSize h tile)
-    size-iso = rw (size-siz h tile long siz) grid-iso
+-- ---- the header after the rewrite
 
-    -- a header that is cut gets the tile's size
-    pub iso-cut : (width height : ℕ) → tileSize h tile ≡ Cut width height → (width ≡ isoWidth h tile) × (height ≡ isoHeight h tile)
-    iso-cut width height e = rw e at size-iso
+bytes-append : (a b : List Row) → bytesOfRows (a ++ b) ≡ bytesOfRows a ++ bytesOfRows b
+unfolding bytesOfRows
+bytes-append [] b = refl
+bytes-append (r ∷ a) b = rw (bytes-append a b, append-assoc)
 
-    -- and one that stays has tiles of that size
-    pub iso-whole : tileSize h tile ≡ Whole → (xtsiz h ≡ isoWidth h tile) × (ytsiz h ≡ isoHeight h tile)
-    iso-whole e = rw e at size-iso
+-- rows put in the place of others of their width
+put-rows : (before old new after : List Row) (rest : List ℕ) → widths old ≡ widths new
+    → put (bytesOfRows (before ++ (old ++ after)) ++ rest) (widths before) (bytesOfRows new) ≡ bytesOfRows (before ++ (new ++ after)) ++ rest
+unfolding put
+put-rows before old new after rest e =
+    let a : List ℕ = bytesOfRows before in
+    let o : List ℕ = bytesOfRows old in
+    let t : List ℕ = bytesOfRows after ++ rest in
+    let split : (rows : List Row) → bytesOfRows (before ++ (rows ++ after)) ++ rest ≡ a ++ (bytesOfRows rows ++ t) = λ rows. simp (bytes-append, append-assoc) in
+    let end : length (a ++ o) ≡ widths before + length (bytesOfRows new) = simp (length-append, length-rows) (omega arith) in
+    rw (split old, split new, take-at a (o ++ t) (widths before) (length-rows before), ← append-assoc a o t, drop-at (a ++ o) t _ end)
+
+-- the eight fields of an image that is one tile
+abbrev oneRows : ℕ → ℕ → List Row
+oneRows width height = row 4 width ∷ row 4 height ∷ row 4 0 ∷ row 4 0 ∷ row 4 width ∷ row 4 height ∷ row 4 0 ∷ row 4 0 ∷ []
+
+one-rows : (width height : ℕ) → oneTile width height ≡ bytesOfRows (oneRows width height)
+unfolding oneTile pair bytesOfRows
+one-rows width height = simp (append-assoc, append-nil)
+
+cut-rows : (z : Size) (rest : List ℕ) (width height : ℕ) → put (headerOf z rest) 8 (oneTile width height) ≡ headerOf (cutSize z width height) rest
+unfolding sizRows componentRows cutSize widths
+cut-rows z rest width height =
+    ap (put (headerOf z rest) 8) (one-rows width height)
+    ∙ put-rows (take 4 (sizRows z)) (take 8 (drop 4 (sizRows z))) (oneRows width height) (drop 12 (sizRows z)) rest refl
+
+cut-ranges : (z : Size) (width height : ℕ) → Ranges z → 1 ≤ width → 1 ≤ height → width < 2 ^ 32 → height < 2 ^ 32
+    → Ranges (cutSize z width height) × TileRanges (cutSize z width height)
+unfolding cutSize
+cut-ranges z width height g a b c d = (
+  record { Xsiz = c; Ysiz = d; XOsiz = a; YOsiz = b; Csiz = g .Csiz; depth = g .depth },
+  record { XTsiz = (a, c); YTsiz = (b, d); XTOsiz = (omega arith, omega arith); YTOsiz = (omega arith, omega arith) },
+)
+
+-- What a tile of the grid is rewritten to has the standard's ranges.
+pub tile-ranges : (z : Size) (tile : ℕ) → tile < numXtiles z * numYtiles z → Ranges z → TileRanges z → Ranges (forTile z tile) × TileRanges (forTile z tile)
+unfolding forTile widthOf heightOf endOf
+tile-ranges z tile inside g t =
+    by-test (λ (s : Size). Ranges s × TileRanges s) (eqb (widthOf z tile) (z .XTsiz) && eqb (heightOf z tile) (z .YTsiz)) (λ _. (g, t))
+    (λ _. cut-ranges z (widthOf z tile) (heightOf z tile) g (width-some z tile inside g t) (height-some z tile inside g t) (omega arith) (omega arith))
+
+-- ---- the laws
+
+module _ (z : Size) (rest : List ℕ) (tile : ℕ) (g : Ranges z) (t : TileRanges z) (x : z .XTOsiz ≡ z .XOsiz) (y : z .YTOsiz ≡ z .YOsiz)
+    (inside : tile < numXtiles z * numYtiles z) (fitsX : z .XTOsiz + (columnOf z tile + 1) * z .XTsiz < 2 ^ 32)
+    (fitsY : z .YTOsiz + (rowOf z tile + 1) * z .YTsiz < 2 ^ 32) where
+  -- The tile has the standard's size: none of the steps is refused.
+  pub tile-standard : tileSize (headerOf z rest) tile ≡ sized (widthOf z tile) (heightOf z tile) (z .XTsiz) (z .YTsiz)
+  unfolding sizeIn numXtiles numYtiles columnOf rowOf widthOf heightOf
+  tile-standard =
+      let h : List ℕ = headerOf z rest in
+      let f : Read z h = fields-standard z rest g t in
+      let columns : columnsOf (xsiz h) (xosiz h) (xtsiz h) ≡ numXtiles z =
+      (λ i. columnsOf (f .Xsiz i) (f .XOsiz i) (f .XTsiz i))
+      ∙ columns-some (z .Xsiz) (z .XOsiz) (z .XTsiz) (omega arith) (λ e. omega arith)
+      ∙ ap (λ (o : ℕ). ceilDiv (z .Xsiz - o) (z .XTsiz)) (sym x) in
+      size-siz h tile (f .long) (f .marker)
+      ∙ ap (λ (n : ℕ). inGrid h n tile) columns
+      ∙ grid-both h (numXtiles z) tile (λ e. omega (arith, columns-positive z tile inside)) (widthOf z tile) (heightOf z tile)
+      ((λ i. axisOf (f .Xsiz i) (f .XOsiz i) (f .XTsiz i) (columnOf z tile))
+      ∙ axis-standard (z .Xsiz) (z .XOsiz) (z .XTOsiz) (z .XTsiz) (columnOf z tile) (t .XTsiz .0) (column-inside z tile inside) x fitsX)
+      ((λ i. axisOf (f .Ysiz i) (f .YOsiz i) (f .YTsiz i) (rowOf z tile))
+      ∙ axis-standard (z .Ysiz) (z .YOsiz) (z .YTOsiz) (z .YTsiz) (rowOf z tile) (t .YTsiz .0) (row-inside z tile inside) y fitsY)
+      ∙ (λ i. sized (widthOf z tile) (heightOf z tile) (f .XTsiz i) (f .YTsiz i))
+
+  -- With room for the header the rewrite is not refused.
+  pub rewrite-standard : (room : ℕ) → length (headerOf z rest) ≤ room → rewriteAnswer (headerOf z rest) tile room ≡ Bytes (length (headerOf z rest))
+  unfolding rewriteAnswer sized judged
+  rewrite-standard room enough =
+      let n : ℕ = length (headerOf z rest) in
+      rw tile-standard
+      (by-test (λ (s : TileSize). judged s n room ≡ Bytes n) (eqb (widthOf z tile) (z .XTsiz) && eqb (heightOf z tile) (z .YTsiz))
+      (λ _. room-enough n room enough) (λ _. room-enough n room enough))
+
+  header-standard : rewritten (headerOf z rest) tile ≡ headerOf (forTile z tile) rest
+  unfolding rewritten sized cutTo forTile
+  header-standard =
+      rw tile-standard
+      (by-bool (eqb (widthOf z tile) (z .XTsiz) && eqb (heightOf z tile) (z .YTsiz)) (λ e. rw e) (λ e. rw e (cut-rows z rest (widthOf z tile) (heightOf z tile))))
+
+  -- What it writes is a SIZ by the standard again, with the same bytes behind it.
+  pub rewrite-standard-out : (out : List ℕ) → length (headerOf z rest) ≤ length out
+      → rewriteOut (headerOf z rest) tile out ≡ headerOf (forTile z tile) rest ++ drop (length (headerOf z rest)) out
+  unfolding rewriteOut over
+  rewrite-standard-out out enough = rw (rewrite-standard (length out) enough, header-standard)

@@ -1,27 +1,64 @@
--- Tiles as the standard has them (ISO/IEC 15444-1, B.3), beside document 01's: counted from the tile origin, and clipped to the image on both sides.
+-- Tiles as ISO/IEC 15444-1 has them (B.3), by the fields of SIZ: counted from the tile origin, and clipped to the image on both sides.
+-- `proofs/Iso.antt` says where document 01's rewrite agrees.
 use Prim.Native.Nat.{ℕ, _+_, _-_, _*_, _/_, _%_, min, max}
-use mathlib.Core.List.{List}
+use mathlib.Core.Bool.{cond, _&&_}
+use mathlib.Core.List.{List, _++_}
+use lib.Dec.{eqb}
+use Rattle.numbers.specs.Rows.{bytesOfRows}
 use Rattle.numbers.specs.Ceiling.{ceilDiv}
-use Rattle.tile.specs.Siz.{xsiz, ysiz, xosiz, yosiz, xtsiz, ytsiz, xtosiz, ytosiz}
+use Rattle.types.specs.IsoSiz.{Size, sizRows}
 
--- numXtiles, B-5
-unfoldable pub isoColumns : List ℕ → ℕ
-isoColumns h = ceilDiv (xsiz h - xtosiz h) (xtsiz h)
+-- B-5
+unfoldable pub numXtiles : Size → ℕ
+numXtiles z = ceilDiv (z .Xsiz - z .XTOsiz) (z .XTsiz)
+
+unfoldable pub numYtiles : Size → ℕ
+numYtiles z = ceilDiv (z .Ysiz - z .YTOsiz) (z .YTsiz)
+
+-- a tile's column p and row q, B-6
+unfoldable pub columnOf : Size → ℕ → ℕ
+columnOf z tile = tile % numXtiles z
+
+unfoldable pub rowOf : Size → ℕ → ℕ
+rowOf z tile = tile / numXtiles z
 
 -- where a tile starts and ends along an axis, B-7 to B-10, by its column or row there
-unfoldable pub isoStart : ℕ → ℕ → ℕ → ℕ → ℕ
-isoStart origin tileOrigin size cell = max (tileOrigin + cell * size) origin
+unfoldable pub startOf : ℕ → ℕ → ℕ → ℕ → ℕ
+startOf origin tileOrigin size cell = max (tileOrigin + cell * size) origin
 
-unfoldable pub isoEnd : ℕ → ℕ → ℕ → ℕ → ℕ
-isoEnd end tileOrigin size cell = min (tileOrigin + (cell + 1) * size) end
+unfoldable pub endOf : ℕ → ℕ → ℕ → ℕ → ℕ
+endOf end tileOrigin size cell = min (tileOrigin + (cell + 1) * size) end
 
--- its extent there, B-11
-unfoldable pub isoExtent : ℕ → ℕ → ℕ → ℕ → ℕ → ℕ
-isoExtent end origin tileOrigin size cell = isoEnd end tileOrigin size cell - isoStart origin tileOrigin size cell
+-- its width and height, B-11
+unfoldable pub widthOf : Size → ℕ → ℕ
+widthOf z tile = endOf (z .Xsiz) (z .XTOsiz) (z .XTsiz) (columnOf z tile) - startOf (z .XOsiz) (z .XTOsiz) (z .XTsiz) (columnOf z tile)
 
--- p = t mod numXtiles, q = floor(t / numXtiles), B-6
-unfoldable pub isoWidth : List ℕ → ℕ → ℕ
-isoWidth h tile = isoExtent (xsiz h) (xosiz h) (xtosiz h) (xtsiz h) (tile % isoColumns h)
+unfoldable pub heightOf : Size → ℕ → ℕ
+heightOf z tile = endOf (z .Ysiz) (z .YTOsiz) (z .YTsiz) (rowOf z tile) - startOf (z .YOsiz) (z .YTOsiz) (z .YTsiz) (rowOf z tile)
 
-unfoldable pub isoHeight : List ℕ → ℕ → ℕ
-isoHeight h tile = isoExtent (ysiz h) (yosiz h) (ytosiz h) (ytsiz h) (tile / isoColumns h)
+-- ---- the rewrite
+
+-- SOC, SIZ, and what follows
+abbrev pub headerOf : Size → List ℕ → List ℕ
+headerOf z rest = bytesOfRows (sizRows z) ++ rest
+
+-- document 01's rewrite as a change of the standard's fields: an image of a size, from 0 on, that is one tile
+unfoldable pub cutSize : Size → ℕ → ℕ → Size
+cutSize z width height =
+    record {
+      Rsiz = z .Rsiz;
+      Xsiz = width;
+      Ysiz = height;
+      XOsiz = 0;
+      YOsiz = 0;
+      XTsiz = width;
+      YTsiz = height;
+      XTOsiz = 0;
+      YTOsiz = 0;
+      first = z .first;
+      others = z .others;
+    }
+
+-- a tile of full size changes nothing
+unfoldable pub forTile : Size → ℕ → Size
+forTile z tile = cond (eqb (widthOf z tile) (z .XTsiz) && eqb (heightOf z tile) (z .YTsiz)) z (cutSize z (widthOf z tile) (heightOf z tile))
