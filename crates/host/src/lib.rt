@@ -1,16 +1,19 @@
 // The boundary for C: thin calls on numbers and byte slices. Each answers 0 where it accepts, or the refusal's number, and
-// `value` then holds the result or the place; the extent, which never refuses, says 1 for Complete and 0 for Truncated.
+// `value` then holds the result or the place; the extent and the place in a file, which never refuse, say 1 where `value` holds one.
 ghost use mathlib.Core.Path.{_≡_};
 ghost use Prim.Native.Nat.{_/_};
 ghost use lib.ListN.{length};
+ghost use Rattle.types.specs.Offsets.{inFile};
 ghost use Rattle.header.specs.Extent.{extentOf};
 ghost use Rattle.parts.specs.Scan.{scanned, scanNumber, scanValue, scannedTable};
 ghost use Rattle.tile.specs.Rewrite.{rewriteAnswer, rewriteOut};
 ghost use Rattle.tile.specs.Assembly.{assemblyAnswer, assemblyOut};
-ghost use Rattle.host.specs.Answers.{extentNumber, extentValue, writtenNumber, writtenValue};
+ghost use Rattle.host.specs.Answers.{extentNumber, extentValue, placeNumber, placeValue, writtenNumber, writtenValue};
 use header::extent::MainHeaderExtent;
 use tile::rewrite::Written;
 use types::CodestreamOffset;
+use types::FileOffset;
+use types::InFile;
 
 #[no_mangle]
 pub extern "C" fn winterhasp_main_header_extent(prefix: &[u8], value: &mut u64) -> u32
@@ -23,6 +26,21 @@ pub extern "C" fn winterhasp_main_header_extent(prefix: &[u8], value: &mut u64) 
             1
         }
         MainHeaderExtent::Truncated => 0,
+    }
+}
+
+// Where an offset of the codestream that starts at `start` lies in the file. 1: `value` is the place; 0: it passes 2^64-1.
+#[no_mangle]
+pub extern "C" fn winterhasp_in_file(offset: u64, start: u64, value: &mut u64) -> u32
+    ensures { λ r. ⌜ r ≡ placeNumber (inFile (record { 0 = offset }) (record { 0 = start })) ⌝ }
+    ensures { λ _. ⌜ now (value .exit) ≡ placeValue (inFile (record { 0 = offset }) (record { 0 = start })) (now (value .entry)) ⌝ }
+{
+    match CodestreamOffset(offset).in_file(FileOffset(start)) {
+        InFile::At(place) => {
+            *value = place.0;
+            1
+        }
+        InFile::Past => 0,
     }
 }
 

@@ -12,6 +12,9 @@ mod archive {
             value: *mut u64,
         ) -> u32;
 
+        #[cfg(any(feature = "parts", feature = "tile"))]
+        pub fn winterhasp_in_file(offset: u64, start: u64, value: *mut u64) -> u32;
+
         #[cfg(feature = "parts")]
         pub fn winterhasp_scan_sot_markers(
             codestream: *const u8,
@@ -50,6 +53,12 @@ mod archive {
 pub fn main_header_extent(prefix: &[u8], value: &mut u64) -> u32 {
     // SAFETY: as at the top of this file.
     unsafe { archive::winterhasp_main_header_extent(prefix.as_ptr(), prefix.len(), value) }
+}
+
+#[cfg(any(feature = "parts", feature = "tile"))]
+pub fn in_file(offset: u64, start: u64, value: &mut u64) -> u32 {
+    // SAFETY: as at the top of this file.
+    unsafe { archive::winterhasp_in_file(offset, start, value) }
 }
 
 #[cfg(feature = "parts")]

@@ -43,6 +43,15 @@ pub const COMMANDS: &[Command] = &[
             _ => None,
         },
     },
+    #[cfg(feature = "parts")]
+    Command {
+        name: "places",
+        words: "FILE",
+        run: |words| match words {
+            [file] => Some(places(file)),
+            _ => None,
+        },
+    },
     #[cfg(all(feature = "parts", feature = "tile"))]
     Command {
         name: "tile",
@@ -71,10 +80,23 @@ fn codestream(file: &OsStr) -> Result<String, String> {
 /// Index, offset in the codestream, and length of each tile-part.
 #[cfg(feature = "parts")]
 fn parts(file: &OsStr) -> Result<String, String> {
-    let codestream = read_codestream(file)?;
+    let (_, codestream) = read_codestream(file)?;
     let (_, parts) = tile_parts(file, &codestream)?;
     let line = |part: &TilePart| format!("{} {} {}\n", part.index, part.offset, part.length);
     Ok(parts.iter().map(line).collect())
+}
+
+/// Index, offset in the file, and length of each tile-part.
+#[cfg(feature = "parts")]
+fn places(file: &OsStr) -> Result<String, String> {
+    let (start, codestream) = read_codestream(file)?;
+    let (_, parts) = tile_parts(file, &codestream)?;
+    let line = |part: &TilePart| {
+        let place = part.place_in_file(start)?;
+        Some(format!("{} {place} {}\n", part.index, part.length))
+    };
+    let lines: Option<String> = parts.iter().map(line).collect();
+    lines.ok_or_else(|| trouble(file, &"a tile-part past 2^64-1"))
 }
 
 /// Writes a codestream of tile `index` alone.
@@ -84,7 +106,7 @@ fn tile(file: &OsStr, index: &OsStr, out: &OsStr) -> Result<String, String> {
         .to_str()
         .and_then(|word| word.parse().ok())
         .ok_or("winterhasp: INDEX is a number from 0 to 65535")?;
-    let codestream = read_codestream(file)?;
+    let (_, codestream) = read_codestream(file)?;
     let (first_sot, mut parts) = tile_parts(file, &codestream)?;
     parts.retain(|part| part.index == index);
     if parts.is_empty() {
@@ -108,11 +130,12 @@ fn tile_parts(file: &OsStr, codestream: &[u8]) -> Result<(u64, Vec<TilePart>), S
     Ok((first_sot, parts))
 }
 
+/// Where it starts in the file, and its bytes.
 #[cfg(feature = "parts")]
-fn read_codestream(file: &OsStr) -> Result<Vec<u8>, String> {
+fn read_codestream(file: &OsStr) -> Result<(u64, Vec<u8>), String> {
     let bytes = read(file)?;
     let range = found::codestream(&bytes).map_err(|refusal| trouble(file, &refusal))?;
-    Ok(bytes[range].to_vec())
+    Ok((range.start as u64, bytes[range].to_vec()))
 }
 
 fn read(file: &OsStr) -> Result<Vec<u8>, String> {
