@@ -1,10 +1,12 @@
 pub mod Computing
 pub mod Edges
+pub mod Standard
 pub mod Entries
 pub mod Items
 pub mod Rewalked
 pub mod Rescanned
 pub mod Demand3
 pub mod Rows
+pub mod Settling
 pub mod Settled
 pub mod Premises

@@ -1,170 +1,192 @@
--- Each entry point's contract settles its answer, and the lent memory after the call: any two outcomes that it allows are equal. A contract stands
--- here as its `ensures` has it: an equation for the answer, and one for each lent slice.
-use Prim.Native.Nat.{ℕ, _/_}
-use mathlib.Core.Path.{_≡_, sym, ap, _∙_}
-use mathlib.Core.Bool.{Bool}
-use mathlib.Core.List.{List, []}
-use lib.ListN.{length, getD}
-use Rattle.types.specs.Offsets.{inFile, inCodestream}
-use Rattle.types.specs.declared.FileOffset.{FileOffset}
-use Rattle.types.specs.declared.CodestreamOffset.{CodestreamOffset}
-use Rattle.types.specs.declared.InFile.{InFile}
-use Rattle.types.specs.declared.InCodestream.{InCodestream}
-use Rattle.types.specs.declared.TilePartEntry.{TilePartEntry}
-use Rattle.header.specs.Extent.{extentOf}
-use Rattle.header.specs.Parse.{parsed, tableAfter, outAfter}
-use Rattle.header.specs.declared.extent.MainHeaderExtent.{MainHeaderExtent}
-use Rattle.header.specs.declared.parse.MainHeader.{MainHeader}
-use Rattle.parts.specs.Scan.{scanned, scannedTable}
-use Rattle.parts.specs.Split.{partsOf, standing}
-use Rattle.parts.specs.declared.scan.Scanned.{Scanned}
+-- Each entry point's contract settles its outcome: nothing is required, and of any two outcomes that it allows the answers and all that was lent are equal.
+-- A function stands here by its path; its `ended` and `clauses` are made from its source, so what changes there changes here. In a proof e has an equation
+-- of x and y for each `ensures`, in the source's order. They are put in the order of an outcome: the answer, then the parameters, `tt` where none is lent.
+use Prim.Native.Nat.{ℕ}
+use mathlib.Core.List.{List}
+use denote.Ref.{now}
+use Rattle.numbers.proofs as numbers
+use Rattle.types.proofs as types
+use Rattle.header.proofs as header
+use Rattle.header.specs.Parse.{tableAfter, outAfter}
+use Rattle.parts.proofs as parts
+use Rattle.records.proofs as records
 use Rattle.records.specs.MainHeader.{recordsAfter}
-use Rattle.records.specs.Scan.{scannedRecords}
 use Rattle.records.specs.Tables.{blank}
-use Rattle.records.specs.declared.tables.ScanTable.{ScanTable}
-use Rattle.records.specs.declared.tables.HeaderTable.{HeaderTable}
-use Rattle.tile.specs.Rewrite.{rewriteAnswer, rewriteOut}
-use Rattle.tile.specs.Assembly.{assemblyAnswer, assemblyOut}
-use Rattle.tile.specs.declared.rewrite.Written.{Written}
-use Rattle.reader.specs.Siz.{sizRead, sampleType}
-use Rattle.reader.specs.Search.{foundIn, contentOf}
-use Rattle.reader.specs.Growth.{nextRegion, grown}
-use Rattle.reader.specs.declared.siz.SizRead.{SizRead}
-use Rattle.reader.specs.declared.siz.SampleType.{SampleType}
-use Rattle.reader.specs.declared.search.Found.{Found}
-use Rattle.reader.specs.declared.growth.Grown.{Grown}
+use Rattle.tile.proofs as tile
+use Rattle.reader.proofs as reader
+use Rattle.host.proofs as host
+use Rattle.probe.proofs as probe
+use Rattle.laws.specs.Settles.{Settles, SettlesAs}
+use Rattle.laws.proofs.Settling.{one, two, three, six, by-first}
 
--- ---- in general
+-- ---- numbers
 
--- any two outcomes that are allowed are equal
-abbrev pub Settles : {O : Type 0} → (O → Type 0) → Type 0
-Settles {O} allowed = (x y : O) → allowed x → allowed y → x ≡ y
+pub clamped-sub : {M : Type 1} → Settles M numbers.clamped_sub.ended numbers.clamped_sub.clauses
+clamped-sub m κs a g = one m λ x y e i. (e i, x .1)
 
-pub settled : {A : Type 0} {x y z : A} → x ≡ z → y ≡ z → x ≡ y
-settled p q = p ∙ sym q
-
--- no memory is lent to write
-answer-only : {A : Type 0} {z : A} → Settles (λ (x : A). x ≡ z)
-answer-only x y p q = settled p q
-
--- an answer, and one lent slice after the call
-pub record After (A B : Type 0) : Type 0 where
-  pub answer : A
-  pub lent : List B
-
-answer-and-lent : {A B : Type 0} {z : A} {l : List B} → Settles (λ (o : After A B). (o .answer ≡ z) × (o .lent ≡ l))
-answer-and-lent x y p q = λ i. record { answer = settled (p .0) (q .0) i; lent = settled (p .1) (q .1) i }
+pub minimum : {M : Type 1} → Settles M numbers.minimum.ended numbers.minimum.clauses
+minimum m κs a g = one m λ x y e i. (e i, x .1)
 
 -- ---- types
 
-pub in-file : (self : CodestreamOffset) (start : FileOffset) → Settles (λ (r : InFile). r ≡ inFile self start)
-in-file self start = answer-only
+pub codestream-at : {M : Type 1} → Settles M types.CodestreamOffset.at.ended types.CodestreamOffset.at.clauses
+codestream-at m κs a g = one m λ x y e i. (record { 0 = e i }, x .1)
 
-pub in-codestream : (self start : FileOffset) → Settles (λ (r : InCodestream). r ≡ inCodestream self start)
-in-codestream self start = answer-only
+pub codestream-position : {M : Type 1} → Settles M types.CodestreamOffset.position.ended types.CodestreamOffset.position.clauses
+codestream-position m κs a g = one m λ x y e i. (e i, x .1)
+
+pub file-position : {M : Type 1} → Settles M types.FileOffset.position.ended types.FileOffset.position.clauses
+file-position m κs a g = one m λ x y e i. (e i, x .1)
+
+pub in-file : {M : Type 1} → Settles M types.CodestreamOffset.in_file.ended types.CodestreamOffset.in_file.clauses
+in-file m κs a g = one m λ x y e i. (e i, x .1)
+
+pub in-codestream : {M : Type 1} → Settles M types.FileOffset.in_codestream.ended types.FileOffset.in_codestream.clauses
+in-codestream m κs a g = one m λ x y e i. (e i, x .1)
 
 -- ---- header
 
-pub main-header-extent : (prefix : List ℕ) → Settles (λ (r : MainHeaderExtent). r ≡ extentOf prefix)
-main-header-extent prefix = answer-only
+pub main-header-extent : {M : Type 1} → Settles M header.extent.main_header_extent.ended header.extent.main_header_extent.clauses
+main-header-extent m κs a g = one m λ x y e i. (e i, x .1)
 
--- two slices are lent, a table of rows or of records among them, and what they hold after the call is given by the answer
-pub record Parsed (B : Type 0) : Type 0 where
-  pub answer : MainHeader
-  pub table : List B
-  pub out : List ℕ
+pub header-decide : {M : Type 1} → Settles M header.parse.decide.ended header.parse.decide.clauses
+header-decide m κs a g = one m λ x y e i. (e i, x .1)
 
-answer-and-two : {B : Type 0} {z : MainHeader} (t : MainHeader → List B) (u : MainHeader → List ℕ)
-    → Settles (λ (o : Parsed B). (o .answer ≡ z) × (o .table ≡ t (o .answer)) × (o .out ≡ u (o .answer)))
-answer-and-two t u x y p q =
-    let same : x .answer ≡ y .answer = settled (p .0) (q .0) in
-    λ i. record { answer = same i; table = settled (p .1 ∙ ap t same) (q .1) i; out = settled (p .2 ∙ ap u same) (q .2) i }
-
-pub parse-main-header : (codestream table out : List ℕ)
-    → Settles (λ (o : Parsed ℕ).
-    (o .answer ≡ parsed codestream (length table / 18) (length out))
-    × (o .table ≡ tableAfter (o .answer) codestream table)
-    × (o .out ≡ outAfter (o .answer) codestream out))
-parse-main-header codestream table out = answer-and-two (λ r. tableAfter r codestream table) (λ r. outAfter r codestream out)
-
-pub header-decide : (codestream : List ℕ) (rows room : ℕ) → Settles (λ (r : MainHeader). r ≡ parsed codestream rows room)
-header-decide codestream rows room = answer-only
+pub parse-main-header : {M : Type 1} → Settles M header.parse.parse_main_header.ended header.parse.parse_main_header.clauses
+parse-main-header m κs a g =
+    by-first m (λ r. tableAfter r (now (a .0)) (now (a .1 .0))) (λ r. outAfter r (now (a .0)) (now (a .1 .1 .0))) λ x y e i.
+    (e .0 i, (tt, (e .1 i, (e .2 i, tt))))
 
 -- ---- parts
 
-pub scan-sot-markers : (codestream : List ℕ) (first : ℕ) (table : List ℕ)
-    → Settles (λ (o : After Scanned ℕ). (o .answer ≡ scanned codestream first (length table / 18)) × (o .lent ≡ scannedTable codestream first table))
-scan-sot-markers codestream first table = answer-and-lent
+pub scan-step : {M : Type 1} → Settles M parts.scan.scan_step.ended parts.scan.scan_step.clauses
+scan-step m κs a g = one m λ x y e i. (e i, x .1)
 
-pub parts-decide : (codestream : List ℕ) (first rows : ℕ) → Settles (λ (r : Scanned). r ≡ scanned codestream first rows)
-parts-decide codestream first rows = answer-only
+pub parts-decide : {M : Type 1} → Settles M parts.scan.decide.ended parts.scan.decide.clauses
+parts-decide m κs a g = one m λ x y e i. (e i, x .1)
 
-pub split-count : (tile : List ℕ) → Settles (λ (r : ℕ). r ≡ length (partsOf tile))
-split-count tile = answer-only
+pub tell : {M : Type 1} → Settles M parts.scan.tell.ended parts.scan.tell.clauses
+tell m κs a g = two m λ x y e i. (e .0 i, (tt, (e .1 i, tt)))
 
-pub split-part : (tile : List ℕ) (k : ℕ) → Settles (λ (r : List ℕ). r ≡ getD (partsOf tile) k [])
-split-part tile k = answer-only
+pub scan-sot-markers : {M : Type 1} → Settles M parts.scan.scan_sot_markers.ended parts.scan.scan_sot_markers.clauses
+scan-sot-markers m κs a g = two m λ x y e i. (e .0 i, (tt, (tt, (e .1 i, tt))))
 
-pub split-at : (tile : List ℕ) (at : ℕ) → Settles (λ (r : List ℕ). r ≡ standing tile at)
-split-at tile at = answer-only
+pub split-count : {M : Type 1} → Settles M parts.split.split_count.ended parts.split.split_count.clauses
+split-count m κs a g = one m λ x y e i. (e i, x .1)
+
+-- the bytes of the part; not where in the slice they lie
+pub split-part : {M : Type 1} → SettlesAs M parts.split.split_part.ended parts.split.split_part.clauses (λ κs. List ℕ) (λ κs r. now r)
+split-part m κs a g = one m λ x y e i. (e i, x .1)
+
+pub split-at : {M : Type 1} → SettlesAs M parts.split.split_at.ended parts.split.split_at.clauses (λ κs. List ℕ) (λ κs r. now r)
+split-at m κs a g = one m λ x y e i. (e i, x .1)
 
 -- ---- records
 
-pub records-scan-sot-markers : (codestream : List ℕ) (first : ℕ) (table : List TilePartEntry)
-    → Settles (λ (o : After Scanned TilePartEntry).
-    (o .answer ≡ scanned codestream first (length table)) × (o .lent ≡ scannedRecords codestream first table))
-records-scan-sot-markers codestream first table = answer-and-lent
+pub records-scan-sot-markers : {M : Type 1} → Settles M records.scan.scan_sot_markers.ended records.scan.scan_sot_markers.clauses
+records-scan-sot-markers m κs a g = two m λ x y e i. (e .0 i, (tt, (tt, (e .1 i, tt))))
 
-pub records-parse-main-header : (codestream : List ℕ) (table : List TilePartEntry) (out : List ℕ)
-    → Settles (λ (o : Parsed TilePartEntry).
-    (o .answer ≡ parsed codestream (length table) (length out))
-    × (o .table ≡ recordsAfter (o .answer) codestream table)
-    × (o .out ≡ outAfter (o .answer) codestream out))
-records-parse-main-header codestream table out = answer-and-two (λ r. recordsAfter r codestream table) (λ r. outAfter r codestream out)
+pub records-parse-main-header : {M : Type 1} → Settles M records.main_header.parse_main_header.ended records.main_header.parse_main_header.clauses
+records-parse-main-header m κs a g =
+    by-first m (λ r. recordsAfter r (now (a .0)) (now (a .1 .0))) (λ r. outAfter r (now (a .0)) (now (a .1 .1 .0))) λ x y e i.
+    (e .0 i, (tt, (e .1 i, (e .2 i, tt))))
 
-pub scan-table : (codestream : List ℕ) (first : ℕ)
-    → Settles (λ (r : ScanTable). (r .answer ≡ scanned codestream first 2048) × (r .table ≡ scannedRecords codestream first blank))
-scan-table codestream first x y p q = λ i. record { answer = settled (p .0) (q .0) i; table = settled (p .1) (q .1) i }
+pub scan-table : {M : Type 1} → Settles M records.tables.scan_table.ended records.tables.scan_table.clauses
+scan-table m κs a g = two m λ x y e i. (record { answer = e .0 i; table = e .1 i }, x .1)
 
--- the answer holds the table, and one slice is lent
-pub header-table : (codestream out : List ℕ)
-    → Settles (λ (o : After HeaderTable ℕ).
-    (o .answer .answer ≡ parsed codestream 2048 (length out))
-    × (o .answer .table ≡ recordsAfter (o .answer .answer) codestream blank)
-    × (o .lent ≡ outAfter (o .answer .answer) codestream out))
-header-table codestream out x y p q =
-    let same : x .answer .answer ≡ y .answer .answer = settled (p .0) (q .0) in
-    let tables : x .answer .table ≡ y .answer .table = settled (p .1 ∙ ap (λ (r : MainHeader). recordsAfter r codestream blank) same) (q .1) in
-    let outs : x .lent ≡ y .lent = settled (p .2 ∙ ap (λ (r : MainHeader). outAfter r codestream out) same) (q .2) in
-    λ i. record { answer = record { answer = same i; table = tables i }; lent = outs i }
+pub header-table : {M : Type 1} → Settles M records.tables.header_table.ended records.tables.header_table.clauses
+header-table m κs a g =
+    by-first m (λ r. recordsAfter r (now (a .0)) blank) (λ r. outAfter r (now (a .0)) (now (a .1 .0))) λ x y e i.
+    (record { answer = e .0 i; table = e .1 i }, (tt, (e .2 i, tt)))
 
 -- ---- tile
 
-pub rewrite-siz-for-tile : (header : List ℕ) (isot : ℕ) (out : List ℕ)
-    → Settles (λ (o : After Written ℕ). (o .answer ≡ rewriteAnswer header isot (length out)) × (o .lent ≡ rewriteOut header isot out))
-rewrite-siz-for-tile header isot out = answer-and-lent
+pub tile-size : {M : Type 1} → Settles M tile.rewrite.tile_size.ended tile.rewrite.tile_size.clauses
+tile-size m κs a g = one m λ x y e i. (e i, x .1)
 
-pub build-minimal-codestream : (header parts codestream out : List ℕ)
-    → Settles (λ (o : After Written ℕ).
-    (o .answer ≡ assemblyAnswer header parts codestream (length out)) × (o .lent ≡ assemblyOut header parts codestream out))
-build-minimal-codestream header parts codestream out = answer-and-lent
+pub judge : {M : Type 1} → Settles M tile.rewrite.judge.ended tile.rewrite.judge.clauses
+judge m κs a g = one m λ x y e i. (e i, x .1)
+
+pub rewrite-siz-for-tile : {M : Type 1} → Settles M tile.rewrite.rewrite_siz_for_tile.ended tile.rewrite.rewrite_siz_for_tile.clauses
+rewrite-siz-for-tile m κs a g = two m λ x y e i. (e .0 i, (tt, (tt, (e .1 i, tt))))
+
+pub build-minimal-codestream : {M : Type 1} → Settles M tile.assembly.build_minimal_codestream.ended tile.assembly.build_minimal_codestream.clauses
+build-minimal-codestream m κs a g = two m λ x y e i. (e .0 i, (tt, (tt, (tt, (e .1 i, tt)))))
 
 -- ---- reader
 
-pub parse-siz-marker : (codestream : List ℕ) → Settles (λ (r : SizRead). r ≡ sizRead codestream)
-parse-siz-marker codestream = answer-only
+pub parse-siz-marker : {M : Type 1} → Settles M reader.siz.parse_siz_marker.ended reader.siz.parse_siz_marker.clauses
+parse-siz-marker m κs a g = one m λ x y e i. (e i, x .1)
 
-pub pixel-type-from-siz : (bits : ℕ) (signed : Bool) → Settles (λ (r : SampleType). r ≡ sampleType bits signed)
-pixel-type-from-siz bits signed = answer-only
+pub pixel-type-from-siz : {M : Type 1} → Settles M reader.siz.pixel_type_from_siz.ended reader.siz.pixel_type_from_siz.clauses
+pixel-type-from-siz m κs a g = one m λ x y e i. (e i, x .1)
 
-pub find-codestream : (file : List ℕ) → Settles (λ (r : Found). r ≡ foundIn file)
-find-codestream file = answer-only
+pub box-at : {M : Type 1} → Settles M reader.search.box_at.ended reader.search.box_at.clauses
+box-at m κs a g = one m λ x y e i. (e i, x .1)
 
-pub codestream-of : (file : List ℕ) → Settles (λ (r : List ℕ). r ≡ contentOf file)
-codestream-of file = answer-only
+pub find-codestream : {M : Type 1} → Settles M reader.search.find_codestream.ended reader.search.find_codestream.clauses
+find-codestream m κs a g = one m λ x y e i. (e i, x .1)
 
-pub next-region : (region size : ℕ) → Settles (λ (r : ℕ). r ≡ nextRegion region size)
-next-region region size = answer-only
+pub codestream-of : {M : Type 1} → SettlesAs M reader.search.codestream_of.ended reader.search.codestream_of.clauses (λ κs. List ℕ) (λ κs r. now r)
+codestream-of m κs a g = one m λ x y e i. (e i, x .1)
 
-pub grow-header-region : (codestream : List ℕ) → Settles (λ (r : Grown). r ≡ grown codestream)
-grow-header-region codestream = answer-only
+pub next-region : {M : Type 1} → Settles M reader.growth.next_region.ended reader.growth.next_region.clauses
+next-region m κs a g = one m λ x y e i. (e i, x .1)
+
+pub grow-header-region : {M : Type 1} → Settles M reader.growth.grow_header_region.ended reader.growth.grow_header_region.clauses
+grow-header-region m κs a g = one m λ x y e i. (e i, x .1)
+
+-- ---- host, for C
+
+pub winterhasp-main-header-extent : {M : Type 1} → Settles M host.winterhasp_main_header_extent.ended host.winterhasp_main_header_extent.clauses
+winterhasp-main-header-extent m κs a g = two m λ x y e i. (e .0 i, (tt, (e .1 i, tt)))
+
+pub winterhasp-in-file : {M : Type 1} → Settles M host.winterhasp_in_file.ended host.winterhasp_in_file.clauses
+winterhasp-in-file m κs a g = two m λ x y e i. (e .0 i, (tt, (tt, (e .1 i, tt))))
+
+pub winterhasp-scan-sot-markers : {M : Type 1} → Settles M host.winterhasp_scan_sot_markers.ended host.winterhasp_scan_sot_markers.clauses
+winterhasp-scan-sot-markers m κs a g = three m λ x y e i. (e .0 i, (tt, (tt, (e .2 i, (e .1 i, tt)))))
+
+pub winterhasp-rewrite-siz-for-tile : {M : Type 1} → Settles M host.winterhasp_rewrite_siz_for_tile.ended host.winterhasp_rewrite_siz_for_tile.clauses
+winterhasp-rewrite-siz-for-tile m κs a g = three m λ x y e i. (e .0 i, (tt, (tt, (e .2 i, (e .1 i, tt)))))
+
+pub winterhasp-build-minimal-codestream : {M : Type 1} → Settles M host.winterhasp_build_minimal_codestream.ended host.winterhasp_build_minimal_codestream.clauses
+winterhasp-build-minimal-codestream m κs a g = three m λ x y e i. (e .0 i, (tt, (tt, (tt, (e .2 i, (e .1 i, tt))))))
+
+-- ---- probe, for C
+
+pub winterhasp-scan-records : {M : Type 1} → Settles M probe.winterhasp_scan_records.ended probe.winterhasp_scan_records.clauses
+winterhasp-scan-records m κs a g = three m λ x y e i. (e .0 i, (tt, (tt, (e .2 i, (e .1 i, tt)))))
+
+pub winterhasp-split-count : {M : Type 1} → Settles M probe.winterhasp_split_count.ended probe.winterhasp_split_count.clauses
+winterhasp-split-count m κs a g = one m λ x y e i. (e i, x .1)
+
+pub winterhasp-split-part : {M : Type 1} → Settles M probe.winterhasp_split_part.ended probe.winterhasp_split_part.clauses
+winterhasp-split-part m κs a g = three m λ x y e i. (e .0 i, (tt, (tt, (e .2 i, (e .1 i, tt)))))
+
+pub winterhasp-split-at : {M : Type 1} → Settles M probe.winterhasp_split_at.ended probe.winterhasp_split_at.clauses
+winterhasp-split-at m κs a g = three m λ x y e i. (e .0 i, (tt, (tt, (e .2 i, (e .1 i, tt)))))
+
+pub winterhasp-codestream-of : {M : Type 1} → Settles M probe.winterhasp_codestream_of.ended probe.winterhasp_codestream_of.clauses
+winterhasp-codestream-of m κs a g = three m λ x y e i. (e .0 i, (tt, (e .2 i, (e .1 i, tt))))
+
+pub winterhasp-find-codestream : {M : Type 1} → Settles M probe.winterhasp_find_codestream.ended probe.winterhasp_find_codestream.clauses
+winterhasp-find-codestream m κs a g = three m λ x y e i. (e .0 i, (tt, (e .1 i, (e .2 i, tt))))
+
+pub winterhasp-parse-siz-marker : {M : Type 1} → Settles M probe.winterhasp_parse_siz_marker.ended probe.winterhasp_parse_siz_marker.clauses
+winterhasp-parse-siz-marker m κs a g = six m λ x y e i. (e .0 i, (tt, (e .1 i, (e .2 i, (e .3 i, (e .4 i, (e .5 i, tt)))))))
+
+pub winterhasp-pixel-type : {M : Type 1} → Settles M probe.winterhasp_pixel_type.ended probe.winterhasp_pixel_type.clauses
+winterhasp-pixel-type m κs a g = one m λ x y e i. (e i, x .1)
+
+pub winterhasp-grow-header-region : {M : Type 1} → Settles M probe.winterhasp_grow_header_region.ended probe.winterhasp_grow_header_region.clauses
+winterhasp-grow-header-region m κs a g = three m λ x y e i. (e .0 i, (tt, (e .1 i, (e .2 i, tt))))
+
+pub winterhasp-next-region : {M : Type 1} → Settles M probe.winterhasp_next_region.ended probe.winterhasp_next_region.clauses
+winterhasp-next-region m κs a g = one m λ x y e i. (e i, x .1)
+
+pub winterhasp-parse-main-header : {M : Type 1} → Settles M probe.main_header.winterhasp_parse_main_header.ended probe.main_header.winterhasp_parse_main_header.clauses
+winterhasp-parse-main-header m κs a g = six m λ x y e i. (e .0 i, (tt, (e .4 i, (e .5 i, (e .1 i, (e .2 i, (e .3 i, tt)))))))
+
+pub winterhasp-header-records : {M : Type 1} → Settles M probe.main_header.winterhasp_header_records.ended probe.main_header.winterhasp_header_records.clauses
+winterhasp-header-records m κs a g = six m λ x y e i. (e .0 i, (tt, (e .4 i, (e .5 i, (e .1 i, (e .2 i, (e .3 i, tt)))))))

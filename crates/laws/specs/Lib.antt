@@ -1,2 +1,3 @@
 pub mod Sample
 pub mod Demand3
+pub mod Settles

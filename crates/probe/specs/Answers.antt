@@ -31,7 +31,7 @@ abbrev pub headerEntries : MainHeader → ℕ → ℕ
 headerEntries (header.Header h) held = h .«tlm_entries»
 headerEntries (header.Refused r) held = held
 
--- ---- a part of a tile's buffer: 17 where it is longer than the room
+-- ---- a part of what was lent: 17 where it is longer than the room
 
 abbrev pub partNumber : List ℕ → ℕ → ℕ
 partNumber part room = cond (leb (length part) room) 0 17

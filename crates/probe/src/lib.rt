@@ -11,7 +11,7 @@ ghost use lib.Dec.{eqb};
 ghost use Rattle.parts.specs.Scan.{scanned, scanNumber, scanValue};
 ghost use Rattle.parts.specs.Split.{partsOf, standing};
 ghost use Rattle.records.specs.Scan.{scannedRecords};
-ghost use Rattle.reader.specs.Search.{foundIn};
+ghost use Rattle.reader.specs.Search.{foundIn, contentOf};
 ghost use Rattle.reader.specs.Siz.{sizRead, sampleType, sampleNumber};
 ghost use Rattle.reader.specs.Growth.{nextRegion, grown};
 ghost use Rattle.probe.specs.Answers.{partNumber, partOut, foundNumber, foundStart, foundLength};
@@ -109,6 +109,17 @@ pub extern "C" fn winterhasp_find_codestream(file: &[u8], start: &mut u64, lengt
 {
     let answer = reader::search::find_codestream(file);
     tell_found(answer, start, length)
+}
+
+// The codestream itself, empty where the search refuses.
+#[no_mangle]
+pub extern "C" fn winterhasp_codestream_of(file: &[u8], out: &mut [u8], value: &mut u64) -> u32
+    ensures { λ r. ⌜ r ≡ partNumber (contentOf (now (file .entry))) (length (now (out .entry))) ⌝ }
+    ensures { λ _. ⌜ now (value .exit) ≡ length (contentOf (now (file .entry))) ⌝ }
+    ensures { λ _. ⌜ now (out .exit) ≡ partOut (contentOf (now (file .entry))) (now (out .entry)) ⌝ }
+{
+    let part = reader::search::codestream_of(file);
+    tell_part(part, out, value)
 }
 
 fn sign(signed: bool) -> u64
