@@ -67,8 +67,18 @@ impl<A: Leaves<V, M>, const V: usize, const M: usize> Case<A, V, M> {
     /// Counted under document 01's answer; where the original says nothing that document alone
     /// decides, and elsewhere it too is held to the original.
     pub fn judge(self, tally: &mut Tally, input: impl FnOnce() -> String) {
+        self.judge_under(ACCEPTED, tally, input);
+    }
+
+    /// The same, with what document 01 accepts counted under this label.
+    pub fn judge_under(
+        self,
+        accepted: &'static str,
+        tally: &mut Tally,
+        input: impl FnOnce() -> String,
+    ) {
         let (label, ours_alone) = match &self.document {
-            Ok(_) => (ACCEPTED, false),
+            Ok(_) => (accepted, false),
             Err(refusal) => (refusal.label(), refusal.is_ours_alone()),
         };
         let told = match self.told {

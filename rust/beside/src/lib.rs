@@ -17,6 +17,8 @@ pub mod tally;
 
 #[cfg(all(present, any(feature = "header", feature = "parts")))]
 mod entries;
+#[cfg(all(present, any(feature = "parts", feature = "reader")))]
+mod part;
 #[cfg(all(present, any(feature = "header", feature = "parts")))]
 mod records;
 

@@ -26,6 +26,25 @@ fn the_codestream_s_box() {
     assert_eq!(found(&[&behind[0], &behind[1]]), (0, [37, 2]));
 }
 
+/// What stands in 4 bytes of output, and the length; none where the search refuses.
+#[test]
+fn the_codestream_itself() {
+    let short = [&SIGNATURE, &saying(JP2C, 900, &[1, 2])[..]].concat();
+    let long = [&SIGNATURE, &fitting(JP2C, &[1, 2, 3, 4, 5])[..]].concat();
+    let refused = [&SIGNATURE, &saying(JP2C, 7, &[1, 2])[..]].concat();
+    for (file, status, length, left) in [
+        (&short[..], 0, 2, [1, 2, 7, 7]),
+        (&[0xFF, 0x4F, 5], 0, 3, [0xFF, 0x4F, 5, 7]),
+        (&long, 17, 5, [7; 4]),
+        (&refused, 0, 0, [7; 4]),
+        (&SIGNATURE, 0, 0, [7; 4]),
+    ] {
+        let (mut out, mut value) = ([7; 4], 7);
+        assert_eq!(probe::codestream_of(file, &mut out, &mut value), status);
+        assert_eq!((value, out), (length, left));
+    }
+}
+
 #[test]
 fn where_the_chain_stops() {
     assert_eq!(found(&[&saying(JP2C, 1, &[0; 7])]), (13, [12, 7]));

@@ -4,8 +4,8 @@
 
 use beside::sample::sample_a;
 use beside::sample::sizes::{header, SAMPLE_A};
-use winterhasp::{build_into, build_minimal_codestream, rewrite_into, rewrite_siz_for_tile};
-use winterhasp::{Refusal, TilePart};
+use winterhasp::{build_from_parts, build_into, build_minimal_codestream};
+use winterhasp::{rewrite_into, rewrite_siz_for_tile, Refusal, TilePart};
 
 const TILE_0: TilePart = TilePart {
     index: 0,
@@ -95,6 +95,32 @@ fn dropped_ranges_choose_nothing() {
     let built = build_minimal_codestream(&sample_a()[..45], &ranges, &sample_a());
     let five = build_minimal_codestream(&sample_a()[..45], &[TILE_5], &sample_a());
     assert_eq!(built, five);
+}
+
+/// Empty ones too, of which the first chooses no tile.
+#[test]
+fn parts_are_as_their_ranges() {
+    const NONE: TilePart = TilePart {
+        index: 0,
+        offset: 0,
+        length: 0,
+    };
+    let sample = sample_a();
+    for ranges in [
+        &[][..],
+        &[NONE],
+        &[TILE_5],
+        &[TILE_5, NONE, TILE_0],
+        &[NONE, TILE_5],
+    ] {
+        let bytes = |part: &TilePart| &sample[part.offset as usize..][..part.length as usize];
+        let parts: Vec<&[u8]> = ranges.iter().map(bytes).collect();
+        let built = build_from_parts(&sample[..45], &parts);
+        let by_ranges = build_minimal_codestream(&sample[..45], ranges, &sample);
+        assert_eq!(built, by_ranges);
+    }
+    let outside = [0xFF, 0x90, 0, 10, 0, 6];
+    assert_eq!(build_from_parts(&sample[..45], &[&outside]), Err(REFUSED));
 }
 
 #[test]

@@ -99,6 +99,15 @@ mod archive {
         ) -> u32;
 
         #[cfg(feature = "reader")]
+        pub fn winterhasp_codestream_of(
+            file: *const u8,
+            file_len: usize,
+            out: *mut u8,
+            out_len: usize,
+            value: *mut u64,
+        ) -> u32;
+
+        #[cfg(feature = "reader")]
         pub fn winterhasp_parse_siz_marker(
             codestream: *const u8,
             codestream_len: usize,
@@ -240,6 +249,22 @@ pub fn split_at(tile: &[u8], at: u64, out: &mut [u8], value: &mut u64) -> u32 {
 pub fn find_codestream(file: &[u8], [start, length]: &mut [u64; 2]) -> u32 {
     // SAFETY: as at the top of this file.
     unsafe { archive::winterhasp_find_codestream(file.as_ptr(), file.len(), start, length) }
+}
+
+/// The codestream's bytes go to `out`, their number to `value`; where the search refuses there are
+/// none.
+#[cfg(feature = "reader")]
+pub fn codestream_of(file: &[u8], out: &mut [u8], value: &mut u64) -> u32 {
+    // SAFETY: as at the top of this file.
+    unsafe {
+        archive::winterhasp_codestream_of(
+            file.as_ptr(),
+            file.len(),
+            out.as_mut_ptr(),
+            out.len(),
+            value,
+        )
+    }
 }
 
 /// Numbers: width, height, components, bits of a component, and 1 if it is signed.

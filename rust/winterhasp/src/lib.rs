@@ -21,6 +21,8 @@ pub use parts::{scan_into, scan_sot_markers};
 #[cfg(any(feature = "parts", feature = "tile"))]
 pub use refusal::Refusal;
 #[cfg(feature = "tile")]
-pub use tile::{build_into, build_minimal_codestream, rewrite_into, rewrite_siz_for_tile};
+pub use tile::{
+    build_from_parts, build_into, build_minimal_codestream, rewrite_into, rewrite_siz_for_tile,
+};
 #[cfg(any(feature = "parts", feature = "tile"))]
 pub use tile_part::{TilePart, ROW};

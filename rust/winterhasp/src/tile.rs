@@ -25,6 +25,24 @@ pub fn build_minimal_codestream(
     })
 }
 
+/// The same, of the tile-parts' own bytes, wherever they come from: they are joined, and each has its
+/// range there.
+pub fn build_from_parts(decode_header: &[u8], parts: &[&[u8]]) -> Result<Vec<u8>, Refusal> {
+    let joined = parts.concat();
+    let mut offset = 0;
+    let range = |part: &&[u8]| {
+        let length = part.len() as u64;
+        offset += length;
+        TilePart {
+            index: 0,
+            offset: offset - length,
+            length,
+        }
+    };
+    let ranges: Vec<TilePart> = parts.iter().map(range).collect();
+    build_minimal_codestream(decode_header, &ranges, &joined)
+}
+
 /// The archive's own answer: 0 with the bytes written in `value`, or a refusal's number with its
 /// place there and `out` as it was.
 pub fn rewrite_into(decode_header: &[u8], isot: u16, out: &mut [u8], value: &mut u64) -> u32 {

@@ -2,6 +2,7 @@
 
 use original::markers::build_minimal_codestream as original;
 
+use super::from_parts;
 use crate::compare::{Comparison, Run};
 use crate::judge::{Case, Told};
 use crate::lent::{room, Lent};
@@ -18,7 +19,7 @@ pub const COMPARISON: Comparison = Comparison {
     name: super::NAME,
     minimum: 1_000_000,
     answers: &["accepted", "refused 10", "refused 17"],
-    also: &[],
+    also: &[from_parts::ALSO],
     run,
 };
 
@@ -36,6 +37,7 @@ fn run(run: &mut Run) {
 fn check(run: &mut Run, input: &Input) {
     let size = room(&mut run.random, needed(input));
     check_with(run, input, size);
+    from_parts::check(run, input);
 }
 
 /// Bytes of output; some where the assembly is refused.
@@ -53,6 +55,7 @@ fn every_room(run: &mut Run, input: &Input) {
     for size in [0, needed - 2, needed - 1, needed, needed + 1] {
         check_with(run, input, size);
     }
+    from_parts::check(run, input);
 }
 
 fn check_with(run: &mut Run, input: &Input, size: usize) {

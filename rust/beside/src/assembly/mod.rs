@@ -1,7 +1,8 @@
-//! `build_minimal_codestream`, ours beside the original's.
+//! `build_minimal_codestream`, ours beside the original's; and the same of parts in place of ranges.
 
 mod cases;
 mod compare;
+mod from_parts;
 mod rows;
 
 pub use cases::KIND;

@@ -68,13 +68,23 @@ pub fn build_minimal_codestream(
     codestream: &[u8],
     room: usize,
 ) -> Result<Vec<u8>, Refusal> {
-    let parts: Vec<&[u8]> = ranges
-        .iter()
-        .filter_map(|&(offset, length)| {
-            let end = offset.checked_add(length)?;
-            codestream.get(offset as usize..usize::try_from(end).ok()?)
-        })
-        .collect();
+    build_from_parts(decode_header, &kept(ranges, codestream), room)
+}
+
+/// The parts of ranges; one that passes the end is dropped.
+pub fn kept<'a>(ranges: &[(u64, u64)], codestream: &'a [u8]) -> Vec<&'a [u8]> {
+    let part = |&(offset, length): &(u64, u64)| {
+        let end = offset.checked_add(length)?;
+        codestream.get(offset as usize..usize::try_from(end).ok()?)
+    };
+    ranges.iter().filter_map(part).collect()
+}
+
+pub fn build_from_parts(
+    decode_header: &[u8],
+    parts: &[&[u8]],
+    room: usize,
+) -> Result<Vec<u8>, Refusal> {
     let header = match parts.first().and_then(|part| isot(part)) {
         Some(isot) => rewrite_siz_for_tile(decode_header, isot)?,
         None => decode_header.to_vec(),
@@ -84,7 +94,7 @@ pub fn build_minimal_codestream(
     let mut out = header;
     for part in parts {
         let at = out.len();
-        out.extend(part);
+        out.extend(*part);
         if isot(part).is_some() {
             out[at + 4..at + 6].fill(0);
         }

@@ -1,11 +1,13 @@
-//! The comparison: start, length, refusals.
+//! The comparison: start, length, refusals; and the codestream's bytes.
 
 use super::cases::payloads;
 use super::original;
-use crate::compare::{Comparison, Run};
+use crate::compare::{Also, Comparison, Run};
 use crate::judge::{Case, Leaves, Told};
 use crate::lent::Lent;
 use crate::model::reader::{find_codestream, JP2C, SIGNATURE};
+use crate::model::Refusal;
+use crate::part::Part;
 use crate::sample::boxes::{self, extended, fitting, saying, FREE};
 use crate::sample::damage::damage;
 use crate::sample::short::each_string;
@@ -23,9 +25,16 @@ pub const COMPARISON: Comparison = Comparison {
         "refused 15",
         "refused 16",
     ],
-    also: &[],
+    also: &[Also {
+        name: "codestream_of",
+        answers: &[FOUND, NONE, "refused 17"],
+    }],
     run,
 };
+
+/// Where the search accepts, and where it refuses.
+const FOUND: &str = "codestream";
+const NONE: &str = "none";
 
 fn run(run: &mut Run) {
     for payload in payloads(&mut run.random.clone()) {
@@ -39,23 +48,50 @@ fn run(run: &mut Run) {
     }
 }
 
-impl Leaves<2, 0> for (u64, u64) {
+/// Start and length.
+type Range = (u64, u64);
+
+impl Leaves<2, 0> for Range {
     fn leave(&self, before: Lent<2, 0>) -> Lent<2, 0> {
         before.accepted([self.0, self.1], [])
     }
 }
 
 fn check(run: &mut Run, file: &[u8]) {
+    let told = Told::by(|| original(file));
+    let document = find_codestream(file);
+    bytes(run, file, &told, document);
     let before = Lent::preset(&mut run.random, []);
     let mut ours = before.clone();
     ours.status = probe::find_codestream(file, &mut ours.values);
     let case = Case {
         before,
         ours,
-        told: Told::by(|| original(file)),
-        document: find_codestream(file),
+        told,
+        document,
     };
     case.judge(&mut run.tally, || hex(file));
+}
+
+/// The range's part of the file; none where the search refuses.
+fn bytes(run: &mut Run, file: &[u8], told: &Told<Range>, document: Result<Range, Refusal>) {
+    let part = |(start, length): Range| file[start as usize..][..length as usize].to_vec();
+    let part = Part {
+        told: match (told, document) {
+            (Told::Nothing, _) => Told::Nothing,
+            (_, Err(refusal)) if refusal.is_ours_alone() => Told::Nothing,
+            (Told::Accepted(range), _) => Told::Accepted(part(*range)),
+            (Told::Refused, _) => Told::Accepted(Vec::new()),
+        },
+        document: document.map_or(Vec::new(), part),
+        label: if document.is_ok() { FOUND } else { NONE },
+    };
+    part.check(
+        &mut run.random,
+        &mut run.also[0],
+        |out, value| probe::codestream_of(file, out, value),
+        || hex(file),
+    );
 }
 
 /// Alone, and in place of the first box's length.

@@ -6,10 +6,10 @@ use original::markers::split_tile_parts as original;
 use super::cases::payloads;
 use crate::caught::caught;
 use crate::compare::{Also, Comparison, Run};
-use crate::judge::{Case, Told};
-use crate::lent::{room, Lent};
+use crate::judge::Told;
 use crate::model::parts::split_tile_parts;
-use crate::model::Refusal;
+use crate::model::ACCEPTED;
+use crate::part::Part;
 use crate::random::Random;
 use crate::sample::damage::damage;
 use crate::sample::parts;
@@ -122,21 +122,20 @@ struct Asked<'a> {
 
 impl Asked<'_> {
     fn check(self, random: &mut Random, tally: &mut Tally) {
-        let Asked { tile, which, .. } = self;
-        let size = room(random, self.part.len());
-        let before = Lent::preset(random, [size]);
-        let mut ours = before.clone();
-        ours.status = (self.split)(tile, which, &mut ours.memory[0], &mut ours.values[0]);
-        let fits = Refusal::unless_it_holds(size, self.part.len() as u128);
-        let case = Case {
-            before,
-            ours,
+        let Asked {
+            split, tile, which, ..
+        } = self;
+        let part = Part {
             told: self.told,
-            document: fits.map(|()| self.part),
+            document: self.part,
+            label: ACCEPTED,
         };
-        case.judge(tally, || {
-            format!("{}, asked for {which}, output {size}", hex(tile))
-        });
+        part.check(
+            random,
+            tally,
+            |out, value| split(tile, which, out, value),
+            || format!("{}, asked for {which}", hex(tile)),
+        );
     }
 }
 

@@ -82,6 +82,11 @@ pub const FUNCTIONS: &[Function] = &[
         run: search,
     },
     Function {
+        name: "codestream_of",
+        answers: &["accepted", "refused 17"],
+        run: codestream_of,
+    },
+    Function {
         name: "parse_siz_marker",
         answers: &["accepted", "refused 20", "refused 21", "refused 22"],
         run: siz,
@@ -308,11 +313,25 @@ fn assembly(calls: &mut Calls) {
     );
 }
 
+fn file(random: &mut Random) -> Vec<u8> {
+    let built = boxes::file(random);
+    perhaps_damaged(random, built)
+}
+
 fn search(calls: &mut Calls) {
-    let built = boxes::file(&mut calls.random);
-    let file = perhaps_damaged(&mut calls.random, built);
+    let file = file(&mut calls.random);
     calls.call([file], [], usual, |[file], [], values| {
         probe::find_codestream(file, values)
+    });
+}
+
+fn codestream_of(calls: &mut Calls) {
+    let random = &mut calls.random;
+    let file = file(random);
+    let found = model::reader::find_codestream(&file);
+    let size = room(random, found.map_or(0, |(_, length)| length as usize));
+    calls.call([file], [size], usual, |[file], [out], [value]| {
+        probe::codestream_of(file, out, value)
     });
 }
 
