@@ -4,7 +4,7 @@
 
 use beside::sample::sample_a;
 use beside::sample::sizes::{header, SAMPLE_A};
-use winterhasp::{build_from_parts, build_into, build_minimal_codestream};
+use winterhasp::{build_into, build_minimal_codestream, build_minimal_codestream_from_parts};
 use winterhasp::{rewrite_into, rewrite_siz_for_tile, Refusal, TilePart};
 
 const TILE_0: TilePart = TilePart {
@@ -115,12 +115,15 @@ fn parts_are_as_their_ranges() {
     ] {
         let bytes = |part: &TilePart| &sample[part.offset as usize..][..part.length as usize];
         let parts: Vec<&[u8]> = ranges.iter().map(bytes).collect();
-        let built = build_from_parts(&sample[..45], &parts);
+        let built = build_minimal_codestream_from_parts(&sample[..45], &parts);
         let by_ranges = build_minimal_codestream(&sample[..45], ranges, &sample);
         assert_eq!(built, by_ranges);
     }
     let outside = [0xFF, 0x90, 0, 10, 0, 6];
-    assert_eq!(build_from_parts(&sample[..45], &[&outside]), Err(REFUSED));
+    assert_eq!(
+        build_minimal_codestream_from_parts(&sample[..45], &[&outside]),
+        Err(REFUSED)
+    );
 }
 
 #[test]

@@ -22,7 +22,8 @@ pub use parts::{scan_into, scan_sot_markers};
 pub use refusal::Refusal;
 #[cfg(feature = "tile")]
 pub use tile::{
-    build_from_parts, build_into, build_minimal_codestream, rewrite_into, rewrite_siz_for_tile,
+    build_into, build_minimal_codestream, build_minimal_codestream_from_parts, rewrite_into,
+    rewrite_siz_for_tile,
 };
 #[cfg(any(feature = "parts", feature = "tile"))]
 pub use tile_part::{TilePart, ROW};

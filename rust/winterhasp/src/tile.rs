@@ -27,7 +27,10 @@ pub fn build_minimal_codestream(
 
 /// The same, of the tile-parts' own bytes, wherever they come from: they are joined, and each has its
 /// range there.
-pub fn build_from_parts(decode_header: &[u8], parts: &[&[u8]]) -> Result<Vec<u8>, Refusal> {
+pub fn build_minimal_codestream_from_parts(
+    decode_header: &[u8],
+    parts: &[&[u8]],
+) -> Result<Vec<u8>, Refusal> {
     let joined = parts.concat();
     let mut offset = 0;
     let range = |part: &&[u8]| {

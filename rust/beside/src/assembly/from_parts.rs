@@ -23,7 +23,7 @@ pub fn check(run: &mut Run, input: &Input) {
     let size = document.as_ref().map_or(0, Vec::len);
     let before = Lent::preset(&mut run.random, [size]);
     let case = Case {
-        ours: match winterhasp::build_from_parts(header, &parts) {
+        ours: match winterhasp::build_minimal_codestream_from_parts(header, &parts) {
             Ok(built) => Lent {
                 status: 0,
                 values: [built.len() as u64],
