@@ -20,7 +20,7 @@ use Rattle.parts.specs.Tiles.{ofTile}
 use Rattle.parts.specs.declared.scan.Scanned.the-variants.{Table}
 use Rattle.tile.specs.Rewrite.{outside, tileSize, rewritten, rewriteAnswer, rewriteOut}
 use Rattle.tile.specs.Assembly.{assemblyAnswer, assemblyOut}
-use Rattle.tile.specs.declared.rewrite.TileSize.the-variants.{Whole, Cut}
+use Rattle.tile.specs.declared.rewrite.TileSize.the-variants.{Cut}
 use Rattle.tile.specs.declared.rewrite.Written.the-variants.{Bytes}
 use Rattle.reader.specs.Search.{refused, foundIn}
 use Rattle.reader.specs.Growth.{regionAt, grown}

@@ -3,21 +3,19 @@
 use Prim.Native.Nat.{ℕ, _+_, _-_, _≤_}
 use native.Mathlib.Omega.{arith}
 use mathlib.Core.Path.{_≡_, refl, sym, ap, ap₂, _∙_}
-use mathlib.Core.Bool.{Bool, true, false, _&&_}
+use mathlib.Core.Bool.{Bool, true, false}
 use mathlib.Core.List.{List, _∷_, map}
 use lib.ListN.{length, take, drop}
-use lib.Dec.{leb, eqb}
-use borrow.Author.Tests.{ne-eqb, eqb-true, eqb-false}
-use Rattle.numbers.specs.Bytes.{be}
+use lib.Dec.{eqb}
+use borrow.Author.Tests.{eqb-true, eqb-false}
 use Rattle.numbers.proofs.Laws.{be-bound}
-use Rattle.types.specs.Markers.{SOT, EOC}
 use Rattle.types.specs.Row.{rowsOf}
 use Rattle.types.proofs.Laws.{Fits}
 use Rattle.types.specs.declared.TilePartEntry.{TilePartEntry}
 use Rattle.chain.specs.Chain.{on, Visit, Run, stay, step}
 use Rattle.chain.proofs.Laws.{chain-run, end-on}
 use Rattle.parts.specs.Sot.{lsot, isot}
-use Rattle.parts.specs.Scan.{refusal, ended, refused, eocAt, moveOf, moveAt, scanFrom, visited, entriesFrom}
+use Rattle.parts.specs.Scan.{refusal, ended, refused, moveOf, moveAt, scanFrom, visited, entriesFrom}
 use Rattle.parts.specs.Tiles.{ofTile, bytesAt}
 use Rattle.numbers.proofs.Choice.{by-test}
 use Rattle.parts.proofs.Scans.{Stands, move-passed, rises, sot-lsot, sot-no-eoc, step-sot}
