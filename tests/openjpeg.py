@@ -7,7 +7,9 @@ Makes small images, compresses them by opj_compress over a grid of options, and 
 A tile is moved to the origin as it is cut. Where image and tile origin are 0 and tile sides and
 subsampling are powers of two, a side at least 2^levels times the subsampling, every tile has to be
 equal; elsewhere right and wrong ones are counted by kind of grid.
-Status 1 if anything differs that must not, 2 if the run can't be made.
+What is cut is decoded twice: tile 0 of it, and plainly, all of it. A tile of full size keeps the
+whole image's size, so there the plain picture is that large, and the tile is its upper left corner.
+Status 1 if anything differs that must not, or if too little was compared; 2 if the run can't be made.
 """
 
 import argparse
@@ -30,6 +32,9 @@ ROOT = Path(__file__).resolve().parent.parent
 SEED = 15444
 WORKERS = 2
 MUST = "origin 0, powers of two, large enough"
+# Of that kind, in a run of 100 seconds. A slow machine with an emulator does twice as much.
+LEAST_FILES = 20
+LEAST_TILES = 150
 
 
 class Image(NamedTuple):
@@ -364,23 +369,56 @@ def crop(siz, tile, planes):
     return found
 
 
+def corner(planes, part):
+    """The upper left of each component, as large as `part`'s is."""
+    found = []
+    for (width, _, sample, body), (columns, rows, _, _) in zip(planes, part):
+        starts = [row * width * sample for row in range(rows)]
+        cut = b"".join(body[start : start + columns * sample] for start in starts)
+        found.append((columns, rows, sample, cut))
+    return found
+
+
+def sizes(planes):
+    return [(width, height) for width, height, _, _ in planes]
+
+
+# What a plain decode shows.
+THE_TILE = "plain: the tile"
+AT_THE_CORNER = "plain: at the corner"
+SOMETHING_ELSE = "plain: other"
+
+
+def view(shown, tile, whole):
+    """What is shown, where `tile` should be; `whole` is the picture that it was cut from."""
+    if shown == tile:
+        return THE_TILE
+    if shown and sizes(shown) == sizes(whole) and corner(shown, tile) == tile:
+        return AT_THE_CORNER
+    return SOMETHING_ELSE
+
+
 # One file
 
 # In place of a kind, for a file of which no tile is looked at.
 NOT_MADE = "not compressed by opj_compress"
 LISTS_DIFFER = "tile-parts differ"
+# Outcomes of a tile that was cut as it should be, and that there is something to hold to.
+DECODABLE = ["equal", "different", "not decoded"]
 
 
 class Seen(NamedTuple):
-    """What came of one file: tiles counted under their outcome, troubles as text."""
+    """What came of one file: tiles counted under their outcome, and under what a plain decode of
+    them shows; troubles as text."""
 
     kind: str
     outcomes: Counter
+    views: Counter
     troubles: list
 
     @classmethod
     def without_tiles(cls, kind, name):
-        return cls(kind, Counter(), [f"{kind}: {name}"])
+        return cls(kind, Counter(), Counter(), [f"{kind}: {name}"])
 
 
 class Run:
@@ -420,12 +458,20 @@ class Run:
         codestream.write_bytes(path.read_bytes()[start : start + length])
         siz = read_siz(codestream.read_bytes())
         planes = decoded(codestream)
-        seen = Seen(kind(siz, grid.levels), Counter(), [])
+        seen = Seen(kind(siz, grid.levels), Counter(), Counter(), [])
         for tile in sorted({tile for tile, _, _ in parts}):
-            outcome = self.outcome(path, tile, planes and crop(siz, tile, planes))
+            cut = path.with_name(f"tile{tile}.j2k")
+            expected = planes and crop(siz, tile, planes)
+            outcome = self.outcome(path, tile, cut, expected)
             seen.outcomes[outcome] += 1
             if seen.kind == MUST and outcome != "equal":
                 seen.troubles.append(f"tile {tile} {outcome}: {name}")
+            if outcome not in DECODABLE:
+                continue
+            shown = view(decoded(cut), expected, planes)
+            seen.views[shown] += 1
+            if seen.kind == MUST and shown == SOMETHING_ELSE:
+                seen.troubles.append(f"tile {tile} {shown}: {name}")
         return seen
 
     def numbers(self, command, path):
@@ -433,8 +479,7 @@ class Run:
         lines = (told([self.winterhasp, command, path]) or b"").splitlines()
         return [tuple(map(int, line.split())) for line in lines]
 
-    def outcome(self, path, tile, expected):
-        cut = path.with_name(f"tile{tile}.j2k")
+    def outcome(self, path, tile, cut, expected):
         if told([self.winterhasp, "tile", path, tile, cut]) is None:
             return "not cut"
         if TLM_MARKER in markers(cut.read_bytes()):
@@ -451,13 +496,16 @@ class Run:
 
 
 def table(seen):
-    columns = ["equal", "different", "not decoded", "not cut", "cut with TLM", "whole not decoded"]
-    print("| kind of grid | files | tiles | " + " | ".join(columns) + " |")
-    print("|---|" + "---:|" * (2 + len(columns)))
+    columns = [*DECODABLE, "not cut", "cut with TLM", "whole not decoded"]
+    views = [THE_TILE, AT_THE_CORNER, SOMETHING_ELSE]
+    print("| kind of grid | files | tiles | " + " | ".join(columns + views) + " |")
+    print("|---|" + "---:|" * (2 + len(columns + views)))
     for sort in sorted({one.kind for one in seen}, key=lambda sort: (sort != MUST, sort)):
         chosen = [one for one in seen if one.kind == sort]
         sums = sum((one.outcomes for one in chosen), Counter())
+        shown = sum((one.views for one in chosen), Counter())
         cells = [len(chosen), sum(sums.values()), *(sums[column] for column in columns)]
+        cells += [shown[column] for column in views]
         print(f"| {sort} | " + " | ".join(map(str, cells)) + " |")
 
 
@@ -471,12 +519,16 @@ def summary(results):
         print(f"{results.count(None)} files left out, as time was up")
     troubles = list(itertools.chain(*(one.troubles for one in seen)))
     same = sum(one.kind != LISTS_DIFFER for one in seen)
-    equal = sum(one.outcomes["equal"] for one in seen if one.kind == MUST)
+    bound = [one for one in seen if one.kind == MUST]
+    equal = sum(one.outcomes["equal"] for one in bound)
     print(
-        f"openjpeg: {len(seen)} files, {same} tile-part lists equal, "
-        f"{equal} tiles equal where they must be, {len(troubles)} different"
+        f"openjpeg: {len(seen)} files, {same} tile-part lists equal, {equal} tiles of {len(bound)} files "
+        f"equal where they must be (needed: {LEAST_TILES} of {LEAST_FILES}), {len(troubles)} different"
     )
-    return not troubles and equal > 0
+    enough = len(bound) >= LEAST_FILES and equal >= LEAST_TILES
+    if not enough:
+        print("openjpeg: too few files or tiles were compared where they must be equal")
+    return enough and not troubles
 
 
 def binary(folder):

@@ -2,6 +2,8 @@
 
 use std::ffi::{OsStr, OsString};
 use std::fs;
+#[cfg(all(feature = "parts", feature = "tile"))]
+use std::io::{self, Write};
 
 #[cfg(feature = "parts")]
 use crate::found;
@@ -115,8 +117,18 @@ fn tile(file: &OsStr, index: &OsStr, out: &OsStr) -> Result<String, String> {
     let built = found::decode_header(&codestream, first_sot as usize)
         .and_then(|header| winterhasp::build_minimal_codestream(&header, &parts, &codestream))
         .map_err(|refusal| trouble(file, &refusal))?;
-    fs::write(out, built).map_err(|error| trouble(out, &error))?;
+    write(out, &built).map_err(|error| trouble(out, &error))?;
     Ok(String::new())
+}
+
+/// A file that can't be written whole is not left in part; a device or a link stays.
+#[cfg(all(feature = "parts", feature = "tile"))]
+fn write(out: &OsStr, bytes: &[u8]) -> io::Result<()> {
+    fs::File::create(out)?.write_all(bytes).inspect_err(|_| {
+        if fs::symlink_metadata(out).is_ok_and(|there| there.is_file()) {
+            let _ = fs::remove_file(out);
+        }
+    })
 }
 
 /// The first SOT, and the tile-parts from there on.
