@@ -1,10 +1,12 @@
-//! Finds the original's `markers.rs` and `reader.rs`, below `OSML_SRC` or in the documents that stand
-//! beside the repository. Writes the line of Rust that takes in the first where it stands, and what
-//! is ported of the second, cut out by name.
+//! Finds the original's `markers.rs` and `reader.rs`, below `OSML_SRC` or, where that isn't set, in the
+//! documents that stand beside the repository. Writes the line of Rust that takes in the first where
+//! it stands, and what is ported of the second, cut out by name.
 
-use std::path::{Path, PathBuf};
-use std::{env, fs};
+use std::ffi::OsStr;
+use std::path::Path;
+use std::{env, fs, process};
 
+const NAMED: &str = "OSML_SRC";
 const BESIDE_THE_REPOSITORY: &str = "../../../shared/docs/src";
 const MARKERS: &str = "src/j2k/markers.rs";
 const READER: &str = "src/j2k/reader.rs";
@@ -29,8 +31,13 @@ const LENGTH: &str = "cs_len";
 fn main() {
     println!("cargo:rustc-check-cfg=cfg(present)");
     println!("cargo:rerun-if-changed=build.rs");
-    println!("cargo:rerun-if-env-changed=OSML_SRC");
-    let [markers, reader] = [MARKERS, READER].map(|name| source_directory().join(name));
+    println!("cargo:rerun-if-env-changed={NAMED}");
+    let named = env::var_os(NAMED);
+    let place = named
+        .as_deref()
+        .unwrap_or(OsStr::new(BESIDE_THE_REPOSITORY));
+    let directory = Path::new(&variable("CARGO_MANIFEST_DIR")).join(place);
+    let [markers, reader] = [MARKERS, READER].map(|name| directory.join(name));
     for source in [&markers, &reader] {
         println!("cargo:rerun-if-changed={}", source.display());
     }
@@ -39,13 +46,10 @@ fn main() {
         write("reader.rs", &cut_out(&reader));
         println!("cargo:rustc-cfg=present");
         println!("cargo:present=yes");
-    }
-}
-
-fn source_directory() -> PathBuf {
-    match env::var_os("OSML_SRC") {
-        Some(named) => named.into(),
-        None => Path::new(&variable("CARGO_MANIFEST_DIR")).join(BESIDE_THE_REPOSITORY),
+    } else if named.is_some() {
+        let directory = directory.display();
+        eprintln!("{NAMED} is set, and {MARKERS} and {READER} are not both in {directory}");
+        process::exit(1);
     }
 }
 

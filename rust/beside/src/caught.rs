@@ -8,6 +8,9 @@ thread_local! {
     static EXPECTED: Cell<bool> = const { Cell::new(false) };
 }
 
+/// What is said of an original that does so.
+pub const PANICKED: &str = "panicked where no panic is documented";
+
 static HOOK: Once = Once::new();
 
 /// What `call` gives, or `None` if it panics.

@@ -3,49 +3,67 @@
 use std::time::{Duration, Instant};
 
 use crate::random::Random;
-use crate::tally::Tally;
+use crate::tally::{Answer, Tally};
 
 /// A function's comparison, with what it must have seen at least.
-pub struct Comparison {
+pub struct Comparison<O> {
     pub name: &'static str,
     pub minimum: u64,
-    pub answers: &'static [&'static str],
+    pub answers: &'static [Answer],
     pub also: &'static [Also],
-    pub run: fn(&mut Run),
+    /// The function that is asked beside ours.
+    pub original: O,
+    pub run: fn(&mut Run<O>),
 }
 
 /// Another function of ours that goes through the same cases, with answers that it must give; the
 /// minimum is the comparison's.
 pub struct Also {
     pub name: &'static str,
-    pub answers: &'static [&'static str],
+    pub answers: &'static [Answer],
+}
+
+/// A comparison, whatever its original is.
+pub trait Compared {
+    fn names(&self) -> Vec<&'static str>;
+
+    /// The run's fixed cases, then random ones while time is left, or until enough were seen.
+    fn tallies(&self, seed: u64, time: Duration) -> Vec<Tally>;
+}
+
+impl<O: Copy> Compared for Comparison<O> {
+    fn names(&self) -> Vec<&'static str> {
+        let also = self.also.iter().map(|also| also.name);
+        [self.name].into_iter().chain(also).collect()
+    }
+
+    fn tallies(&self, seed: u64, time: Duration) -> Vec<Tally> {
+        let tally = |name, answers| Tally::new(name, self.minimum, answers);
+        let also = self.also.iter();
+        let mut run = Run {
+            random: Random::new(seed),
+            tally: tally(self.name, self.answers),
+            also: also.map(|also| tally(also.name, also.answers)).collect(),
+            original: self.original,
+            until: Instant::now() + time,
+        };
+        (self.run)(&mut run);
+        run.also.insert(0, run.tally);
+        run.also
+    }
 }
 
 /// A comparison under way.
-pub struct Run {
+pub struct Run<O> {
     pub random: Random,
     pub tally: Tally,
     /// In the order of the comparison's `also`.
     pub also: Vec<Tally>,
+    pub original: O,
     until: Instant,
 }
 
-impl Run {
-    /// The run's fixed cases, then random ones while time is left, or until enough were seen.
-    pub fn of(comparison: &Comparison, seed: u64, time: Duration) -> Vec<Tally> {
-        let tally = |name, answers| Tally::new(name, comparison.minimum, answers);
-        let also = comparison.also.iter();
-        let mut run = Run {
-            random: Random::new(seed),
-            tally: tally(comparison.name, comparison.answers),
-            also: also.map(|also| tally(also.name, also.answers)).collect(),
-            until: Instant::now() + time,
-        };
-        (comparison.run)(&mut run);
-        run.also.insert(0, run.tally);
-        run.also
-    }
-
+impl<O> Run<O> {
     pub fn goes_on(&self) -> bool {
         let enough = self.tally.enough() && self.also.iter().all(Tally::enough);
         !enough || Instant::now() < self.until
@@ -54,7 +72,7 @@ impl Run {
 
 #[cfg(test)]
 mod tests {
-    use super::{Also, Comparison, Run};
+    use super::{Also, Compared, Comparison};
     use std::time::Duration;
 
     #[test]
@@ -62,11 +80,12 @@ mod tests {
         let comparison = Comparison {
             name: "f",
             minimum: 4,
-            answers: &["even", "odd"],
+            answers: &[("even", 1), ("odd", 1)],
             also: &[Also {
                 name: "g",
-                answers: &["even"],
+                answers: &[("even", 1)],
             }],
+            original: (),
             run: |run| {
                 while run.goes_on() {
                     run.tally.compare("even", &0, &0, String::new);
@@ -75,7 +94,8 @@ mod tests {
                 }
             },
         };
-        let tallies = Run::of(&comparison, 0, Duration::ZERO);
+        assert_eq!(comparison.names(), ["f", "g"]);
+        let tallies = comparison.tallies(0, Duration::ZERO);
         let [f, g] = &tallies[..] else {
             panic!("{} tallies", tallies.len());
         };

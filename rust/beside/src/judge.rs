@@ -2,7 +2,7 @@
 
 use std::fmt::Debug;
 
-use crate::caught::caught;
+use crate::caught::{caught, PANICKED};
 use crate::compare::Run;
 use crate::lent::Lent;
 use crate::model::{Refusal, ACCEPTED};
@@ -13,17 +13,28 @@ use crate::tally::Tally;
 pub enum Told<A> {
     Accepted(A),
     Refused,
-    /// It panicked, or it wasn't asked.
+    /// It panicked where docs/DIFFERENCES.md says so, or it wasn't asked.
     Nothing,
+    /// It did not do what docs/DIFFERENCES.md says of panics, but this.
+    Amiss(&'static str),
 }
 
+pub const DID_NOT_PANIC: &str = "did not panic where a panic is documented";
+
 impl<A> Told<A> {
-    /// `call` gives nothing where the original refuses.
+    /// `call` gives nothing where the original refuses; it never panics.
     pub fn by(call: impl FnOnce() -> Option<A>) -> Self {
+        Self::by_or_panic(false, call)
+    }
+
+    /// The same, of a call that has to panic if docs/DIFFERENCES.md says so of this input.
+    pub fn by_or_panic(panics: bool, call: impl FnOnce() -> Option<A>) -> Self {
         match caught(call) {
+            None if panics => Told::Nothing,
+            None => Told::Amiss(PANICKED),
+            Some(_) if panics => Told::Amiss(DID_NOT_PANIC),
             Some(Some(answer)) => Told::Accepted(answer),
             Some(None) => Told::Refused,
-            None => Told::Nothing,
         }
     }
 }
@@ -52,7 +63,7 @@ pub struct Case<A, const V: usize, const M: usize> {
 impl<A: Leaves<V, M>, const V: usize, const M: usize> Case<A, V, M> {
     /// The case, and the same with what the other function of ours left. Both are held to the same,
     /// and so to each other.
-    pub fn judge_both(self, other: Lent<V, M>, run: &mut Run, input: impl Fn() -> String)
+    pub fn judge_both<O>(self, other: Lent<V, M>, run: &mut Run<O>, input: impl Fn() -> String)
     where
         A: Clone,
     {
@@ -64,8 +75,8 @@ impl<A: Leaves<V, M>, const V: usize, const M: usize> Case<A, V, M> {
         second.judge(&mut run.also[0], input);
     }
 
-    /// Counted under document 01's answer; where the original says nothing that document alone
-    /// decides, and elsewhere it too is held to the original.
+    /// Counted under document 01's answer; where the original rightly says nothing that document
+    /// alone decides, and elsewhere it too is held to the original.
     pub fn judge(self, tally: &mut Tally, input: impl FnOnce() -> String) {
         self.judge_under(ACCEPTED, tally, input);
     }
@@ -91,8 +102,10 @@ impl<A: Leaves<V, M>, const V: usize, const M: usize> Case<A, V, M> {
                     Ok(answer) => answer.leave(self.before),
                     Err(refusal) => self.before.refused(refusal),
                 };
-                tally.compare(label, &self.ours, &expected, input);
-                tally.by_the_document_alone();
+                tally.compare_by_the_document(label, &self.ours, &expected, input);
+            }
+            (Told::Amiss(what), _) => {
+                tally.compare_by_the_document(label, &Ok(self.ours), &Err(what), input);
             }
             (Told::Accepted(answer), document) => {
                 let expected = answer.leave(self.before);
@@ -112,7 +125,8 @@ impl<A: Leaves<V, M>, const V: usize, const M: usize> Case<A, V, M> {
 
 #[cfg(test)]
 mod tests {
-    use super::{Case, Leaves, Told};
+    use super::{Case, Leaves, Told, DID_NOT_PANIC};
+    use crate::caught::PANICKED;
     use crate::lent::Lent;
     use crate::model::Refusal;
     use crate::tally::Tally;
@@ -163,5 +177,21 @@ mod tests {
         let too_small = Refusal::new(17, 3);
         assert!(holds(lent(17, 3), Told::Accepted(5), Err(too_small)));
         assert!(!holds(lent(0, 5), Told::Accepted(5), Err(too_small)));
+    }
+
+    #[test]
+    fn a_panic_is_right_only_where_it_is_documented() {
+        let panicking = || panic!("as it may be");
+        let refusal = Refusal::new(10, 2);
+        let judged = |told| holds(lent(10, 2), told, Err(refusal));
+        assert!(judged(Told::by_or_panic(true, panicking)));
+        assert!(!judged(Told::by_or_panic(false, panicking)));
+        assert!(!judged(Told::by(panicking)));
+        assert!(!judged(Told::by_or_panic(true, || Some(5))));
+        assert!(!judged(Told::by_or_panic(true, || None)));
+        let too_small = Err(Refusal::new(17, 3));
+        for amiss in [PANICKED, DID_NOT_PANIC] {
+            assert!(!holds(lent(17, 3), Told::Amiss(amiss), too_small));
+        }
     }
 }

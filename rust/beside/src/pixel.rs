@@ -1,16 +1,21 @@
 //! `pixel_type_from_siz`, ours beside the original's: all there is, so no benchmark and no cases of
 //! its own.
 
-use original::reader;
+use original::reader::{self, PixelType};
 
-use crate::compare::{Comparison, Run};
+use crate::caught::caught;
+use crate::compare::{self, Comparison};
 use crate::model;
 
-pub const COMPARISON: Comparison = Comparison {
+type Original = fn(u8, bool) -> PixelType;
+type Run = compare::Run<Original>;
+
+pub const COMPARISON: Comparison<Original> = Comparison {
     name: "pixel_type_from_siz",
     minimum: 512,
-    answers: &["unsigned", "signed"],
+    answers: &[("unsigned", 256), ("signed", 256)],
     also: &[],
+    original: reader::pixel_type_from_siz,
     run,
 };
 
@@ -19,10 +24,11 @@ fn run(run: &mut Run) {
         for bits in 0..=u8::MAX {
             let ours = probe::pixel_type(bits, signed);
             let document = model::reader::pixel_type(bits, signed);
-            let original = reader::pixel_type_from_siz(bits, signed) as u32;
+            let original = caught(|| (run.original)(bits, signed) as u32);
             let input = || format!("{bits} bits, {label}");
             let tally = &mut run.tally;
-            tally.compare(label, &(ours, document), &(original, original), input);
+            let original = original.map(|told| (told, told));
+            tally.compare_caught(label, &(ours, document), original, input);
         }
     }
 }

@@ -1,13 +1,13 @@
 //! The comparison: bytes written, refusals, and the output beyond.
 
-use original::markers::build_minimal_codestream as original;
+use original::markers;
 
 use super::from_parts;
-use crate::compare::{Comparison, Run};
+use crate::compare::{self, Comparison};
 use crate::judge::{Case, Told};
 use crate::lent::{room, Lent};
 use crate::model::tile::build_minimal_codestream;
-use crate::model::{rows, ROW};
+use crate::model::{rows, Refusal, ROW};
 use crate::sample::damage::damage;
 use crate::sample::parts::{many, sot};
 use crate::sample::sizes::{header, SAMPLE_A};
@@ -15,11 +15,24 @@ use crate::sample::tiles::{inputs, random_input, Input};
 use crate::sample::zeros::zeros;
 use crate::tally::hex;
 
-pub const COMPARISON: Comparison = Comparison {
+/// The function itself, and that of parts.
+#[derive(Clone, Copy)]
+pub struct Original {
+    build: fn(&[u8], &[(u64, u64)], &[u8]) -> Vec<u8>,
+    pub from_parts: fn(&[u8], &[&[u8]]) -> Vec<u8>,
+}
+
+pub type Run = compare::Run<Original>;
+
+pub const COMPARISON: Comparison<Original> = Comparison {
     name: super::NAME,
     minimum: 1_000_000,
-    answers: &["accepted", "refused 10", "refused 17"],
+    answers: &[("accepted", 100_000), ("refused 10", 0), ("refused 17", 0)],
     also: &[from_parts::ALSO],
+    original: Original {
+        build: markers::build_minimal_codestream,
+        from_parts: markers::build_minimal_codestream_from_parts,
+    },
     run,
 };
 
@@ -72,11 +85,15 @@ fn check_with(run: &mut Run, input: &Input, size: usize) {
     let mut ours = before.clone();
     let [out] = &mut ours.memory;
     ours.status = winterhasp::build_into(header, &rows, codestream, out, &mut ours.values[0]);
+    let document = build_minimal_codestream(header, ranges, codestream, size);
+    let passes = |&(offset, length): &(u64, u64)| offset.checked_add(length).is_none();
+    let panics = ranges.iter().any(passes) || document.as_ref().is_err_and(Refusal::is_its_panic);
+    let build = run.original.build;
     let case = Case {
         before,
         ours,
-        told: Told::by(|| Some(original(header, ranges, codestream))),
-        document: build_minimal_codestream(header, ranges, codestream, size),
+        told: Told::by_or_panic(panics, || Some(build(header, ranges, codestream))),
+        document,
     };
     case.judge(&mut run.tally, || {
         let [header, codestream] = [header, codestream].map(|bytes| hex(bytes));

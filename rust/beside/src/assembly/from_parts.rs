@@ -1,9 +1,8 @@
 //! The comparison of the assembly of parts: the same inputs, with the bytes of each range that is
 //! kept. Ours joins them and has a range for each.
 
-use original::markers::build_minimal_codestream_from_parts as original;
-
-use crate::compare::{Also, Run};
+use super::compare::Run;
+use crate::compare::Also;
 use crate::judge::{Case, Told};
 use crate::lent::Lent;
 use crate::model::tile::{build_from_parts, kept};
@@ -13,13 +12,14 @@ use crate::tally::hex;
 
 pub const ALSO: Also = Also {
     name: "build_minimal_codestream_from_parts",
-    answers: &["accepted", "refused 10"],
+    answers: &[("accepted", 200_000), ("refused 10", 0)],
 };
 
 pub fn check(run: &mut Run, input: &Input) {
     let header = &input.header;
     let parts = kept(&input.ranges, &input.codestream);
     let document = build_from_parts(header, &parts, usize::MAX);
+    let panics = document.as_ref().is_err_and(Refusal::is_its_panic);
     let size = document.as_ref().map_or(0, Vec::len);
     let before = Lent::preset(&mut run.random, [size]);
     let case = Case {
@@ -35,7 +35,7 @@ pub fn check(run: &mut Run, input: &Input) {
             }
         },
         before,
-        told: Told::by(|| Some(original(header, &parts))),
+        told: Told::by_or_panic(panics, || Some((run.original.from_parts)(header, &parts))),
         document,
     };
     case.judge(&mut run.also[0], || {

@@ -9,32 +9,32 @@ use std::process::ExitCode;
 use std::time::Duration;
 
 use beside::caught::overflow_panics;
-use beside::compare::{Comparison, Run};
+use beside::compare::Compared;
 use beside::status::{FAILED, MISUSE, NO_ORIGINAL};
 
-const COMPARISONS: &[Comparison] = &[
+const COMPARISONS: &[&dyn Compared] = &[
     #[cfg(present)]
-    beside::extent::COMPARISON,
+    &beside::extent::COMPARISON,
     #[cfg(all(present, feature = "header"))]
-    beside::header::COMPARISON,
+    &beside::header::COMPARISON,
     #[cfg(all(present, feature = "parts"))]
-    beside::scan::COMPARISON,
+    &beside::scan::COMPARISON,
     #[cfg(all(present, feature = "parts"))]
-    beside::split::COMPARISON,
+    &beside::split::COMPARISON,
     #[cfg(all(present, feature = "tile"))]
-    beside::rewrite::COMPARISON,
+    &beside::rewrite::COMPARISON,
     #[cfg(all(present, feature = "tile"))]
-    beside::assembly::COMPARISON,
+    &beside::assembly::COMPARISON,
     #[cfg(all(present, feature = "reader"))]
-    beside::search::COMPARISON,
+    &beside::search::COMPARISON,
     #[cfg(all(present, feature = "reader"))]
-    beside::siz::COMPARISON,
+    &beside::siz::COMPARISON,
     #[cfg(all(present, feature = "reader"))]
-    beside::pixel::COMPARISON,
+    &beside::pixel::COMPARISON,
     #[cfg(all(present, feature = "reader"))]
-    beside::growth::COMPARISON,
+    &beside::growth::COMPARISON,
     #[cfg(all(present, feature = "reader"))]
-    beside::growth::STEP,
+    &beside::growth::STEP,
 ];
 
 const USAGE: &str = "usage: compare [--seconds N | --minutes N] [--seed S] [--only NAME]";
@@ -47,12 +47,10 @@ struct Options {
 }
 
 impl Options {
-    fn chosen(&self) -> Vec<&'static Comparison> {
-        let named = |name: &str| name.contains(&self.only);
-        let wanted = |comparison: &&Comparison| {
-            named(comparison.name) || comparison.also.iter().any(|also| named(also.name))
-        };
-        COMPARISONS.iter().filter(wanted).collect()
+    fn chosen(&self) -> Vec<&'static dyn Compared> {
+        let named = |name: &&str| name.contains(&self.only);
+        let wanted = |comparison: &&dyn Compared| comparison.names().iter().any(named);
+        COMPARISONS.iter().copied().filter(wanted).collect()
     }
 }
 
@@ -83,7 +81,7 @@ fn compare_all(options: &Options) -> bool {
     let share = Duration::from_secs(options.seconds) / chosen.len() as u32;
     let mut all_hold = true;
     for comparison in chosen {
-        for tally in Run::of(comparison, options.seed, share) {
+        for tally in comparison.tallies(options.seed, share) {
             println!("{tally}");
             all_hold &= tally.holds();
         }

@@ -4,7 +4,7 @@ use original::markers::{main_header_extent, MainHeaderExtent};
 
 use super::cases::payloads;
 use crate::caught::caught;
-use crate::compare::{Comparison, Run};
+use crate::compare::{self, Comparison};
 use crate::sample::codestream::{Codestream, COM, SOC, SOT};
 use crate::sample::damage::damage;
 use crate::sample::headers;
@@ -12,11 +12,15 @@ use crate::sample::short::each_string;
 use crate::sample::{sample_a, TELLING};
 use crate::tally::hex;
 
-pub const COMPARISON: Comparison = Comparison {
+type Original = fn(&[u8]) -> MainHeaderExtent;
+type Run = compare::Run<Original>;
+
+pub const COMPARISON: Comparison<Original> = Comparison {
     name: super::NAME,
     minimum: 2_000_000,
-    answers: &["complete", "truncated"],
+    answers: &[("complete", 90_000), ("truncated", 20_000_000)],
     also: &[],
+    original: main_header_extent,
     run,
 };
 
@@ -44,15 +48,16 @@ fn check(run: &mut Run, prefix: &[u8]) {
     let lent = run.random.number();
     let mut value = lent;
     let status = winterhasp::extent_into(prefix, &mut value);
-    let ours = Some(Answer { status, value });
+    let ours = Answer { status, value };
 
-    let (kind, status, value) = match caught(|| main_header_extent(prefix)) {
-        Some(MainHeaderExtent::Complete(at)) => ("complete", 1, at as u64),
-        Some(MainHeaderExtent::Truncated) => ("truncated", 0, lent),
-        None => return run.tally.compare("panicked", &ours, &None, || hex(prefix)),
+    let answer = |status, value| Some(Answer { status, value });
+    let (kind, original) = match caught(|| (run.original)(prefix)) {
+        Some(MainHeaderExtent::Complete(at)) => ("complete", answer(1, at as u64)),
+        Some(MainHeaderExtent::Truncated) => ("truncated", answer(0, lent)),
+        None => ("panicked", None),
     };
-    let original = Some(Answer { status, value });
-    run.tally.compare(kind, &ours, &original, || hex(prefix));
+    let tally = &mut run.tally;
+    tally.compare_caught(kind, &ours, original, || hex(prefix));
 }
 
 /// Alone, after SOC, after a segment, after an odd delimiter, and as a length's low byte and on.

@@ -1,9 +1,11 @@
 //! The comparison: the region reached and the enlargements, in codestreams of up to some megabytes.
 
+use std::ops::Range;
+
 use original::buffer::OwnedBuffer;
 use original::reader;
 
-use crate::compare::{Comparison, Run};
+use crate::compare::{self, Comparison};
 use crate::judge::{Case, Told};
 use crate::lent::Lent;
 use crate::model::header::main_header_extent;
@@ -11,11 +13,15 @@ use crate::model::reader::grow_header_region;
 use crate::sample::codestream::{Codestream, COM, SOT};
 use crate::sample::{headers, sample_a};
 
-pub const COMPARISON: Comparison = Comparison {
+type Original = fn(&OwnedBuffer, Range<usize>) -> (usize, usize);
+type Run = compare::Run<Original>;
+
+pub const COMPARISON: Comparison<Original> = Comparison {
     name: super::NAME,
     minimum: 1_000_000,
-    answers: &["accepted"],
+    answers: &[("accepted", 1_000_000)],
     also: &[],
+    original: reader::grow_header_region,
     run,
 };
 
@@ -98,7 +104,7 @@ fn check(run: &mut Run, source: &Source, start: usize, length: usize) {
     let mut ours = before.clone();
     ours.status = probe::grow_header_region(codestream, &mut ours.values);
     let told = Told::by(|| {
-        let (region, tried) = reader::grow_header_region(&source.remote, start..start + length);
+        let (region, tried) = (run.original)(&source.remote, start..start + length);
         Some((region as u64, tried as u64 - 1))
     });
     let is_complete = |region: u64| main_header_extent(&codestream[..region as usize]).is_some();

@@ -3,16 +3,21 @@
 use original::reader;
 
 use super::cases::{pair, pairs};
-use crate::compare::{Comparison, Run};
+use crate::caught::caught;
+use crate::compare::{self, Comparison};
 use crate::model;
 
 pub const NAME: &str = "next_region";
 
-pub const COMPARISON: Comparison = Comparison {
+type Original = fn(usize, usize) -> usize;
+type Run = compare::Run<Original>;
+
+pub const COMPARISON: Comparison<Original> = Comparison {
     name: NAME,
     minimum: 1_000_000,
-    answers: &["doubled", "capped"],
+    answers: &[("doubled", 150_000), ("capped", 300_000)],
     also: &[],
+    original: reader::next_region,
     run,
 };
 
@@ -31,7 +36,7 @@ fn run(run: &mut Run) {
 fn check(run: &mut Run, (region, length): (u64, u64)) {
     let ours = probe::next_region(region, length);
     let document = model::reader::next_region(region, length);
-    let original = reader::next_region(region as usize, length as usize) as u64;
+    let original = caught(|| (run.original)(region as usize, length as usize) as u64);
     let label = if document == length {
         "capped"
     } else {
@@ -39,5 +44,6 @@ fn check(run: &mut Run, (region, length): (u64, u64)) {
     };
     let input = || format!("region {region}, length {length}");
     let tally = &mut run.tally;
-    tally.compare(label, &(ours, document), &(original, original), input);
+    let original = original.map(|told| (told, told));
+    tally.compare_caught(label, &(ours, document), original, input);
 }

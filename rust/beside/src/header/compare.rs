@@ -3,7 +3,7 @@
 
 use super::cases::payloads;
 use super::original;
-use crate::compare::{Also, Comparison, Run};
+use crate::compare::{self, Also, Comparison};
 use crate::judge::{Case, Leaves, Told};
 use crate::lent::{room, Lent};
 use crate::model::header::{parse_main_header, Header};
@@ -14,9 +14,12 @@ use crate::sample::damage::damage;
 use crate::sample::short::each_string;
 use crate::sample::zeros::zeros;
 use crate::sample::{headers, opened, sample_a, tlms, TELLING};
-use crate::tally::hex;
+use crate::tally::{hex, Answer};
 
-pub const COMPARISON: Comparison = Comparison {
+type Original = fn(&[u8]) -> Option<Header>;
+type Run = compare::Run<Original>;
+
+pub const COMPARISON: Comparison<Original> = Comparison {
     name: super::NAME,
     minimum: 1_000_000,
     answers: ANSWERS,
@@ -24,20 +27,21 @@ pub const COMPARISON: Comparison = Comparison {
         name: "header_records",
         answers: ANSWERS,
     }],
+    original,
     run,
 };
 
-const ANSWERS: &[&str] = &[
-    "accepted",
-    "refused 1",
-    "refused 2",
-    "refused 3",
-    "refused 4",
-    "refused 5",
-    "refused 6",
-    "refused 17",
-    "refused 18",
-    "refused 19",
+const ANSWERS: &[Answer] = &[
+    ("accepted", 30_000),
+    ("refused 1", 100_000),
+    ("refused 2", 15_000),
+    ("refused 3", 200_000),
+    ("refused 4", 15_000),
+    ("refused 5", 35_000),
+    ("refused 6", 8_000),
+    ("refused 17", 0),
+    ("refused 18", 0),
+    ("refused 19", 0),
 ];
 
 fn run(run: &mut Run) {
@@ -100,7 +104,7 @@ fn check_with(run: &mut Run, codestream: &[u8], entries: usize, size: usize) {
     let case = Case {
         before,
         ours,
-        told: Told::by(|| original(codestream)),
+        told: Told::by(|| (run.original)(codestream)),
         document: parse_main_header(codestream).and_then(|header| header.fit(table, size)),
     };
     case.judge_both(of_records, run, || {

@@ -52,6 +52,11 @@ impl Refusal {
         matches!(self.number, 15 | 17 | 18 | 19 | 23)
     }
 
+    /// Where the original panics.
+    pub fn is_its_panic(&self) -> bool {
+        matches!(self.number, 10 | 16 | 22)
+    }
+
     pub fn label(&self) -> &'static str {
         LABELS[self.number as usize]
     }

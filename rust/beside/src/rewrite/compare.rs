@@ -3,7 +3,7 @@
 use original::markers::rewrite_siz_for_tile as original;
 
 use super::cases::inputs;
-use crate::compare::{Comparison, Run};
+use crate::compare::{self, Comparison};
 use crate::judge::{Case, Told};
 use crate::lent::{room, Lent};
 use crate::model::tile::rewrite_siz_for_tile;
@@ -12,11 +12,15 @@ use crate::sample::damage::damage;
 use crate::sample::sizes::{every_mixture, header, header_and_index};
 use crate::tally::hex;
 
-pub const COMPARISON: Comparison = Comparison {
+type Original = fn(&[u8], u16) -> Vec<u8>;
+type Run = compare::Run<Original>;
+
+pub const COMPARISON: Comparison<Original> = Comparison {
     name: super::NAME,
     minimum: 1_000_000,
-    answers: &["accepted", "refused 10", "refused 17"],
+    answers: &[("accepted", 150_000), ("refused 10", 0), ("refused 17", 0)],
     also: &[],
+    original,
     run,
 };
 
@@ -57,11 +61,13 @@ fn check_with(run: &mut Run, header: &[u8], isot: u16, size: usize) {
         Refusal::unless_it_holds(size, rewritten.len() as u128)?;
         Ok(rewritten)
     };
+    let document = rewrite_siz_for_tile(header, isot).and_then(fit);
+    let panics = document.as_ref().is_err_and(Refusal::is_its_panic);
     let case = Case {
         before,
         ours,
-        told: Told::by(|| Some(original(header, isot))),
-        document: rewrite_siz_for_tile(header, isot).and_then(fit),
+        told: Told::by_or_panic(panics, || Some((run.original)(header, isot))),
+        document,
     };
     case.judge(&mut run.tally, || {
         format!("{}, tile {isot}, output {size}", hex(header))

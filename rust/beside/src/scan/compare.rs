@@ -2,9 +2,10 @@
 
 use super::cases::inputs;
 use super::original;
-use crate::compare::{Also, Comparison, Run};
+use crate::compare::{self, Also, Comparison};
 use crate::judge::{Case, Leaves, Told};
 use crate::lent::{room, Lent};
+use crate::model::header::parse_main_header;
 use crate::model::parts::scan_sot_markers;
 use crate::model::{rows, Entry, Refusal, ROW};
 use crate::records;
@@ -13,9 +14,12 @@ use crate::sample::damage::damage;
 use crate::sample::short::each_string;
 use crate::sample::zeros::zeros;
 use crate::sample::{headers, parts};
-use crate::tally::hex;
+use crate::tally::{hex, Answer};
 
-pub const COMPARISON: Comparison = Comparison {
+type Original = fn(&[u8], u64) -> Option<Vec<Entry>>;
+type Run = compare::Run<Original>;
+
+pub const COMPARISON: Comparison<Original> = Comparison {
     name: super::NAME,
     minimum: 1_000_000,
     answers: ANSWERS,
@@ -23,15 +27,16 @@ pub const COMPARISON: Comparison = Comparison {
         name: "scan_records",
         answers: ANSWERS,
     }],
+    original,
     run,
 };
 
-const ANSWERS: &[&str] = &[
-    "accepted",
-    "refused 7",
-    "refused 8",
-    "refused 9",
-    "refused 18",
+const ANSWERS: &[Answer] = &[
+    ("accepted", 250_000),
+    ("refused 7", 100_000),
+    ("refused 8", 40_000),
+    ("refused 9", 40_000),
+    ("refused 18", 0),
 ];
 
 fn run(run: &mut Run) {
@@ -91,7 +96,7 @@ fn check_with(run: &mut Run, codestream: &[u8], start: u64, entries: usize) {
     let case = Case {
         before,
         ours,
-        told: Told::by(|| original(codestream, start)),
+        told: Told::by(|| (run.original)(codestream, start)),
         document: scan_sot_markers(codestream, start).and_then(fit),
     };
     case.judge_both(of_records, run, || {
@@ -159,8 +164,7 @@ fn random(run: &mut Run) {
     let parts = parts::tile_parts(&mut run.random);
     around(run, &parts, 0);
     let whole = headers::codestream(&mut run.random);
-    let start =
-        original::markers::parse_main_header(&whole).map_or(2, |told| told.first_sot_offset);
+    let start = parse_main_header(&whole).map_or(2, |header| header.first_sot);
     around(run, &whole, start);
 }
 
@@ -182,4 +186,71 @@ fn around(run: &mut Run, built: &[u8], start: u64) {
     check(run, built, far);
     let last = u64::MAX - run.random.below(14) as u64;
     check(run, built, last);
+}
+
+#[cfg(test)]
+mod tests {
+    use std::time::Duration;
+
+    use super::{every_room, inputs, original, Original, COMPARISON};
+    use crate::caught::PANICKED;
+    use crate::compare::{Also, Compared, Comparison};
+    use crate::tally::{Answer, Tally};
+
+    const FEW: &[Answer] = &[
+        ("accepted", 200),
+        ("refused 7", 50),
+        ("refused 8", 20),
+        ("refused 9", 50),
+    ];
+
+    /// A short run beside this original; the first tally is of rows, the second of records.
+    fn beside(original: Original) -> Vec<Tally> {
+        let short = Comparison {
+            minimum: 1000,
+            answers: FEW,
+            also: &[Also {
+                name: "scan_records",
+                answers: FEW,
+            }],
+            original,
+            run: |run| {
+                for (start, codestream) in inputs(&mut run.random.clone()) {
+                    every_room(run, &codestream, start);
+                }
+            },
+            ..COMPARISON
+        };
+        short.tallies(15_444, Duration::ZERO)
+    }
+
+    #[test]
+    fn the_original_itself_passes() {
+        for tally in beside(original) {
+            assert!(tally.holds(), "{tally}");
+        }
+    }
+
+    #[test]
+    fn an_original_that_panics_fails() {
+        let tallies = beside(|_, _| panic!("broken"));
+        for (tally, name) in tallies.iter().zip(COMPARISON.names()) {
+            let text = tally.to_string();
+            assert!(!tally.holds(), "{text}");
+            let too_few = format!("of {name}, accepted, at least 200 are wanted, 0 came");
+            assert!(text.contains(&too_few), "{text}");
+            assert!(text.contains(PANICKED), "{text}");
+        }
+    }
+
+    #[test]
+    fn an_original_with_other_answers_fails() {
+        const REFUSES: Original = |_, _| None;
+        const LISTS_NOTHING: Original = |_, _| Some(Vec::new());
+        for broken in [REFUSES, LISTS_NOTHING] {
+            for tally in beside(broken) {
+                assert!(!tally.holds(), "{tally}");
+            }
+        }
+    }
 }

@@ -2,10 +2,11 @@
 
 use super::cases::{payloads, stops};
 use super::original;
-use crate::compare::{Comparison, Run};
+use crate::compare::{self, Comparison};
 use crate::judge::{Case, Leaves, Told};
 use crate::lent::Lent;
 use crate::model::reader::{parse_siz_marker, Size};
+use crate::model::Refusal;
 use crate::sample::codestream::SOC;
 use crate::sample::damage::damage;
 use crate::sample::headers;
@@ -14,11 +15,20 @@ use crate::sample::short::each_string;
 use crate::sample::sizes::header_and_index;
 use crate::tally::hex;
 
-pub const COMPARISON: Comparison = Comparison {
+type Original = fn(&[u8]) -> Option<Size>;
+type Run = compare::Run<Original>;
+
+pub const COMPARISON: Comparison<Original> = Comparison {
     name: super::NAME,
     minimum: 1_000_000,
-    answers: &["accepted", "refused 20", "refused 21", "refused 22"],
+    answers: &[
+        ("accepted", 30_000),
+        ("refused 20", 1_000),
+        ("refused 21", 30_000),
+        ("refused 22", 0),
+    ],
     also: &[],
+    original,
     run,
 };
 
@@ -43,11 +53,13 @@ fn check(run: &mut Run, codestream: &[u8]) {
     let before = Lent::preset(&mut run.random, []);
     let mut ours = before.clone();
     ours.status = probe::parse_siz_marker(codestream, &mut ours.values);
+    let document = parse_siz_marker(codestream);
+    let panics = document.as_ref().is_err_and(Refusal::is_its_panic);
     let case = Case {
         before,
         ours,
-        told: Told::by(|| original(codestream)),
-        document: parse_siz_marker(codestream),
+        told: Told::by_or_panic(panics, || (run.original)(codestream)),
+        document,
     };
     case.judge(&mut run.tally, || hex(codestream));
 }

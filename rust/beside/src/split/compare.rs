@@ -4,8 +4,8 @@
 use original::markers::split_tile_parts as original;
 
 use super::cases::payloads;
-use crate::caught::caught;
-use crate::compare::{Also, Comparison, Run};
+use crate::caught::{caught, PANICKED};
+use crate::compare::{self, Also, Comparison};
 use crate::judge::Told;
 use crate::model::parts::split_tile_parts;
 use crate::model::ACCEPTED;
@@ -16,14 +16,18 @@ use crate::sample::parts;
 use crate::sample::short::each_string;
 use crate::tally::{hex, Tally};
 
-pub const COMPARISON: Comparison = Comparison {
+type Original = fn(&[u8]) -> Vec<&[u8]>;
+type Run = compare::Run<Original>;
+
+pub const COMPARISON: Comparison<Original> = Comparison {
     name: super::NAME,
     minimum: 1_000_000,
-    answers: &["count", "accepted", "refused 17"],
+    answers: &[("count", 70_000), ("accepted", 300_000), ("refused 17", 0)],
     also: &[Also {
         name: "split_at",
-        answers: &["walk", "accepted", "refused 17"],
+        answers: &[("walk", 70_000), ("accepted", 600_000), ("refused 17", 0)],
     }],
+    original,
     run,
 };
 
@@ -40,15 +44,16 @@ fn run(run: &mut Run) {
 
 fn check(run: &mut Run, tile: &[u8]) {
     let document = split_tile_parts(tile);
-    let told = caught(|| original(tile));
+    let told = caught(|| (run.original)(tile));
     by_number(run, tile, told.as_deref(), &document);
     by_position(run, tile, told.as_deref(), &document);
 }
 
 fn by_number(run: &mut Run, tile: &[u8], told: Option<&[&[u8]]>, document: &[&[u8]]) {
-    let ours = Some((probe::split_count(tile), document));
-    let expected = told.map(|told| (told.len() as u64, told));
-    run.tally.compare("count", &ours, &expected, || hex(tile));
+    let ours = (probe::split_count(tile), document);
+    let original = told.map(|told| (told.len() as u64, told));
+    let tally = &mut run.tally;
+    tally.compare_caught("count", &ours, original, || hex(tile));
     let far = far(&mut run.random);
     let count = document.len() as u64;
     for k in (0..=count + 1).chain([far, far << 32]) {
@@ -58,7 +63,7 @@ fn by_number(run: &mut Run, tile: &[u8], told: Option<&[&[u8]]>, document: &[&[u
             split: probe::split_part,
             tile,
             which: k,
-            told: told.map_or(Told::Nothing, |told| Told::Accepted(part(told))),
+            told: told.map_or(Told::Amiss(PANICKED), |told| Told::Accepted(part(told))),
             part: part(document),
         };
         asked.check(&mut run.random, &mut run.tally);
@@ -69,9 +74,9 @@ fn by_number(run: &mut Run, tile: &[u8], told: Option<&[&[u8]]>, document: &[&[u
 fn by_position(run: &mut Run, tile: &[u8], told: Option<&[&[u8]]>, document: &[&[u8]]) {
     let tally = &mut run.also[0];
     let walked = walked(tile);
-    let ours = Some((walked.iter().map(Vec::as_slice).collect(), document));
-    let expected = told.map(|told| (told.to_vec(), told));
-    tally.compare("walk", &ours, &expected, || hex(tile));
+    let ours = (walked.iter().map(Vec::as_slice).collect(), document);
+    let original = told.map(|told| (told.to_vec(), told));
+    tally.compare_caught("walk", &ours, original, || hex(tile));
     let mut positions = vec![0];
     for part in document {
         positions.push(positions[positions.len() - 1] + part.len() as u64);
@@ -89,7 +94,7 @@ fn by_position(run: &mut Run, tile: &[u8], told: Option<&[&[u8]]>, document: &[&
             split: probe::split_at,
             tile,
             which: at,
-            told: Told::by(|| Some(first(original(from)))),
+            told: Told::by(|| Some(first((run.original)(from)))),
             part: first(split_tile_parts(from)),
         };
         asked.check(&mut run.random, tally);

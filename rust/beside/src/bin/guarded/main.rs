@@ -49,9 +49,11 @@ fn main() -> ExitCode {
 }
 
 fn called(function: &Function, least: u64, seed: u64, pools: &mut Pools) -> Tally {
+    // The original has no part in this.
+    let answers: Vec<_> = function.answers.iter().map(|&answer| (answer, 0)).collect();
     let mut calls = Calls {
         random: Random::new(seed),
-        tally: Tally::new(function.name, least, function.answers),
+        tally: Tally::new(function.name, least, &answers),
         pools,
     };
     while !calls.tally.enough() {
