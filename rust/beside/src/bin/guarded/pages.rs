@@ -93,8 +93,11 @@ impl Guarded {
         at
     }
 
-    /// Of the pages that hold `length` bytes.
+    /// Of the pages that hold `length` bytes; of none nothing is asked, which an emulator may refuse.
     fn protect(&mut self, side: Side, length: usize, protection: c_int) {
+        if length == 0 {
+            return;
+        }
         let length = length.next_multiple_of(PAGES);
         let from = self.place(side, length);
         // SAFETY: whole pages of this mapping; `&mut self` says that none of them is lent.
