@@ -1,8 +1,9 @@
 -- A chain of steps. From a position a step ends with an answer or moves on to a later position; the chain is all that is visited on the
 -- way. Header walk, extent, decode header, TLM entries, scan, split, SIZ reading and box chain are chains, each with a step of its own.
-use Prim.Native.Nat.{ℕ, zero, suc, _<_}
+use Prim.Native.Nat.{ℕ, zero, suc, _-_, _<_}
 use mathlib.Core.Path.{_≡_}
 use mathlib.Core.List.{List, [], _∷_}
+use lib.ListN.{take, drop}
 
 -- what a step finds at a position: the end, with an answer, or the position to go on from
 pub data Move (A : Type 0) : Type 0 where
@@ -13,6 +14,10 @@ pub data Move (A : Type 0) : Type 0 where
 pub record Visit : Type 0 where
   pub at : ℕ
   pub next : ℕ
+
+-- the bytes of what was passed
+abbrev pub visited : List ℕ → Visit → List ℕ
+visited s v = take (v .next - v .at) (drop (v .at) s)
 
 -- a chain: the steps that moved on, in order; the position where it ended; the answer there
 pub record Chain (A : Type 0) : Type 0 where

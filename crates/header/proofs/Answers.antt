@@ -9,11 +9,12 @@ use lib.Dec.{leb, eqb}
 use borrow.Author.Tests.{le-leb, lt-leb, eq-eqb, leb-true}
 use Rattle.numbers.specs.Bytes.{be, put}
 use Rattle.numbers.proofs.Laws.{put-start}
+use Rattle.types.specs.Refusals.{refusal}
 use Rattle.types.specs.Row.{rowsOf}
 use Rattle.types.proofs.Laws.{length-rows}
 use Rattle.types.specs.declared.Refusal.{Refusal}
 use Rattle.types.specs.Markers.{SOC, SIZ}
-use Rattle.header.specs.Tlm.{refusal, placed}
+use Rattle.header.specs.Tlm.{placed}
 use Rattle.header.specs.Walk.{WalkEnd, firstSot, refused, walkFrom}
 use Rattle.header.specs.Strip.{decodeHeader, tlmEntries}
 use Rattle.header.specs.Parse.{readAs, stands, judged, withRoom, parsed, tlmTable, tableAfter, outAfter}

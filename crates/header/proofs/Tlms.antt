@@ -5,8 +5,9 @@ use mathlib.Core.Path.{_≡_, refl, sym, ap, _∙_}
 use mathlib.Core.List.{List, [], _∷_, _++_}
 use lib.ListN.{length}
 use borrow.Author.Tests.{eq-eqb, ne-eqb, le-leb, lt-leb}
+use Rattle.types.specs.Refusals.{refusal}
 use Rattle.types.specs.declared.TilePartEntry.{TilePartEntry}
-use Rattle.header.specs.Tlm.{ltlm, stlm, indexSize, entryCount, refusal, tlmAt, Entry, entriesIn, recordOf, placed, total}
+use Rattle.header.specs.Tlm.{ltlm, stlm, indexSize, entryCount, tlmAt, Entry, entriesIn, recordOf, placed, total}
 use Rattle.header.specs.declared.tlm.Tlm.the-variants.{Entries, Refused}
 
 module _ (s : List ℕ) (at : ℕ) where

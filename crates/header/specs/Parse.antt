@@ -5,11 +5,12 @@ use mathlib.Core.List.{List, _++_}
 use lib.ListN.{length, drop}
 use lib.Dec.{leb, eqb}
 use Rattle.numbers.specs.Bytes.{be}
+use Rattle.types.specs.Refusals.{refusal}
 use Rattle.types.specs.Markers.{SOC, SIZ}
 use Rattle.types.specs.Row.{rowsOf}
 use Rattle.types.specs.declared.TilePartEntry.{TilePartEntry}
 use Rattle.chain.specs.Chain.{Chain}
-use Rattle.header.specs.Tlm.{refusal, placed}
+use Rattle.header.specs.Tlm.{placed}
 use Rattle.header.specs.Walk.{WalkEnd, firstSot, refused, walkFrom}
 use Rattle.header.specs.Strip.{decodeHeader, tlmEntries}
 use Rattle.header.specs.declared.parse.MainHeader.{MainHeader}

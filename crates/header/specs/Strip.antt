@@ -3,20 +3,16 @@
 use Prim.Native.Nat.{ℕ, _+_, _-_}
 use mathlib.Core.Bool.{Bool, cond}
 use mathlib.Core.List.{List, [], _∷_, _++_}
-use lib.ListN.{take, drop}
+use lib.ListN.{take}
 use lib.Dec.{eqb}
 use Rattle.numbers.specs.Bytes.{be}
 use Rattle.types.specs.Markers.{TLM}
-use Rattle.chain.specs.Chain.{Visit}
+use Rattle.chain.specs.Chain.{Visit, visited}
 use Rattle.header.specs.Tlm.{Entry, entryCount, entriesIn}
 
 -- a TLM segment was passed. (No delimiter has its low byte.)
 abbrev pub isTlm : List ℕ → Visit → Bool
 isTlm s v = eqb (be 2 s (v .at)) TLM
-
--- the bytes of what was passed
-abbrev pub visited : List ℕ → Visit → List ℕ
-visited s v = take (v .next - v .at) (drop (v .at) s)
 
 -- all that was passed but the TLM segments
 unfoldable pub kept : List ℕ → List Visit → List ℕ

@@ -5,8 +5,8 @@ use mathlib.Core.List.{List, [], _∷_}
 use lib.ListN.{length, getD}
 use lib.Dec.{leb, eqb}
 use Rattle.numbers.specs.Bytes.{be}
+use Rattle.types.specs.Refusals.{refusal}
 use Rattle.types.specs.declared.TilePartEntry.{TilePartEntry}
-use Rattle.types.specs.declared.Refusal.{Refusal}
 use Rattle.header.specs.Step.{segmentEnd}
 use Rattle.header.specs.declared.tlm.Tlm.{Tlm}
 use Rattle.header.specs.declared.tlm.Tlm.the-variants.{Entries, Refused}
@@ -32,9 +32,6 @@ entrySize stlm = indexSize stlm + lengthSize stlm
 -- the whole entries of a segment; a partial one at the end is ignored
 unfoldable pub entryCount : List ℕ → ℕ → ℕ
 entryCount s at = (ltlm s at - 4) / entrySize (stlm s at)
-
-abbrev pub refusal : ℕ → ℕ → Refusal
-refusal number place = record { number = number; place = place }
 
 -- 4, then 5, otherwise the segment's whole entries
 unfoldable pub tlmAt : List ℕ → ℕ → Tlm

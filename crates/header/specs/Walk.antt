@@ -6,11 +6,12 @@ use mathlib.Core.List.{List}
 use lib.ListN.{length}
 use lib.Dec.{leb, eqb}
 use Rattle.numbers.specs.Bytes.{be}
+use Rattle.types.specs.Refusals.{refusal}
 use Rattle.types.specs.Markers.{TLM}
 use Rattle.types.specs.declared.Refusal.{Refusal}
 use Rattle.chain.specs.Chain.{Move, end, on, Chain, chain}
 use Rattle.header.specs.Step.{stepAt}
-use Rattle.header.specs.Tlm.{refusal, tlmAt, Within}
+use Rattle.header.specs.Tlm.{tlmAt, Within}
 use Rattle.header.specs.declared.step.HeaderStep.{HeaderStep}
 use Rattle.header.specs.declared.step.HeaderStep.the-variants.{Sot, Delimiter, Segment, CutShort}
 use Rattle.header.specs.declared.tlm.Tlm.{Tlm}

@@ -5,6 +5,7 @@ use native.Mathlib.Omega.{arith}
 use mathlib.Core.Path.{_≡_, refl, sym, _∙_}
 use mathlib.Core.List.{List, [], _∷_, _++_}
 use lib.ListN.{length, take, replicate}
+use Rattle.types.specs.Refusals.{refusal}
 use Rattle.types.specs.Row.{rowOf, rowsOf}
 use Rattle.types.specs.declared.TilePartEntry.{TilePartEntry}
 use Rattle.header.specs.Extent.{extentOf}
@@ -28,11 +29,8 @@ use Rattle.reader.specs.declared.search.Found.the-variants.{Codestream}
 use Rattle.reader.proofs.Regions.{region-pow, whole-suffices, truncated-not, grown-end, grown-on}
 use Rattle.laws.proofs.Computing.{samples, extents, walks, scan-runs, split-runs, tiles, searches, siz-readings}
 use Rattle.laws.specs.Sample.{zeros, header, tlm, sot, part, head, withTlm, A, signature, jp2c}
-use Rattle.header.specs.Tlm as tlms
 use Rattle.header.specs.declared.parse.MainHeader.the-variants as parse
-use Rattle.parts.specs.Scan as scan
 use Rattle.parts.specs.declared.scan.Scanned.the-variants as scans
-use Rattle.tile.specs.Rewrite as rewrite
 use Rattle.tile.specs.declared.rewrite.Written.the-variants as writes
 use Rattle.reader.specs.Siz as siz-reading
 
@@ -108,14 +106,14 @@ tile-0-assembled = refl
 
 -- ---- * A, tile 6: y0 is 8, past 6: refusal 10.
 
-pub tile-6 : rewriteAnswer head 6 45 ≡ writes.Refused (rewrite.refusal 10 2)
+pub tile-6 : rewriteAnswer head 6 45 ≡ writes.Refused (refusal 10 2)
 unfolding tiles
 tile-6 = refl
 
 -- ---- * Ltlm 3: refusal 4. Ltlm 4: no entries.
 
 -- no Stlm
-pub ltlm-3 : judged (withTlm (0xff ∷ 0x55 ∷ 0 ∷ 3 ∷ 0 ∷ [])) ≡ parse.Refused (tlms.refusal 4 45)
+pub ltlm-3 : judged (withTlm (0xff ∷ 0x55 ∷ 0 ∷ 3 ∷ 0 ∷ [])) ≡ parse.Refused (refusal 4 45)
 unfolding walks
 ltlm-3 = refl
 
@@ -148,7 +146,7 @@ pub psot-rest : scanned (part 0 14 []) 0 1 ≡ Table 1
 unfolding scan-runs
 psot-rest = refl
 
-pub psot-past : scanned (part 0 15 []) 0 1 ≡ scans.Refused (scan.refusal 9 0)
+pub psot-past : scanned (part 0 15 []) 0 1 ≡ scans.Refused (refusal 9 0)
 unfolding scan-runs
 psot-past = refl
 
@@ -162,13 +160,13 @@ pub psot-5-entry : entriesFrom (sot 0 5 ++ zeros 10) 0 ≡ entry 0 0 5 ∷ []
 unfolding scan-runs
 psot-5-entry = refl
 
-pub psot-5-short : scanned (sot 0 5) 0 1 ≡ scans.Refused (scan.refusal 7 5)
+pub psot-5-short : scanned (sot 0 5) 0 1 ≡ scans.Refused (refusal 7 5)
 unfolding scan-runs
 psot-5-short = refl
 
 -- ---- * One byte after the last part: 7. Twelve zero bytes after it: accepted.
 
-pub one-after : scanned (part 0 14 [] ++ zeros 1) 0 1 ≡ scans.Refused (scan.refusal 7 14)
+pub one-after : scanned (part 0 14 [] ++ zeros 1) 0 1 ≡ scans.Refused (refusal 7 14)
 unfolding scan-runs
 one-after = refl
 
@@ -227,12 +225,12 @@ pub row-written : scannedTable (part 0 14 []) 0 (replicate 19 7) ≡ rowOf (entr
 unfolding scan-runs
 row-written = refl
 
-pub no-row : scanned (part 0 14 []) 0 0 ≡ scans.Refused (scan.refusal 18 1)
+pub no-row : scanned (part 0 14 []) 0 0 ≡ scans.Refused (refusal 18 1)
 unfolding scan-runs
 no-row = refl
 
 -- one byte less than the assembly needs: 17
-pub no-room : assemblyAnswer head (lent 5) A 62 ≡ writes.Refused (rewrite.refusal 17 63)
+pub no-room : assemblyAnswer head (lent 5) A 62 ≡ writes.Refused (refusal 17 63)
 unfolding scan-runs tiles
 no-room = refl
 

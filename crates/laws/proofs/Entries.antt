@@ -9,13 +9,14 @@ use lib.ListN.{length, take, drop}
 use lib.Dec.{eqb}
 use borrow.Author.Tests.{eqb-true, eqb-false}
 use Rattle.numbers.proofs.Laws.{be-bound}
+use Rattle.types.specs.Refusals.{refusal}
 use Rattle.types.specs.Row.{rowsOf}
 use Rattle.types.proofs.Laws.{Fits}
 use Rattle.types.specs.declared.TilePartEntry.{TilePartEntry}
 use Rattle.chain.specs.Chain.{on, Visit, Run, stay, step}
 use Rattle.chain.proofs.Laws.{chain-run, end-on}
 use Rattle.parts.specs.Sot.{lsot, isot}
-use Rattle.parts.specs.Scan.{refusal, ended, refused, moveOf, moveAt, scanFrom, visited, entriesFrom}
+use Rattle.parts.specs.Scan.{ended, refused, moveOf, moveAt, scanFrom, recorded, entriesFrom}
 use Rattle.parts.specs.Tiles.{ofTile, bytesAt}
 use Rattle.numbers.proofs.Choice.{by-test}
 use Rattle.parts.proofs.Scans.{Stands, move-passed, rises, sot-lsot, sot-no-eoc, step-sot}
@@ -47,7 +48,7 @@ passed-lsot s at next found = by (eqb (lsot s at) 10) refl
         absurd (end-on {a = refused (refusal 8 at)} (sym (ap moveOf eight) ∙ found))
 
 one-more : (s : List ℕ) (tile at : ℕ) {next : ℕ} (visits : List Visit) → moveAt s at ≡ on next
-    → All (OfTile s tile) (ofTile tile (map (visited s) visits)) → All (OfTile s tile) (ofTile tile (map (visited s) (record { at = at; next = next } ∷ visits)))
+    → All (OfTile s tile) (ofTile tile (map (recorded s) visits)) → All (OfTile s tile) (ofTile tile (map (recorded s) (record { at = at; next = next } ∷ visits)))
 unfolding ofTile
 one-more s tile at {next} visits found rest =
     by-test (All (OfTile s tile)) (eqb (isot s at) tile)
@@ -55,7 +56,7 @@ one-more s tile at {next} visits found rest =
     (λ _. rest)
 
 run-entries : (s : List ℕ) (tile : ℕ) {at stop : ℕ} {visits : List Visit} → Run (moveAt s) at visits stop
-    → All (OfTile s tile) (ofTile tile (map (visited s) visits))
+    → All (OfTile s tile) (ofTile tile (map (recorded s) visits))
 unfolding ofTile
 run-entries s tile stay = none
 run-entries s tile (step {at = at} {rest = visits} found past rest) = one-more s tile at visits found (run-entries s tile rest)

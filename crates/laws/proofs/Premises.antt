@@ -8,6 +8,7 @@ use mathlib.Core.List.{List, [], _∷_, _++_}
 use lib.ListN.{length}
 use lib.Dec.{ltb}
 use borrow.Author.Tests.{ltb-true}
+use Rattle.types.specs.Refusals.{refusal}
 use Rattle.types.specs.Markers.{SOC, SIZ}
 use Rattle.types.specs.Row.{rowsOf}
 use Rattle.types.specs.declared.Refusal.{Refusal}
@@ -27,7 +28,6 @@ use Rattle.laws.specs.Demand3.{AllBytes, Accepted, NoPsot0, decodeHeader
 use Rattle.laws.proofs.Computing.{walks, scan-runs, split-runs, tiles}
 use Rattle.laws.proofs.Demand3.{demand-3}
 use Rattle.header.specs.Parse as parse
-use Rattle.header.specs.Tlm as tlm
 use Rattle.header.specs.declared.parse.MainHeader.the-variants as main
 use Rattle.parts.specs.Scan as scan
 use Rattle.parts.specs.declared.scan.Scanned.the-variants as scans
@@ -140,7 +140,7 @@ pub shorter-taken : Taken (least (sot 0xffd9 4)) 42 (entry 0xffd9 42 4 ∷ []) 0
 unfolding computed
 shorter-taken = (refl, refl, refl, refl)
 
-pub shorter-scan : scan.judged (scanFrom (assembledOf (least (sot 0xffd9 4)) (entry 0xffd9 42 4 ∷ [])) 42) ≡ scans.Refused (scan.refusal 7 42)
+pub shorter-scan : scan.judged (scanFrom (assembledOf (least (sot 0xffd9 4)) (entry 0xffd9 42 4 ∷ [])) 42) ≡ scans.Refused (refusal 7 42)
 unfolding computed
 shorter-scan = refl
 
@@ -151,7 +151,7 @@ pub none-taken : Taken (least (sot 0 12)) 42 (entry 0 42 12 ∷ []) 1 Whole
 unfolding computed
 none-taken = (refl, refl, refl, refl)
 
-pub none-walk : parse.judged (assembledOf (least (sot 0 12)) (ofTile 1 (entriesFrom (least (sot 0 12)) 42))) ≡ main.Refused (tlm.refusal 3 42)
+pub none-walk : parse.judged (assembledOf (least (sot 0 12)) (ofTile 1 (entriesFrom (least (sot 0 12)) 42))) ≡ main.Refused (refusal 3 42)
 unfolding computed
 none-walk = refl
 
@@ -173,7 +173,7 @@ pub lsiz-34-taken : Taken (begun 34 1 1 0xff92 ++ sot 0 12) 40 (entry 0 40 12 �
 unfolding computed
 lsiz-34-taken = (refl, refl, refl, refl)
 
-pub lsiz-34-walk : parse.judged (assembledOf (begun 34 1 1 0xff92 ++ sot 0 12) (entry 0 40 12 ∷ [])) ≡ main.Refused (tlm.refusal 3 38)
+pub lsiz-34-walk : parse.judged (assembledOf (begun 34 1 1 0xff92 ++ sot 0 12) (entry 0 40 12 ∷ [])) ≡ main.Refused (refusal 3 38)
 unfolding computed
 lsiz-34-walk = refl
 
@@ -184,18 +184,18 @@ pub refused-taken : Taken (begun 38 0 0 0 ++ two 0 ++ sot 0 12) 42 (entry 0 42 1
 unfolding computed
 refused-taken = (refl, refl, refl, refl)
 
-pub refused-answer : assemblyAnswer (begun 38 0 0 0 ++ two 0) (rowsOf (entry 0 42 12 ∷ [])) (begun 38 0 0 0 ++ two 0 ++ sot 0 12) 56 ≡ writes.Refused (rewrite.refusal 10 2)
+pub refused-answer : assemblyAnswer (begun 38 0 0 0 ++ two 0) (rowsOf (entry 0 42 12 ∷ [])) (begun 38 0 0 0 ++ two 0 ++ sot 0 12) 56 ≡ writes.Refused (refusal 10 2)
 unfolding computed
 refused-answer = refl
 
 -- ---- room
 
-pub room-answer : assemblyAnswer (least []) (rowsOf (entry 0 42 12 ∷ [])) (least (sot 0 12)) 55 ≡ writes.Refused (rewrite.refusal 17 56)
+pub room-answer : assemblyAnswer (least []) (rowsOf (entry 0 42 12 ∷ [])) (least (sot 0 12)) 55 ≡ writes.Refused (refusal 17 56)
 unfolding computed
 room-answer = refl
 
 -- ---- at most 2^32-1 bytes
 
 -- EOC makes what is assembled up to 2 bytes longer than the codestream: with no TLM and one part to the end, 2^32-2 bytes are enough
-pub long-walk : (s : List ℕ) (es : List TilePartEntry) → 0xffff_ffff < length (assembledOf s es) → parse.judged (assembledOf s es) ≡ main.Refused (tlm.refusal 19 0)
+pub long-walk : (s : List ℕ) (es : List TilePartEntry) → 0xffff_ffff < length (assembledOf s es) → parse.judged (assembledOf s es) ≡ main.Refused (refusal 19 0)
 long-walk s es h = judged-long (assembledOf s es) h

@@ -8,11 +8,12 @@ use lib.ListN.{length, drop, length-map}
 use lib.Dec.{leb}
 use borrow.Author.Tests.{le-leb, lt-leb, leb-true}
 use Rattle.numbers.specs.Bytes.{put}
+use Rattle.types.specs.Refusals.{refusal}
 use Rattle.types.specs.Row.{rowsOf}
 use Rattle.types.proofs.Laws.{length-rows}
 use Rattle.types.specs.declared.Refusal.{Refusal}
 use Rattle.types.specs.declared.TilePartEntry.{TilePartEntry}
-use Rattle.parts.specs.Scan.{refusal, ScanEnd, ended, refused, scanFrom, visited, entriesFrom, endedAs, judged, withRoom, scanned, written, scannedTable}
+use Rattle.parts.specs.Scan.{ScanEnd, ended, refused, scanFrom, recorded, entriesFrom, endedAs, judged, withRoom, scanned, written, scannedTable}
 use Rattle.parts.specs.declared.scan.Scanned.{Scanned}
 use Rattle.parts.specs.declared.scan.Scanned.the-variants.{Table, Refused}
 use Rattle.parts.proofs.Scans.{step-outside, scan-ended, entries-ended, Scans}
@@ -34,7 +35,7 @@ pub judged-table : (s : List ℕ) (start n : ℕ) → judged (scanFrom s start) 
 unfolding judged entriesFrom
 judged-table s start n e =
     let c = ended-count (scanFrom s start .ended) (length (scanFrom s start .visits)) n e in
-    (c .0, length-map (scanFrom s start .visits) (visited s) ∙ c .1)
+    (c .0, length-map (scanFrom s start .visits) (recorded s) ∙ c .1)
 
 module _ (s : List ℕ) (start rows : ℕ) where
   pub answer-refused : (r : Refusal) → judged (scanFrom s start) ≡ Refused r → scanned s start rows ≡ Refused r
@@ -61,7 +62,7 @@ module _ (s : List ℕ) (start rows : ℕ) where
 pub scans-judged : {s : List ℕ} {start : ℕ} {es : List TilePartEntry} (n : ℕ) → Scans s start es → length es ≡ n → judged (scanFrom s start) ≡ Table n
 unfolding judged endedAs entriesFrom
 scans-judged {s} {start} n h count =
-    let visits : length (scanFrom s start .visits) ≡ n = sym (length-map (scanFrom s start .visits) (visited s)) ∙ ap length (h .entries) ∙ count in
+    let visits : length (scanFrom s start .visits) ≡ n = sym (length-map (scanFrom s start .visits) (recorded s)) ∙ ap length (h .entries) ∙ count in
     ap₂ endedAs (h .stops) visits
 
 pub scans-accepted : {s : List ℕ} {start : ℕ} {es : List TilePartEntry} (n rows : ℕ) → Scans s start es → length es ≡ n → n ≤ rows

@@ -15,7 +15,7 @@ use Rattle.types.specs.declared.TilePartEntry.{TilePartEntry}
 use Rattle.chain.specs.Chain.{on, Visit, Run, stay, step}
 use Rattle.chain.proofs.Laws.{chain-run}
 use Rattle.parts.specs.Sot.{psot}
-use Rattle.parts.specs.Scan.{ended, moveAt, visited, scanFrom, entriesFrom}
+use Rattle.parts.specs.Scan.{ended, moveAt, recorded, scanFrom, entriesFrom}
 use Rattle.parts.specs.Split.{splitStepAt, partsFrom, partsOf}
 use Rattle.parts.specs.declared.split.SplitStep.the-variants.{Part}
 use Rattle.parts.specs.Tiles.{ofTile, bytesAt, joined, AllLong}
@@ -39,17 +39,17 @@ at-end s e stay = refl
 at-end s e (step {at = at} {next = next} found past rest) = let p = move-passed s at next found in absurd (omega arith)
 
 one-more : (s : List ℕ) (t at : ℕ) {next stop : ℕ} {visits : List Visit} → moveAt s at ≡ on next → Run (moveAt s) next visits stop
-    → Parts s (ofTile t (map (visited s) visits)) → Parts s (ofTile t (map (visited s) (record { at = at; next = next } ∷ visits)))
+    → Parts s (ofTile t (map (recorded s) visits)) → Parts s (ofTile t (map (recorded s) (record { at = at; next = next } ∷ visits)))
 unfolding ofTile Ends
 one-more s t at {next} {stop} {visits} found rest parts =
     let p = move-passed s at next found in
-    let e : TilePartEntry = visited s (record { at = at; next = next }) in
-    let tail : List TilePartEntry = ofTile t (map (visited s) visits) in
-    let gone : next ≡ lib.ListN.length s → tail ≡ [] = λ h. ap (λ (vs : List Visit). ofTile t (map (visited s) vs)) (at-end s h rest) in
+    let e : TilePartEntry = recorded s (record { at = at; next = next }) in
+    let tail : List TilePartEntry = ofTile t (map (recorded s) visits) in
+    let gone : next ≡ lib.ListN.length s → tail ≡ [] = λ h. ap (λ (vs : List Visit). ofTile t (map (recorded s) vs)) (at-end s h rest) in
     let ends : Ends s e tail = ⊎-elim (λ l. inl l) (λ z. inr (z .0, gone (omega (arith, z .1)))) (p .stands .long) in
     by-test (Parts s) (eqb (e .«tile_index») t) (λ _. more (p .stands) ends parts) (λ _. parts)
 
-run-parts : (s : List ℕ) (t : ℕ) {at stop : ℕ} {visits : List Visit} → Run (moveAt s) at visits stop → Parts s (ofTile t (map (visited s) visits))
+run-parts : (s : List ℕ) (t : ℕ) {at stop : ℕ} {visits : List Visit} → Run (moveAt s) at visits stop → Parts s (ofTile t (map (recorded s) visits))
 unfolding ofTile
 run-parts s t stay = none
 run-parts s t (step {at = at} found past rest) = one-more s t at found rest (run-parts s t rest)

@@ -10,13 +10,14 @@ use lib.ListN.{length}
 use lib.Dec.{leb, eqb}
 use borrow.Author.Tests.{le-leb, lt-leb, eq-eqb, ne-eqb, leb-true, eqb-true, eqb-false}
 use Rattle.numbers.specs.Bytes.{be}
+use Rattle.types.specs.Refusals.{refusal}
 use Rattle.types.specs.Markers.{SOT, EOC}
 use Rattle.types.specs.declared.Refusal.{Refusal}
 use Rattle.types.specs.declared.TilePartEntry.{TilePartEntry}
 use Rattle.chain.specs.Chain.{on, Chain, Rises, also}
 use Rattle.chain.proofs.Laws.{chain-end, chain-on}
 use Rattle.parts.specs.Sot.{lsot, psot}
-use Rattle.parts.specs.Scan.{refusal, entryOf, partAt, eocAt, sotStepAt, scanStepAt, ScanEnd, ended, refused, moveOf, moveAt, scanFrom, visited, entriesFrom}
+use Rattle.parts.specs.Scan.{entryOf, partAt, eocAt, sotStepAt, scanStepAt, ScanEnd, ended, refused, moveOf, moveAt, scanFrom, recorded, entriesFrom}
 use Rattle.parts.specs.declared.scan.ScanStep.{ScanStep}
 use Rattle.parts.specs.declared.scan.ScanStep.the-variants.{Part, Ended, Refused}
 use Rattle.numbers.proofs.Choice.{by-test}
@@ -168,18 +169,18 @@ scan-part s at e found = chain-on ended (moveAt s) (length s) (rises s) at (at +
 
 pub entries-ended : (s : List ℕ) (at : ℕ) → scanStepAt s at ≡ Ended → entriesFrom s at ≡ []
 unfolding entriesFrom
-entries-ended s at e = ap (λ (c : Chain ScanEnd). map (visited s) (c .visits)) (scan-ended s at e)
+entries-ended s at e = ap (λ (c : Chain ScanEnd). map (recorded s) (c .visits)) (scan-ended s at e)
 
 pub entries-refused : (s : List ℕ) (at : ℕ) (r : Refusal) → scanStepAt s at ≡ Refused r → entriesFrom s at ≡ []
 unfolding entriesFrom
-entries-refused s at r e = ap (λ (c : Chain ScanEnd). map (visited s) (c .visits)) (scan-refused s at r e)
+entries-refused s at r e = ap (λ (c : Chain ScanEnd). map (recorded s) (c .visits)) (scan-refused s at r e)
 
 pub entries-part : (s : List ℕ) (at : ℕ) (e : TilePartEntry) → scanStepAt s at ≡ Part e → entriesFrom s at ≡ e ∷ entriesFrom s (at + e .length)
 unfolding entriesFrom also
 entries-part s at e found =
-    let rest : List TilePartEntry = map (visited s) (scanFrom s (at + e .length) .visits) in
+    let rest : List TilePartEntry = map (recorded s) (scanFrom s (at + e .length) .visits) in
     let same : entryOf s at (at + e .length - at) ≡ e = ap (entryOf s at) (omega arith) ∙ sym (part-stands s at e found .entry) in
-    ap (λ (c : Chain ScanEnd). map (visited s) (c .visits)) (scan-part s at e found) ∙ ap (λ (x : TilePartEntry). x ∷ rest) same
+    ap (λ (c : Chain ScanEnd). map (recorded s) (c .visits)) (scan-part s at e found) ∙ ap (λ (x : TilePartEntry). x ∷ rest) same
 
 -- ---- a scan that is not refused, and its records
 

@@ -10,10 +10,10 @@ use lib.Dec.{leb, eqb}
 use borrow.Author.Tests.{le-leb, lt-leb, eq-eqb, ne-eqb, leb-true, eqb-false}
 use Rattle.numbers.specs.Bytes.{be}
 use Rattle.types.specs.Markers.{SOT}
-use Rattle.chain.specs.Chain.{on, Visit, Chain, Rises, also, Run, stay, step}
+use Rattle.chain.specs.Chain.{on, Visit, Chain, Rises, also, Run, stay, step, visited}
 use Rattle.chain.proofs.Laws.{chain-end, chain-on, chain-run}
 use Rattle.parts.specs.Sot.{psot}
-use Rattle.parts.specs.Split.{partEnd, splitStepAt, SplitEnd, ended, moveOf, moveAt, splitFrom, visited, partsFrom, partsOf, found, standing}
+use Rattle.parts.specs.Split.{partEnd, splitStepAt, SplitEnd, ended, moveOf, moveAt, splitFrom, partsFrom, partsOf, found, standing}
 use Rattle.parts.specs.declared.split.SplitStep.{SplitStep}
 use Rattle.parts.specs.declared.split.SplitStep.the-variants.{Part, Ended}
 use Rattle.numbers.proofs.Choice.{by-test}

@@ -5,6 +5,7 @@ use mathlib.Core.List.{List, _++_, map}
 use lib.ListN.{length, drop}
 use lib.Dec.{leb, eqb}
 use Rattle.numbers.specs.Bytes.{be}
+use Rattle.types.specs.Refusals.{refusal}
 use Rattle.types.specs.Markers.{SOT, EOC}
 use Rattle.types.specs.Row.{rowsOf}
 use Rattle.types.specs.declared.Refusal.{Refusal}
@@ -15,9 +16,6 @@ use Rattle.parts.specs.declared.scan.ScanStep.{ScanStep}
 use Rattle.parts.specs.declared.scan.Scanned.{Scanned}
 use Rattle.parts.specs.declared.scan.ScanStep.the-variants as step
 use Rattle.parts.specs.declared.scan.Scanned.the-variants as answer
-
-abbrev pub refusal : ℕ → ℕ → Refusal
-refusal number place = record { number = number; place = place }
 
 -- the record of a tile-part of n bytes
 abbrev pub entryOf : List ℕ → ℕ → ℕ → TilePartEntry
@@ -68,11 +66,11 @@ unfoldable pub scanFrom : List ℕ → ℕ → Chain ScanEnd
 scanFrom s at = chain ended (moveAt s) (length s) at
 
 -- its records: one for each tile-part passed
-abbrev pub visited : List ℕ → Visit → TilePartEntry
-visited s v = entryOf s (v .at) (v .next - v .at)
+abbrev pub recorded : List ℕ → Visit → TilePartEntry
+recorded s v = entryOf s (v .at) (v .next - v .at)
 
 unfoldable pub entriesFrom : List ℕ → ℕ → List TilePartEntry
-entriesFrom s at = map (visited s) (scanFrom s at .visits)
+entriesFrom s at = map (recorded s) (scanFrom s at .visits)
 
 -- a scan's answer for each way that it ends after so many records
 unfoldable pub endedAs : ScanEnd → ℕ → Scanned

@@ -6,7 +6,7 @@ use lib.ListN.{length, take, drop}
 use lib.Dec.{leb, eqb}
 use Rattle.numbers.specs.Bytes.{be}
 use Rattle.types.specs.Markers.{SOT}
-use Rattle.chain.specs.Chain.{Move, end, on, Visit, Chain, chain}
+use Rattle.chain.specs.Chain.{Move, end, on, visited, Chain, chain}
 use Rattle.parts.specs.Sot.{psot}
 use Rattle.parts.specs.declared.split.SplitStep.{SplitStep}
 use Rattle.parts.specs.declared.split.SplitStep.the-variants.{Part, Ended}
@@ -34,9 +34,6 @@ unfoldable pub splitFrom : List ℕ → ℕ → Chain SplitEnd
 splitFrom s at = chain ended (moveAt s) (length s) at
 
 -- the bytes of each part from a position on
-abbrev pub visited : List ℕ → Visit → List ℕ
-visited s v = take (v .next - v .at) (drop (v .at) s)
-
 unfoldable pub partsFrom : List ℕ → ℕ → List (List ℕ)
 partsFrom s at = map (visited s) (splitFrom s at .visits)
 

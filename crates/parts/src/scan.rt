@@ -11,7 +11,12 @@ use types::ROW;
 use types::Refusal;
 use types::TilePartEntry;
 use types::markers::EOC;
+use types::markers::ISOT;
+use types::markers::LSOT;
+use types::markers::LSOT_VALUE;
+use types::markers::PSOT;
 use types::markers::SOT;
+use types::markers::SOT_SEGMENT;
 
 // Places are codestream offsets.
 pub enum ScanStep {
@@ -34,12 +39,12 @@ fn at_eoc(codestream: &[u8], at: usize) -> bool
     2 <= codestream.len() - at && numbers::read_u16(codestream, at) == EOC
 }
 
-// The record of a tile-part of so many bytes whose SOT stands there: Isot at 4.
+// The record of a tile-part of so many bytes whose SOT stands there.
 fn entry_at(codestream: &[u8], at: usize, bytes: u64) -> TilePartEntry
     requires { ⌜ at + 12 ≤ length (now codestream) ⌝ }
     ensures { λ r. ⌜ r ≡ entryOf (now (codestream .entry)) at bytes ⌝ }
 {
-    let tile_index = numbers::read_u16(codestream, at + 4);
+    let tile_index = numbers::read_u16(codestream, at + ISOT);
     TilePartEntry {
         tile_index,
         offset: CodestreamOffset::at(at),
@@ -47,12 +52,12 @@ fn entry_at(codestream: &[u8], at: usize, bytes: u64) -> TilePartEntry
     }
 }
 
-// The record of the tile-part whose SOT stands there: Psot at 6. Psot 0 is to the codestream's end.
+// The record of the tile-part whose SOT stands there. Psot 0 is to the codestream's end.
 pub fn part_at(codestream: &[u8], at: usize) -> TilePartEntry
     requires { ⌜ at + 12 ≤ length (now codestream) ⌝ }
     ensures { λ r. ⌜ r ≡ partAt (now (codestream .entry)) at ⌝ }
 {
-    let psot = numbers::read_u32(codestream, at + 6) as usize;
+    let psot = numbers::read_u32(codestream, at + PSOT) as usize;
     if psot == 0 {
         let rest = codestream.len() - at;
         return entry_at(codestream, at, rest as u64);
@@ -67,19 +72,19 @@ pub fn next_at(codestream: &[u8], at: usize) -> usize
     requires { ⌜ at + psot (now codestream) at ≤ length (now codestream) ⌝ }
     ensures { λ r. ⌜ r ≡ at + psot (now (codestream .entry)) at ⌝ }
 {
-    at + numbers::read_u32(codestream, at + 6) as usize
+    at + numbers::read_u32(codestream, at + PSOT) as usize
 }
 
-// Lsot stands at 2. A record in each branch, and not the one of part_at: the walk waits for the length, and would for its choice.
+// A record in each branch, and not the one of part_at: the walk waits for the length, and would for its choice.
 fn sot_step(codestream: &[u8], at: usize) -> ScanStep
     requires { ⌜ at + 12 ≤ length (now codestream) ⌝ }
     ensures { λ r. ⌜ r ≡ sotStepAt (now (codestream .entry)) at ⌝ }
 {
     let place = at as u64;
-    if numbers::read_u16(codestream, at + 2) != 10 {
+    if numbers::read_u16(codestream, at + LSOT) != LSOT_VALUE {
         return ScanStep::Refused(Refusal { number: 8, place });
     }
-    let psot = numbers::read_u32(codestream, at + 6) as usize;
+    let psot = numbers::read_u32(codestream, at + PSOT) as usize;
     let rest = codestream.len() - at;
     if psot == 0 {
         return ScanStep::Part(entry_at(codestream, at, rest as u64));
@@ -99,7 +104,7 @@ pub fn scan_step(codestream: &[u8], at: usize) -> ScanStep
     if at_eoc(codestream, at) {
         return ScanStep::Ended;
     }
-    if codestream.len() - at < 12 {
+    if codestream.len() - at < SOT_SEGMENT {
         return ScanStep::Refused(Refusal {
             number: 7,
             place: at as u64,

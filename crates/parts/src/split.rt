@@ -4,7 +4,9 @@ ghost use Prim.Native.Nat.{_≤_};
 ghost use mathlib.Core.List.{[]};
 ghost use lib.ListN.{length, getD};
 ghost use Rattle.parts.specs.Split.{splitStepAt, partsOf, standing};
+use types::markers::PSOT;
 use types::markers::SOT;
+use types::markers::SOT_SEGMENT;
 
 pub enum SplitStep {
     // A part, which ends there.
@@ -17,13 +19,13 @@ pub fn split_step(tile: &[u8], at: usize) -> SplitStep
     ensures { λ r. ⌜ r ≡ splitStepAt (now (tile .entry)) at ⌝ }
 {
     let rest = tile.len() - at;
-    if rest < 12 {
+    if rest < SOT_SEGMENT {
         return SplitStep::Ended;
     }
     if numbers::read_u16(tile, at) != SOT {
         return SplitStep::Ended;
     }
-    let psot = numbers::read_u32(tile, at + 6) as usize;
+    let psot = numbers::read_u32(tile, at + PSOT) as usize;
     if psot == 0 {
         return SplitStep::Part(tile.len());
     }

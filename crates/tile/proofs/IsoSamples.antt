@@ -7,8 +7,9 @@ use mathlib.Core.List.{List, []}
 use Rattle.numbers.specs.Bytes.{be, bytesOf}
 use Rattle.numbers.specs.Ceiling.{ceilDiv}
 use Rattle.numbers.specs.Rows.{bytesOfRows}
+use Rattle.types.specs.Refusals.{refusal}
 use Rattle.types.specs.IsoSiz.{Size, componentRows, sizRows, Ranges, TileRanges}
-use Rattle.tile.specs.Rewrite.{refusal, fitting, less, axisOf, columnsOf, sized, bothAxes, inGrid, sizeIn, tileSize}
+use Rattle.tile.specs.Rewrite.{fitting, less, axisOf, columnsOf, sized, bothAxes, inGrid, sizeIn, tileSize}
 use Rattle.tile.specs.Iso.{numXtiles, numYtiles, columnOf, rowOf, startOf, endOf, widthOf, heightOf, headerOf}
 use Rattle.tile.specs.declared.rewrite.TileSize.the-variants.{Whole, Cut, Refused}
 use Rattle.tile.proofs.Iso.{tile-standard}

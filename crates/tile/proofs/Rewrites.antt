@@ -12,10 +12,11 @@ use denote.Enum.Declared.{tagOf}
 use types.Run.{OneOf}
 use Rattle.numbers.specs.Bytes.{be}
 use Rattle.numbers.specs.Ceiling.{ceilDiv}
+use Rattle.types.specs.Refusals.{refusal}
 use Rattle.types.specs.Markers.{SIZ}
 use Rattle.types.specs.declared.Refusal.{Refusal}
 use Rattle.tile.specs.Siz.{xsiz, ysiz, xosiz, yosiz, xtsiz, ytsiz}
-use Rattle.tile.specs.Rewrite.{refusal, fitting, less, axisOf, columnsOf, sized, outside, bothAxes, inGrid, sizeIn, tileSize, withRoom, judged}
+use Rattle.tile.specs.Rewrite.{fitting, less, axisOf, columnsOf, sized, outside, bothAxes, inGrid, sizeIn, tileSize, withRoom, judged}
 use Rattle.tile.specs.declared.rewrite.Axis.{Axis}
 use Rattle.tile.specs.declared.rewrite.Axis.the-variants.{Extent, Outside}
 use Rattle.tile.specs.declared.rewrite.TileSize.{TileSize}

@@ -6,8 +6,8 @@ use lib.ListN.{length, drop}
 use lib.Dec.{leb, ltb, eqb}
 use Rattle.numbers.specs.Bytes.{be, put}
 use Rattle.numbers.specs.Ceiling.{ceilDiv}
+use Rattle.types.specs.Refusals.{refusal}
 use Rattle.types.specs.Markers.{SIZ}
-use Rattle.types.specs.declared.Refusal.{Refusal}
 use Rattle.tile.specs.Siz.{xsiz, ysiz, xosiz, yosiz, xtsiz, ytsiz, oneTile}
 use Rattle.tile.specs.declared.rewrite.Axis.{Axis}
 use Rattle.tile.specs.declared.rewrite.Axis.the-variants.{Extent, Outside}
@@ -15,9 +15,6 @@ use Rattle.tile.specs.declared.rewrite.TileSize.{TileSize}
 use Rattle.tile.specs.declared.rewrite.TileSize.the-variants as size
 use Rattle.tile.specs.declared.rewrite.Written.{Written}
 use Rattle.tile.specs.declared.rewrite.Written.the-variants as answer
-
-abbrev pub refusal : ℕ → ℕ → Refusal
-refusal number place = record { number = number; place = place }
 
 -- ---- one axis
 

@@ -10,6 +10,7 @@ use crate::rewrite::TileSize;
 use crate::rewrite::Written;
 use types::ROW;
 use types::markers::EOC;
+use types::markers::ISOT;
 use types::markers::SOT;
 
 const MAX: u64 = 0xffff_ffff_ffff_ffff;
@@ -46,12 +47,12 @@ fn is_sot(part: &[u8]) -> bool
     6 <= part.len() && numbers::read_u16(part, 0) == SOT
 }
 
-// The header's change for the tile of a part: Isot stands at 4.
+// The header's change for the tile of a part.
 fn part_size(header: &[u8], part: &[u8]) -> TileSize
     ensures { λ r. ⌜ r ≡ partSize (now (header .entry)) (now (part .entry)) ⌝ }
 {
     if is_sot(part) {
-        return crate::rewrite::tile_size(header, numbers::read_u16(part, 4));
+        return crate::rewrite::tile_size(header, numbers::read_u16(part, ISOT));
     }
     TileSize::Whole
 }
@@ -101,7 +102,7 @@ fn write_part(part: &[u8], out: &mut [u8], at: usize)
 {
     numbers::copy_at(part, out, at);
     if is_sot(part) {
-        numbers::write_u16(out, at + 4, 0);
+        numbers::write_u16(out, at + ISOT, 0);
     }
 }
 

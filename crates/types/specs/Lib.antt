@@ -1,4 +1,5 @@
 pub mod Markers
 pub mod Offsets
 pub mod Row
+pub mod Refusals
 pub mod IsoSiz
