@@ -124,7 +124,7 @@ unfolding restarted numberedOn AllIndexed
 on-indexed k [] a = refl
 on-indexed k (t ∷ more) a = ap₂ _++_ (numbered-indexed (t .ST) 0 k (t .pointers) (a .0)) (on-indexed _ more (a .1))
 
--- Document 01's table is the standard's: for indexed segments in the order of Ztlm, and for a single segment.
+-- Our table is the standard's: for indexed segments in the order of Ztlm, and for a single segment.
 pub restarted-indexed : (ts : List TlmSegment) → InOrder ts → AllIndexed ts → restarted ts ≡ isoTable ts
 unfolding isoTable
 restarted-indexed ts o a = on-indexed 0 ts a ∙ ap (numberedOn 0) (sym (ordered-same ts o))

@@ -1,4 +1,4 @@
--- Whether a prefix of a codestream holds its whole main header (document 01, "Header extent").
+-- Whether a prefix of a codestream holds its whole main header (docs/RULES.md, "Header extent").
 use Prim.Native.Nat.{ℕ}
 use mathlib.Core.Bool.{cond}
 use mathlib.Core.List.{List}

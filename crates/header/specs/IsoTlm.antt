@@ -1,5 +1,5 @@
 -- The length table of ISO/IEC 15444-1, A.7.1: TLM segments as rows of a width and a value; the table that they make, in the order of Ztlm, with
--- entries without an index numbered on from segment to segment. `proofs/StandardTlm.antt` says where document 01's table agrees.
+-- entries without an index numbered on from segment to segment. `proofs/StandardTlm.antt` says where our table agrees.
 use Prim.Native.Nat.{ℕ, _+_, _*_, _^_, _≤_, _<_}
 use mathlib.Core.Path.{_≡_}
 use mathlib.Core.Bool.{false, cond}
@@ -77,9 +77,9 @@ ordered (t ∷ more) = insert t (ordered more)
 unfoldable pub isoTable : List TlmSegment → List Entry
 isoTable ts = numberedOn 0 (ordered ts)
 
--- ---- where document 01 has the same table
+-- ---- where our table is the same
 
--- document 01's: in file order, and numbered from 0 in each segment
+-- ours (docs/RULES.md, "TLM"): in file order, and numbered from 0 in each segment
 unfoldable pub restarted : List TlmSegment → List Entry
 restarted [] = []
 restarted (t ∷ more) = numbered (t .ST) 0 (t .pointers) ++ restarted more

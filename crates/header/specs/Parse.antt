@@ -1,4 +1,4 @@
--- The whole reading of the main header: its answer, and what it leaves in the lent table and output (document 01, refusals 1 to 6 and 17 to 19).
+-- The whole reading of the main header: its answer, and what it leaves in the lent table and output (docs/RULES.md, "Main header").
 use Prim.Native.Nat.{ℕ, _+_, _*_}
 use mathlib.Core.Bool.{Bool, cond, _&&_}
 use mathlib.Core.List.{List, _++_}

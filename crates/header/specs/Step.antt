@@ -1,4 +1,4 @@
--- One step over the main header (document 01, "Header walk"), and the chain of its steps.
+-- One step over the main header (docs/RULES.md, "Header walk"), and the chain of its steps.
 use Prim.Native.Nat.{ℕ, _+_, _%_}
 use mathlib.Core.Bool.{Bool, cond, _||_, _&&_}
 use mathlib.Core.List.{List}

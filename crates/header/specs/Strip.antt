@@ -1,4 +1,4 @@
--- What the walk has visited: the TLM entries, and the decode header, which is the main header without its TLM segments (document 01, "TLM" and
+-- What the walk has visited: the TLM entries, and the decode header, which is the main header without its TLM segments (docs/RULES.md, "TLM" and
 -- "Decode header").
 use Prim.Native.Nat.{ℕ, _+_, _-_}
 use mathlib.Core.Bool.{Bool, cond}

@@ -1,4 +1,4 @@
--- The TLM segment (document 01, "TLM"): its fields by the position of its marker, what is refused, its entries, and the records of entries.
+-- The TLM segment (docs/RULES.md, "TLM"): its fields by the position of its marker, what is refused, its entries, and the records of entries.
 use Prim.Native.Nat.{ℕ, zero, suc, _+_, _-_, _*_, _/_, _%_, _≤_, _<_}
 use mathlib.Core.Bool.{cond}
 use mathlib.Core.List.{List, [], _∷_}

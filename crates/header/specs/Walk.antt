@@ -1,4 +1,4 @@
--- The walk over the main header (document 01, "Header walk"): the chain of its steps, with what each passes or refuses.
+-- The walk over the main header (docs/RULES.md, "Header walk"): the chain of its steps, with what each passes or refuses.
 use Prim.Native.Nat.{ℕ, _+_, _≤_}
 use mathlib.Core.Path.{_≡_}
 use mathlib.Core.Bool.{true, false, cond}

@@ -1,4 +1,4 @@
-// Whether a prefix of a codestream holds the whole main header (document 01, "Header extent"). It never refuses.
+// Whether a prefix of a codestream holds the whole main header (docs/RULES.md, "Header extent"). It never refuses.
 ghost use mathlib.Core.Path.{_≡_};
 ghost use Rattle.header.specs.Extent.{extentOf};
 use crate::step::HeaderStep;

@@ -1,4 +1,4 @@
-// One step over the main header: what stands at a position (document 01, "Header walk").
+// One step over the main header: what stands at a position (docs/RULES.md, "Header walk").
 ghost use mathlib.Core.Path.{_≡_};
 ghost use Prim.Native.Nat.{_≤_};
 ghost use lib.ListN.{length};

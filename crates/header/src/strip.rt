@@ -1,4 +1,4 @@
-// The decode header (document 01, "Decode header"): the main header without its TLM segments, copied run by run.
+// The decode header (docs/RULES.md, "Decode header"): the main header without its TLM segments, copied run by run.
 ghost use mathlib.Core.Path.{_≡_};
 ghost use Prim.Native.Nat.{_+_, _-_, _≤_};
 ghost use lib.ListN.{length, take, drop};

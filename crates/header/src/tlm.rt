@@ -1,4 +1,4 @@
-// One TLM segment (document 01, "TLM"), given by the position of its marker: how many entries it holds, or why it is
+// One TLM segment (docs/RULES.md, "TLM"), given by the position of its marker: how many entries it holds, or why it is
 // refused, and its entries as rows of a lent table.
 ghost use mathlib.Core.Path.{_≡_};
 ghost use mathlib.Core.Bool.{cond};

@@ -1,4 +1,4 @@
-// One step of the header walk (document 01, "Header walk"): what is passed, the first SOT, or why the walk is refused.
+// One step of the header walk (docs/RULES.md, "Header walk"): what is passed, the first SOT, or why the walk is refused.
 ghost use mathlib.Core.Path.{_≡_};
 ghost use Prim.Native.Nat.{_≤_};
 ghost use lib.ListN.{length};

@@ -1,5 +1,5 @@
--- The starred edges of document 01, "Both sides of each edge": its lines, in its order, each as a comment over its theorems. All but the last, which
--- is of every codestream of a length, are computed.
+-- The starred edges (docs/RULES.md, "Edges"), in the order there, each as a comment over its theorems; and the last one, which has no star. All but
+-- that, which is of every codestream of a length, are computed.
 use Prim.Native.Nat.{ℕ, _≤_}
 use native.Mathlib.Omega.{arith}
 use mathlib.Core.Path.{_≡_, refl, sym, _∙_}

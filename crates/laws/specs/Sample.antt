@@ -1,4 +1,4 @@
--- Sample A of document 01, segment by segment, and the pieces that its edges are made of.
+-- Sample A (docs/RULES.md, "Sample A and its listing"), segment by segment, and the pieces that its edges are made of.
 use Prim.Native.Nat.{ℕ, _+_}
 use mathlib.Core.List.{List, [], _∷_, _++_}
 use lib.ListN.{length, replicate}

@@ -1,5 +1,5 @@
 -- Tile-parts as ISO/IEC 15444-1 has them (A.4.2, A.4.3): the SOT marker segment's fields as rows of a width and a value, the rest of the tile-part's
--- header, SOD, and the packets. `proofs/Iso.antt` says that document 01's scan lists them.
+-- header, SOD, and the packets. `proofs/Iso.antt` says that our scan lists them.
 use Prim.Native.Nat.{ℕ, _+_, _^_, _≤_, _<_}
 use mathlib.Core.List.{List, [], _∷_, _++_}
 use lib.ListN.{length}

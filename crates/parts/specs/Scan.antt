@@ -1,4 +1,4 @@
--- The SOT scan (document 01, "SOT scan"): the chain of its steps, its records, and what the call answers and leaves in the table.
+-- The SOT scan (docs/RULES.md, "SOT scan"): the chain of its steps, its records, and what the call answers and leaves in the table.
 use Prim.Native.Nat.{ℕ, _+_, _-_, _*_, _/_}
 use mathlib.Core.Bool.{Bool, cond, _&&_}
 use mathlib.Core.List.{List, _++_, map}
@@ -90,7 +90,7 @@ withRoom rows (answer.Refused r) = answer.Refused r
 unfoldable pub scanned : List ℕ → ℕ → ℕ → Scanned
 scanned s start rows = withRoom rows (judged (scanFrom s start))
 
--- document 01's number of an answer, 0 where it accepts, and its value: the entries, or the refusal's place
+-- an answer's number, 0 where it accepts and else the refusal's, and its value: the entries, or the refusal's place
 abbrev pub scanNumber : Scanned → ℕ
 scanNumber (answer.Table n) = 0
 scanNumber (answer.Refused r) = r .number

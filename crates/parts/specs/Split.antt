@@ -1,4 +1,4 @@
--- One tile's buffer taken apart (document 01, "Split"): the chain of its steps, and the parts.
+-- One tile's buffer taken apart (docs/RULES.md, "Split"): the chain of its steps, and the parts.
 use Prim.Native.Nat.{ℕ, _+_, _-_}
 use mathlib.Core.Bool.{cond}
 use mathlib.Core.List.{List, [], map}

@@ -1,4 +1,4 @@
-// One tile's buffer taken apart into its tile-parts (document 01, "Split"): from Psot to Psot, never by a search for SOT.
+// One tile's buffer taken apart into its tile-parts (docs/RULES.md, "Split"): from Psot to Psot, never by a search for SOT.
 ghost use mathlib.Core.Path.{_≡_};
 ghost use Prim.Native.Nat.{_≤_};
 ghost use mathlib.Core.List.{[]};

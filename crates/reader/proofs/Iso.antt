@@ -1,4 +1,4 @@
--- Where document 01's reading and the standard's account agree: a box, a JP2 file up to its codestream, and a SIZ directly after SOC.
+-- Where our reading and the standard's account agree: a box, a JP2 file up to its codestream, and a SIZ directly after SOC.
 use Prim.Native.Nat.{ℕ, _+_, _-_, _%_, _^_, _≤_, _<_, min}
 use native.Mathlib.Omega.{arith}
 use mathlib.Core.Path.{_≡_, refl, sym, ap, ap₂, _∙_}

@@ -1,4 +1,4 @@
--- How much of a codestream is fetched for its main header (document 01, "Growth").
+-- How much of a codestream is fetched for its main header (docs/RULES.md, "Growth").
 use Prim.Native.Nat.{ℕ, zero, suc, _+_, _*_, min}
 use mathlib.Core.Bool.{Bool, true, false, cond, _||_}
 use mathlib.Core.List.{List, [], _∷_, _++_, map}

@@ -1,5 +1,5 @@
 -- Boxes and JP2 files as ISO/IEC 15444-1 has them (I.4, I.5): its tables written as rows of a width and a value, from which the bytes follow.
--- That document 01's reading gives these values back, and those of SIZ (types, IsoSiz), is proved in proofs/Iso.antt.
+-- That our reading gives these values back, and those of SIZ (types, IsoSiz), is proved in proofs/Iso.antt.
 use Prim.Native.Nat.{ℕ, _+_, _^_, _≤_, _<_}
 use mathlib.Core.List.{List, [], _∷_, _++_}
 use mathlib.Core.Path.{_≡_}

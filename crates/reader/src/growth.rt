@@ -1,4 +1,4 @@
-// How much of a codestream is fetched for its main header (document 01, "Growth").
+// How much of a codestream is fetched for its main header (docs/RULES.md, "Growth").
 ghost use mathlib.Core.Path.{_≡_};
 ghost use Rattle.reader.specs.Growth.{nextRegion, grown};
 use header::extent::MainHeaderExtent;

@@ -1,4 +1,4 @@
-// Where a file holds its codestream: in the first jp2c box, or from the start on (document 01, "Codestream search").
+// Where a file holds its codestream: in the first jp2c box, or from the start on (docs/RULES.md, "Codestream search").
 // Boxes are those of ISO/IEC 15444-1, annex I.4.
 ghost use mathlib.Core.Path.{_≡_};
 ghost use Prim.Native.Nat.{_+_, _≤_};

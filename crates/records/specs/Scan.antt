@@ -1,4 +1,4 @@
--- What the scan leaves in a table of records (document 01, "SOT scan"); its answer is that of crate parts, whose rows are the table's records.
+-- What the scan leaves in a table of records (docs/RULES.md, "SOT scan"); its answer is that of crate parts, whose rows are the table's records.
 use Prim.Native.Nat.{ℕ}
 use mathlib.Core.List.{List, _++_}
 use lib.ListN.{length, drop}

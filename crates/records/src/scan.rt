@@ -1,4 +1,4 @@
-// The tile-parts of a codestream, one record each, in a slice of records lent by the caller (document 01, "SOT scan").
+// The tile-parts of a codestream, one record each, in a slice of records lent by the caller (docs/RULES.md, "SOT scan").
 ghost use mathlib.Core.Path.{_≡_};
 ghost use Prim.Native.Nat.{_≤_};
 ghost use lib.ListN.{length};

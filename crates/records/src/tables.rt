@@ -1,4 +1,4 @@
-// Tables of a program's own: 2,048 records (document 01, the listing), filled here and handed back with the answer.
+// Tables of a program's own: 2,048 records (docs/RULES.md, "Tables of records"), filled here and handed back with the answer.
 ghost use mathlib.Core.Path.{_≡_};
 ghost use lib.ListN.{length};
 ghost use Rattle.header.specs.Parse.{parsed, outAfter};

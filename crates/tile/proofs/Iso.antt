@@ -1,4 +1,4 @@
--- Where tile origin and image origin are one, and a tile's sums fit 32 bits, document 01's rewrite of a SIZ by the standard gives a tile of the
+-- Where tile origin and image origin are one, and a tile's sums fit 32 bits, our rewrite of a SIZ by the standard gives a tile of the
 -- grid its size by B-11. The fields are read where the rows before them end; a cell below the count of cells starts before the image ends, so
 -- that no step of the rewrite fails; and the eight fields that it writes are rows again.
 use Prim.Native.Nat.{ℕ, _+_, _-_, _*_, _^_, _≤_, _<_}
@@ -27,7 +27,7 @@ use Rattle.tile.proofs.Rewrites.{axis-inside, columns-some, grid-both, 
 
 -- ---- the fields
 
--- what document 01 reads of a header is a SIZ's
+-- what we read of a header is a SIZ's
 pub record Read (z : Size) (h : List ℕ) : Type 0 where
   pub long : 40 ≤ length h
   pub marker : be 2 h 2 ≡ SIZ

@@ -1,4 +1,4 @@
--- Assembly (document 01, "Assembly"): the ranges' parts, the tile that chooses the rewrite, and header, parts and EOC joined.
+-- Assembly (docs/RULES.md, "Assembly"): the ranges' parts, the tile that chooses the rewrite, and header, parts and EOC joined.
 use Prim.Native.Nat.{ℕ, zero, suc, _+_, _-_, _/_}
 use mathlib.Core.Bool.{Bool, cond, _&&_}
 use mathlib.Core.List.{List, [], _∷_, _++_}

@@ -1,5 +1,5 @@
 -- Tiles as ISO/IEC 15444-1 has them (B.3), by the fields of SIZ: counted from the tile origin, and clipped to the image on both sides.
--- `proofs/Iso.antt` says where document 01's rewrite agrees.
+-- `proofs/Iso.antt` says where our rewrite agrees.
 use Prim.Native.Nat.{ℕ, _+_, _-_, _*_, _/_, _%_, min, max}
 use mathlib.Core.Bool.{cond, _&&_}
 use mathlib.Core.List.{List, _++_}
@@ -42,7 +42,7 @@ heightOf z tile = endOf (z .Ysiz) (z .YTOsiz) (z .YTsiz) (rowOf z tile) - startO
 abbrev pub headerOf : Size → List ℕ → List ℕ
 headerOf z rest = bytesOfRows (sizRows z) ++ rest
 
--- document 01's rewrite as a change of the standard's fields: an image of a size, from 0 on, that is one tile
+-- our rewrite as a change of the standard's fields: an image of a size, from 0 on, that is one tile
 unfoldable pub cutSize : Size → ℕ → ℕ → Size
 cutSize z width height =
     record {

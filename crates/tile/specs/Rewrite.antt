@@ -1,4 +1,4 @@
--- The SIZ rewrite (document 01, "SIZ rewrite"): a tile's size on numbers of 32 bits, and the header, the answer and the output after it.
+-- The SIZ rewrite (docs/RULES.md, "SIZ rewrite"): a tile's size on numbers of 32 bits, and the header, the answer and the output after it.
 use Prim.Native.Nat.{ℕ, _+_, _-_, _*_, _/_, _%_, _^_, _≤_, min}
 use mathlib.Core.Bool.{cond, _&&_}
 use mathlib.Core.List.{List, _++_}

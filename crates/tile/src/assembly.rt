@@ -1,4 +1,4 @@
-// A codestream of one tile: header, tile-parts, EOC (document 01, "Assembly"). Ranges come as rows of 18 bytes, whose index is not looked
+// A codestream of one tile: header, tile-parts, EOC (docs/RULES.md, "Assembly"). Ranges come as rows of 18 bytes, whose index is not looked
 // at; a partial row at the end is none.
 ghost use mathlib.Core.Path.{_≡_};
 ghost use Prim.Native.Nat.{_+_, _-_, _^_, _≤_, min};

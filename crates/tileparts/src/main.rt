@@ -1,4 +1,4 @@
-// The listing program (document 01, "Sample A and its listing"): reads a file from standard input and lists its
+// The listing program (docs/RULES.md, "Sample A and its listing"): reads a file from standard input and lists its
 // codestream, main header, TLM entries and tile-parts. A refused stage's line is the last; otherwise `end` is.
 ghost use mathlib.Core.Path.{_≡_};
 ghost use lib.ListN.{length};

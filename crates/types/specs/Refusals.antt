@@ -1,4 +1,4 @@
--- A refusal of document 01: its number, and its place.
+-- A refusal (docs/RULES.md, "Refusals"): its number, and its place.
 use Prim.Native.Nat.{ℕ}
 use Rattle.types.specs.declared.Refusal.{Refusal}
 

@@ -9,8 +9,8 @@ ghost use Rattle.numbers.specs.Bytes.{put};
 ghost use Rattle.types.specs.Offsets.{inFile, inCodestream};
 ghost use Rattle.types.specs.Row.{entryAt, rowOf};
 
-// A refusal of document 01: its number, and its place (a file offset for boxes, else a codestream offset; for 17 and
-// 18 what is needed).
+// A refusal (docs/RULES.md, "Refusals"): its number, and its place, an offset whose start depends on the number; for 17 and
+// 18 it is what is needed.
 pub struct Refusal {
     pub number: u32,
     pub place: u64,
