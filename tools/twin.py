@@ -347,3 +347,4 @@ for fn in only or lent_fns:
     print(f'{crate}::{fn}: done')
 module_lines(f'{out}/Lib.antt', (['lent'] if own else []) + (['readings'] if os.path.exists(f'{out}/readings.antt') else []))
 subprocess.run(['rt', 'fmt'], cwd=here, stdout=subprocess.DEVNULL)
+subprocess.run([sys.executable, f'{here}/tools/made.py', '--write', crate], check=True)

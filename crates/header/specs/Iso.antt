@@ -1,5 +1,5 @@
 -- Markers and marker segments in a main header, as ISO/IEC 15444-1 has them (A.1.2, A.1.3, tables A.1 and A.2): which stand there, what is read at a
--- position, and the bytes of a segment. `proofs/Standard.antt` says where our step agrees.
+-- position, and the bytes of a segment. `proofs/Iso.antt` says where our step agrees.
 use Prim.Native.Nat.{ℕ, _+_, _^_, _<_}
 use mathlib.Core.Path.{_≡_}
 use mathlib.Core.Bool.{Bool, true, false, cond, _||_, _&&_}

@@ -1,5 +1,5 @@
 -- A main header as ISO/IEC 15444-1 has it (A.3, table A.2): SOC, SIZ directly after it, and other marker segments in any order. COD and QCD have to be
--- among them, which no law here asks. `proofs/StandardMain.antt` says that our walk accepts it.
+-- among them, which no law here asks. `proofs/IsoMain.antt` says that our walk accepts it.
 use Prim.Native.Nat.{ℕ, _+_, _^_, _<_}
 use mathlib.Core.Path.{_≡_}
 use mathlib.Core.List.{List, [], _∷_, _++_}

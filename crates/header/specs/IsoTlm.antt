@@ -1,5 +1,5 @@
 -- The length table of ISO/IEC 15444-1, A.7.1: TLM segments as rows of a width and a value; the table that they make, in the order of Ztlm, with
--- entries without an index numbered on from segment to segment. `proofs/StandardTlm.antt` says where our table agrees.
+-- entries without an index numbered on from segment to segment. `proofs/IsoTlm.antt` says where our table agrees.
 use Prim.Native.Nat.{ℕ, _+_, _*_, _^_, _≤_, _<_}
 use mathlib.Core.Path.{_≡_}
 use mathlib.Core.Bool.{false, cond}

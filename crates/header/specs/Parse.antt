@@ -51,6 +51,23 @@ withRoom rows room (Refused r) = Refused r
 unfoldable pub parsed : List ℕ → ℕ → ℕ → MainHeader
 parsed s rows room = withRoom rows room (judged s)
 
+-- an answer for C: its number, 0 where it accepts; the first SOT or a refusal's place; the decode header's length and the TLM entries, given what was held
+abbrev pub headerNumber : MainHeader → ℕ
+headerNumber (Header h) = 0
+headerNumber (Refused r) = r .number
+
+abbrev pub headerFirst : MainHeader → ℕ
+headerFirst (Header h) = h .«first_sot_offset» .0
+headerFirst (Refused r) = r .place
+
+abbrev pub headerLength : MainHeader → ℕ → ℕ
+headerLength (Header h) held = h .«decode_header_length»
+headerLength (Refused r) held = held
+
+abbrev pub headerEntries : MainHeader → ℕ → ℕ
+headerEntries (Header h) held = h .«tlm_entries»
+headerEntries (Refused r) held = held
+
 -- the records of the TLM segments: the first offset is the first SOT
 unfoldable pub tlmTable : List ℕ → List TilePartEntry
 tlmTable s = placed (walkFrom s 2 .stopped) (tlmEntries s (walkFrom s 2 .visits))

@@ -8,7 +8,7 @@ ghost use Rattle.types.specs.Row.{rowsOf};
 ghost use Rattle.header.specs.Tlm.{placed};
 ghost use Rattle.header.specs.Walk.{walkFrom};
 ghost use Rattle.header.specs.Strip.{tlmEntries};
-ghost use Rattle.header.specs.Parse.{readAs, stands, judged, parsed, tableAfter, outAfter};
+ghost use Rattle.header.specs.Parse.{readAs, stands, judged, parsed, headerNumber, headerFirst, headerLength, headerEntries, tableAfter, outAfter};
 use crate::walk::WalkStep;
 use types::CodestreamOffset;
 use types::ROW;
@@ -108,6 +108,34 @@ pub fn decide(codestream: &[u8], rows: u64, room: u64) -> MainHeader
         });
     }
     judgement
+}
+
+// An answer for C: its number, and in `first_sot` the first SOT's offset or the refusal's place. The decode header's length and the
+// number of TLM entries stay on a refusal.
+pub fn tell(
+    answer: MainHeader,
+    first_sot: &mut u64,
+    decode_length: &mut u64,
+    entries: &mut u64,
+) -> u32
+    ensures { λ r. ⌜ r ≡ headerNumber answer ⌝ }
+    ensures { λ _. ⌜ now («first_sot» .exit) ≡ headerFirst answer ⌝ }
+    ensures { λ _. ⌜ now («decode_length» .exit) ≡ headerLength answer (now («decode_length» .entry)) ⌝ }
+    ensures { λ _. ⌜ now (entries .exit) ≡ headerEntries answer (now (entries .entry)) ⌝ }
+{
+    match answer {
+        MainHeader::Header(info) => {
+            let place = info.first_sot_offset;
+            *first_sot = place.0;
+            *decode_length = info.decode_header_length;
+            *entries = info.tlm_entries;
+            0
+        }
+        MainHeader::Refused(refusal) => {
+            *first_sot = refusal.place;
+            refusal.number
+        }
+    }
 }
 
 // Writes the rows of all TLM entries, the first of which starts at `first_sot`.

@@ -1,1 +1,5 @@
-pub mod Answers
+pub mod Extent
+pub mod Offsets
+pub mod Rewrite
+pub mod Search
+pub mod Siz

@@ -10,7 +10,7 @@ use lib.Seq.{take-at}
 use lib.Dec.{leb, eqb}
 use borrow.Author.Tests.{le-leb, eq-eqb, eqb-true}
 use Rattle.numbers.specs.Bytes.{be, bytesOf}
-use Rattle.numbers.proofs.Laws.{be-front}
+use Rattle.numbers.proofs.BytesLaws.{be-front}
 use Rattle.types.specs.Markers.{SOC, SIZ, SOT, EOC}
 use Rattle.types.specs.Row.{rowsOf}
 use Rattle.types.specs.declared.Refusal.{Refusal}
@@ -21,25 +21,25 @@ use Rattle.header.specs.Parse.{readAs, stands, judged}
 use Rattle.header.specs.declared.parse.MainHeaderInfo.{MainHeaderInfo}
 use Rattle.header.specs.declared.parse.MainHeader.{MainHeader}
 use Rattle.header.specs.declared.parse.MainHeader.the-variants.{Header}
-use Rattle.header.proofs.Answers.{judged-read, judged-no-soc, judged-no-siz, judged-walk}
+use Rattle.header.proofs.ParseLaws.{judged-read, judged-no-soc, judged-no-siz, judged-walk}
 use Rattle.parts.specs.Scan.{entriesFrom}
 use Rattle.parts.specs.Tiles.{ofTile, bytesAt, AllLong}
-use Rattle.parts.proofs.Adjoin.{scan-adjoins}
-use Rattle.parts.proofs.Joined.{split-joined}
+use Rattle.parts.proofs.TilesAdjoin.{scan-adjoins}
+use Rattle.parts.proofs.TilesJoined.{split-joined}
 use Rattle.tile.specs.Rewrite.{tileSize, cutTo, rewritten, over}
 use Rattle.tile.specs.Assembly.{partsIn, patched, sizeFor, joined, assembled, answerFor, assemblyAnswer, assemblyOut}
 use Rattle.tile.specs.declared.rewrite.TileSize.{TileSize}
 use Rattle.tile.specs.declared.rewrite.TileSize.the-variants.{Whole, Cut, Refused}
 use Rattle.tile.specs.declared.rewrite.Written.{Written}
 use Rattle.tile.specs.declared.rewrite.Written.the-variants.{Bytes}
-use Rattle.tile.proofs.Rewrites.{room-enough}
-use Rattle.tile.proofs.Headers.{length-rewritten}
-use Rattle.tile.proofs.Rows.{All, none, more}
-use Rattle.tile.proofs.Assemblies.{part-sot, for-first, assembled-is}
+use Rattle.tile.proofs.RewriteLaws.{room-enough}
+use Rattle.tile.proofs.RewriteHeader.{length-rewritten}
+use Rattle.tile.proofs.AssemblyRows.{All, none, more}
+use Rattle.tile.proofs.AssemblyLaws.{part-sot, for-first, assembled-is}
 use Rattle.laws.specs.Demand3.{Accepted, decodeHeaderOf, assembledOf, Assembles, Standing, Reassembled, Demand3}
-use Rattle.laws.proofs.Entries.{OfTile, entries-of-tile, ranges-back, parts-in}
-use Rattle.laws.proofs.Rewalked.{Rewalked, rewalked}
-use Rattle.laws.proofs.Rescanned.{part-tile, part-is-sot, patched-long, patched-marker, rescan, scans-table}
+use Rattle.laws.proofs.Demand3Entries.{OfTile, entries-of-tile, ranges-back, parts-in}
+use Rattle.laws.proofs.Demand3Rewalked.{Rewalked, rewalked}
+use Rattle.laws.proofs.Demand3Rescanned.{part-tile, part-is-sot, patched-long, patched-marker, rescan, scans-table}
 use Rattle.header.specs.declared.parse.MainHeader.the-variants as parse
 use Rattle.tile.specs.Rewrite as rewrite
 

@@ -7,8 +7,8 @@ use mathlib.Core.List.{List, _++_}
 use lib.ListN.{length, drop}
 use Rattle.types.specs.Row.{rowsOf}
 use Rattle.types.specs.declared.TilePartEntry.{TilePartEntry}
-use Rattle.types.proofs.Laws.{length-rows}
-use Rattle.types.proofs.Standing.{rows, all-append, all-drop}
+use Rattle.types.proofs.RowLaws.{length-rows}
+use Rattle.types.proofs.RowStanding.{rows, all-append, all-drop}
 use Rattle.header.specs.Parse.{parsed, tlmTable, tableAfter}
 use Rattle.header.specs.declared.parse.MainHeader.{MainHeader}
 use Rattle.header.specs.declared.parse.MainHeader.the-variants.{Header, Refused}

@@ -17,7 +17,7 @@ use Rattle.reader.proofs as reader
 use Rattle.host.proofs as host
 use Rattle.probe.proofs as probe
 use Rattle.laws.specs.Settles.{Settles, SettlesAs}
-use Rattle.laws.proofs.Settling.{one, two, three, six, by-first}
+use Rattle.laws.proofs.Settling.{one, two, three, four, six, by-first}
 
 -- ---- numbers
 
@@ -52,6 +52,9 @@ main-header-extent m κs a g = one m λ x y e i. (e i, x .1)
 pub header-decide : {M : Type 1} → Settles M header.parse.decide.ended header.parse.decide.clauses
 header-decide m κs a g = one m λ x y e i. (e i, x .1)
 
+pub header-tell : {M : Type 1} → Settles M header.parse.tell.ended header.parse.tell.clauses
+header-tell m κs a g = four m λ x y e i. (e .0 i, (tt, (e .1 i, (e .2 i, (e .3 i, tt)))))
+
 pub parse-main-header : {M : Type 1} → Settles M header.parse.parse_main_header.ended header.parse.parse_main_header.clauses
 parse-main-header m κs a g =
     by-first m (λ r. tableAfter r (now (a .0)) (now (a .1 .0))) (λ r. outAfter r (now (a .0)) (now (a .1 .1 .0))) λ x y e i.
@@ -65,8 +68,8 @@ scan-step m κs a g = one m λ x y e i. (e i, x .1)
 pub parts-decide : {M : Type 1} → Settles M parts.scan.decide.ended parts.scan.decide.clauses
 parts-decide m κs a g = one m λ x y e i. (e i, x .1)
 
-pub tell : {M : Type 1} → Settles M parts.scan.tell.ended parts.scan.tell.clauses
-tell m κs a g = two m λ x y e i. (e .0 i, (tt, (e .1 i, tt)))
+pub scan-tell : {M : Type 1} → Settles M parts.scan.tell.ended parts.scan.tell.clauses
+scan-tell m κs a g = two m λ x y e i. (e .0 i, (tt, (e .1 i, tt)))
 
 pub scan-sot-markers : {M : Type 1} → Settles M parts.scan.scan_sot_markers.ended parts.scan.scan_sot_markers.clauses
 scan-sot-markers m κs a g = two m λ x y e i. (e .0 i, (tt, (tt, (e .1 i, tt))))
@@ -80,6 +83,9 @@ split-part m κs a g = one m λ x y e i. (e i, x .1)
 
 pub split-at : {M : Type 1} → SettlesAs M parts.split.split_at.ended parts.split.split_at.clauses (λ κs. List ℕ) (λ κs r. now r)
 split-at m κs a g = one m λ x y e i. (e i, x .1)
+
+pub split-tell : {M : Type 1} → Settles M parts.split.tell.ended parts.split.tell.clauses
+split-tell m κs a g = three m λ x y e i. (e .0 i, (tt, (e .2 i, (e .1 i, tt))))
 
 -- ---- records
 
@@ -138,55 +144,58 @@ grow-header-region m κs a g = one m λ x y e i. (e i, x .1)
 
 -- ---- host, for C
 
-pub winterhasp-main-header-extent : {M : Type 1} → Settles M host.winterhasp_main_header_extent.ended host.winterhasp_main_header_extent.clauses
-winterhasp-main-header-extent m κs a g = two m λ x y e i. (e .0 i, (tt, (e .1 i, tt)))
-
-pub winterhasp-in-file : {M : Type 1} → Settles M host.winterhasp_in_file.ended host.winterhasp_in_file.clauses
+pub winterhasp-in-file : {M : Type 1} → Settles M host.offsets.winterhasp_in_file.ended host.offsets.winterhasp_in_file.clauses
 winterhasp-in-file m κs a g = two m λ x y e i. (e .0 i, (tt, (tt, (e .1 i, tt))))
 
-pub winterhasp-scan-sot-markers : {M : Type 1} → Settles M host.winterhasp_scan_sot_markers.ended host.winterhasp_scan_sot_markers.clauses
+pub winterhasp-main-header-extent : {M : Type 1} → Settles M host.extent.winterhasp_main_header_extent.ended host.extent.winterhasp_main_header_extent.clauses
+winterhasp-main-header-extent m κs a g = two m λ x y e i. (e .0 i, (tt, (e .1 i, tt)))
+
+pub winterhasp-parse-main-header : {M : Type 1} → Settles M host.parse.winterhasp_parse_main_header.ended host.parse.winterhasp_parse_main_header.clauses
+winterhasp-parse-main-header m κs a g = six m λ x y e i. (e .0 i, (tt, (e .4 i, (e .5 i, (e .1 i, (e .2 i, (e .3 i, tt)))))))
+
+pub winterhasp-scan-sot-markers : {M : Type 1} → Settles M host.scan.winterhasp_scan_sot_markers.ended host.scan.winterhasp_scan_sot_markers.clauses
 winterhasp-scan-sot-markers m κs a g = three m λ x y e i. (e .0 i, (tt, (tt, (e .2 i, (e .1 i, tt)))))
 
-pub winterhasp-rewrite-siz-for-tile : {M : Type 1} → Settles M host.winterhasp_rewrite_siz_for_tile.ended host.winterhasp_rewrite_siz_for_tile.clauses
+pub winterhasp-split-count : {M : Type 1} → Settles M host.split.winterhasp_split_count.ended host.split.winterhasp_split_count.clauses
+winterhasp-split-count m κs a g = one m λ x y e i. (e i, x .1)
+
+pub winterhasp-split-part : {M : Type 1} → Settles M host.split.winterhasp_split_part.ended host.split.winterhasp_split_part.clauses
+winterhasp-split-part m κs a g = three m λ x y e i. (e .0 i, (tt, (tt, (e .2 i, (e .1 i, tt)))))
+
+pub winterhasp-split-at : {M : Type 1} → Settles M host.split.winterhasp_split_at.ended host.split.winterhasp_split_at.clauses
+winterhasp-split-at m κs a g = three m λ x y e i. (e .0 i, (tt, (tt, (e .2 i, (e .1 i, tt)))))
+
+pub tell-written : {M : Type 1} → Settles M host.rewrite.tell_written.ended host.rewrite.tell_written.clauses
+tell-written m κs a g = two m λ x y e i. (e .0 i, (tt, (e .1 i, tt)))
+
+pub winterhasp-rewrite-siz-for-tile : {M : Type 1} → Settles M host.rewrite.winterhasp_rewrite_siz_for_tile.ended host.rewrite.winterhasp_rewrite_siz_for_tile.clauses
 winterhasp-rewrite-siz-for-tile m κs a g = three m λ x y e i. (e .0 i, (tt, (tt, (e .2 i, (e .1 i, tt)))))
 
-pub winterhasp-build-minimal-codestream : {M : Type 1} → Settles M host.winterhasp_build_minimal_codestream.ended host.winterhasp_build_minimal_codestream.clauses
+pub winterhasp-build-minimal-codestream : {M : Type 1} → Settles M host.assembly.winterhasp_build_minimal_codestream.ended host.assembly.winterhasp_build_minimal_codestream.clauses
 winterhasp-build-minimal-codestream m κs a g = three m λ x y e i. (e .0 i, (tt, (tt, (tt, (e .2 i, (e .1 i, tt))))))
+
+pub winterhasp-find-codestream : {M : Type 1} → Settles M host.search.winterhasp_find_codestream.ended host.search.winterhasp_find_codestream.clauses
+winterhasp-find-codestream m κs a g = three m λ x y e i. (e .0 i, (tt, (e .1 i, (e .2 i, tt))))
+
+pub winterhasp-parse-siz-marker : {M : Type 1} → Settles M host.siz.winterhasp_parse_siz_marker.ended host.siz.winterhasp_parse_siz_marker.clauses
+winterhasp-parse-siz-marker m κs a g = six m λ x y e i. (e .0 i, (tt, (e .1 i, (e .2 i, (e .3 i, (e .4 i, (e .5 i, tt)))))))
+
+pub winterhasp-pixel-type : {M : Type 1} → Settles M host.siz.winterhasp_pixel_type.ended host.siz.winterhasp_pixel_type.clauses
+winterhasp-pixel-type m κs a g = one m λ x y e i. (e i, x .1)
+
+pub winterhasp-grow-header-region : {M : Type 1} → Settles M host.growth.winterhasp_grow_header_region.ended host.growth.winterhasp_grow_header_region.clauses
+winterhasp-grow-header-region m κs a g = three m λ x y e i. (e .0 i, (tt, (e .1 i, (e .2 i, tt))))
+
+pub winterhasp-next-region : {M : Type 1} → Settles M host.growth.winterhasp_next_region.ended host.growth.winterhasp_next_region.clauses
+winterhasp-next-region m κs a g = one m λ x y e i. (e i, x .1)
 
 -- ---- probe, for C
 
 pub winterhasp-scan-records : {M : Type 1} → Settles M probe.winterhasp_scan_records.ended probe.winterhasp_scan_records.clauses
 winterhasp-scan-records m κs a g = three m λ x y e i. (e .0 i, (tt, (tt, (e .2 i, (e .1 i, tt)))))
 
-pub winterhasp-split-count : {M : Type 1} → Settles M probe.winterhasp_split_count.ended probe.winterhasp_split_count.clauses
-winterhasp-split-count m κs a g = one m λ x y e i. (e i, x .1)
-
-pub winterhasp-split-part : {M : Type 1} → Settles M probe.winterhasp_split_part.ended probe.winterhasp_split_part.clauses
-winterhasp-split-part m κs a g = three m λ x y e i. (e .0 i, (tt, (tt, (e .2 i, (e .1 i, tt)))))
-
-pub winterhasp-split-at : {M : Type 1} → Settles M probe.winterhasp_split_at.ended probe.winterhasp_split_at.clauses
-winterhasp-split-at m κs a g = three m λ x y e i. (e .0 i, (tt, (tt, (e .2 i, (e .1 i, tt)))))
-
 pub winterhasp-codestream-of : {M : Type 1} → Settles M probe.winterhasp_codestream_of.ended probe.winterhasp_codestream_of.clauses
 winterhasp-codestream-of m κs a g = three m λ x y e i. (e .0 i, (tt, (e .2 i, (e .1 i, tt))))
-
-pub winterhasp-find-codestream : {M : Type 1} → Settles M probe.winterhasp_find_codestream.ended probe.winterhasp_find_codestream.clauses
-winterhasp-find-codestream m κs a g = three m λ x y e i. (e .0 i, (tt, (e .1 i, (e .2 i, tt))))
-
-pub winterhasp-parse-siz-marker : {M : Type 1} → Settles M probe.winterhasp_parse_siz_marker.ended probe.winterhasp_parse_siz_marker.clauses
-winterhasp-parse-siz-marker m κs a g = six m λ x y e i. (e .0 i, (tt, (e .1 i, (e .2 i, (e .3 i, (e .4 i, (e .5 i, tt)))))))
-
-pub winterhasp-pixel-type : {M : Type 1} → Settles M probe.winterhasp_pixel_type.ended probe.winterhasp_pixel_type.clauses
-winterhasp-pixel-type m κs a g = one m λ x y e i. (e i, x .1)
-
-pub winterhasp-grow-header-region : {M : Type 1} → Settles M probe.winterhasp_grow_header_region.ended probe.winterhasp_grow_header_region.clauses
-winterhasp-grow-header-region m κs a g = three m λ x y e i. (e .0 i, (tt, (e .1 i, (e .2 i, tt))))
-
-pub winterhasp-next-region : {M : Type 1} → Settles M probe.winterhasp_next_region.ended probe.winterhasp_next_region.clauses
-winterhasp-next-region m κs a g = one m λ x y e i. (e i, x .1)
-
-pub winterhasp-parse-main-header : {M : Type 1} → Settles M probe.main_header.winterhasp_parse_main_header.ended probe.main_header.winterhasp_parse_main_header.clauses
-winterhasp-parse-main-header m κs a g = six m λ x y e i. (e .0 i, (tt, (e .4 i, (e .5 i, (e .1 i, (e .2 i, (e .3 i, tt)))))))
 
 pub winterhasp-header-records : {M : Type 1} → Settles M probe.main_header.winterhasp_header_records.ended probe.main_header.winterhasp_header_records.clauses
 winterhasp-header-records m κs a g = six m λ x y e i. (e .0 i, (tt, (e .4 i, (e .5 i, (e .1 i, (e .2 i, (e .3 i, tt)))))))

@@ -1,4 +1,4 @@
--- The laws by which a contract of one, two, three or six `ensures` settles its outcome, where each is an equation.
+-- The laws by which a contract of one, two, three, four or six `ensures` settles its outcome, where each is an equation.
 use mathlib.Core.Path.{_≡_, sym, ap, _∙_}
 use base.Logic.{SProp, ent, sep, emp, id⊢, via, snd∗}
 use contract.Monad.{conj, conjL, conjR, fact, factI, fact-use, fact∗}
@@ -51,6 +51,15 @@ module _ {M : Type 1} (m : Model M) where
     pub three : {A B C : Type 0} {a : O → A} {b : O → B} {c : O → C} {k : A} {l : B} {n : C}
         → ((x y : O) → (a x ≡ a y) × (b x ≡ b y) × (c x ≡ c y) → E x y) → Shows E (λ x. ⌜ a x ≡ k ⌝ ∗ ⌜ b x ≡ l ⌝ ∗ ⌜ c x ≡ n ⌝)
     three h = row (λ x. and (and last)) (λ x y p q. h x y (settled (p .0) (q .0), settled (p .1 .0) (q .1 .0), settled (p .1 .1) (q .1 .1)))
+
+    pub four : {A B C D : Type 0} {a : O → A} {b : O → B} {c : O → C} {d : O → D} {k : A} {l : B} {n : C} {r : D}
+        → ((x y : O) → (a x ≡ a y) × (b x ≡ b y) × (c x ≡ c y) × (d x ≡ d y) → E x y) → Shows E (λ x. ⌜ a x ≡ k ⌝ ∗ ⌜ b x ≡ l ⌝ ∗ ⌜ c x ≡ n ⌝ ∗ ⌜ d x ≡ r ⌝)
+    four h = row (λ x. and (and (and last))) (λ x y p q. h x y (
+      settled (p .0) (q .0),
+      settled (p .1 .0) (q .1 .0),
+      settled (p .1 .1 .0) (q .1 .1 .0),
+      settled (p .1 .1 .1) (q .1 .1 .1),
+    ))
 
     pub six : {A B C D F G : Type 0} {a : O → A} {b : O → B} {c : O → C} {d : O → D} {f : O → F} {g : O → G} {k : A} {l : B} {n : C} {r : D} {s : F} {t : G}
         → ((x y : O) → (a x ≡ a y) × (b x ≡ b y) × (c x ≡ c y) × (d x ≡ d y) × (f x ≡ f y) × (g x ≡ g y) → E x y)

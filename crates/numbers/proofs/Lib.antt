@@ -1,3 +1,3 @@
-pub mod Laws
+pub mod BytesLaws
 pub mod Rows
 pub mod Choice

@@ -7,7 +7,7 @@ use mathlib.Core.List.{List, [], _∷_, _++_, append-assoc}
 use lib.ListN.{length, getD, length-append}
 use Rattle.numbers.specs.Bytes.{be, bytesOf}
 use Rattle.numbers.specs.Rows.{Row, row, bytesOfRows, widths}
-use Rattle.numbers.proofs.Laws.{length-bytes, be-front, be-rest, be-bytesOf}
+use Rattle.numbers.proofs.BytesLaws.{length-bytes, be-front, be-rest, be-bytesOf}
 
 pub length-rows : (rows : List Row) → length (bytesOfRows rows) ≡ widths rows
 unfolding bytesOfRows widths

@@ -8,7 +8,7 @@ use lib.ListN.{length, take, length-append}
 use borrow.Author.Tests.{le-leb, eq-eqb}
 use Rattle.numbers.specs.Bytes.{be, bytesOf}
 use Rattle.numbers.specs.Rows.{Row, bytesOfRows, widths}
-use Rattle.numbers.proofs.Laws.{length-bytes, be-rest, be-front, be-bytesOf}
+use Rattle.numbers.proofs.BytesLaws.{length-bytes, be-rest, be-front, be-bytesOf}
 use Rattle.numbers.proofs.Rows.{length-rows, be-row, be-behind}
 use Rattle.types.specs.Markers.{SOT, SOD, EOC}
 use Rattle.types.specs.declared.TilePartEntry.{TilePartEntry}
@@ -17,8 +17,8 @@ use Rattle.parts.specs.Scan.{eocAt, sotStepAt, scanStepAt, scanned}
 use Rattle.parts.specs.Iso.{TilePart, sotRows, partBytes, lengthOf, Ranges, AllRanges, partsBytes, listed, listedFrom}
 use Rattle.parts.specs.declared.scan.ScanStep.the-variants.{Part, Ended}
 use Rattle.parts.specs.declared.scan.Scanned.the-variants.{Table}
-use Rattle.parts.proofs.Scans.{sot-rest, sot-part, step-outside, step-eoc, step-sot, sot-no-eoc, same-part, Scans, scans-end, scans-part}
-use Rattle.parts.proofs.Answers.{scans-accepted}
+use Rattle.parts.proofs.ScanLaws.{sot-rest, sot-part, step-outside, step-eoc, step-sot, sot-no-eoc, same-part, Scans, scans-end, scans-part}
+use Rattle.parts.proofs.ScanAnswers.{scans-accepted}
 
 -- ---- one tile-part
 

@@ -1,7 +1,7 @@
-pub mod Scans
-pub mod Fills
-pub mod Answers
-pub mod Splits
-pub mod Adjoin
-pub mod Joined
+pub mod ScanLaws
+pub mod ScanFill
+pub mod ScanAnswers
+pub mod SplitLaws
+pub mod TilesAdjoin
+pub mod TilesJoined
 pub mod Iso

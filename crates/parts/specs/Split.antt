@@ -4,7 +4,7 @@ use mathlib.Core.Bool.{cond}
 use mathlib.Core.List.{List, [], map}
 use lib.ListN.{length, take, drop}
 use lib.Dec.{leb, eqb}
-use Rattle.numbers.specs.Bytes.{be}
+use Rattle.numbers.specs.Bytes.{be, put}
 use Rattle.types.specs.Markers.{SOT}
 use Rattle.chain.specs.Chain.{Move, end, on, visited, Chain, chain}
 use Rattle.parts.specs.Sot.{psot}
@@ -50,3 +50,10 @@ found s at Ended = []
 unfoldable pub standing : List ℕ → ℕ → List ℕ
 unfolding found
 standing s at = found s at (splitStepAt s at)
+
+-- a part of the caller's bytes for C: 17 where it is longer than the room, and what it leaves in the output
+abbrev pub partNumber : List ℕ → ℕ → ℕ
+partNumber part room = cond (leb (length part) room) 0 17
+
+abbrev pub partOut : List ℕ → List ℕ → List ℕ
+partOut part out = cond (leb (length part) (length out)) (put out 0 part) out

@@ -3,7 +3,7 @@ ghost use mathlib.Core.Path.{_≡_};
 ghost use Prim.Native.Nat.{_≤_};
 ghost use mathlib.Core.List.{[]};
 ghost use lib.ListN.{length, getD};
-ghost use Rattle.parts.specs.Split.{splitStepAt, partsOf, standing};
+ghost use Rattle.parts.specs.Split.{splitStepAt, partsOf, standing, partNumber, partOut};
 use types::markers::PSOT;
 use types::markers::SOT;
 use types::markers::SOT_SEGMENT;
@@ -81,4 +81,18 @@ pub fn split_at(tile: &[u8], at: usize) -> &[u8]
         return &tile[..0];
     };
     &tile[at..end]
+}
+
+// A part of the caller's bytes for C: 0 and the part in `out`, or 17 where it is longer than `out`. `value` is its length.
+pub fn tell(part: &[u8], out: &mut [u8], value: &mut u64) -> u32
+    ensures { λ r. ⌜ r ≡ partNumber (now (part .entry)) (length (now (out .entry))) ⌝ }
+    ensures { λ _. ⌜ now (value .exit) ≡ length (now (part .entry)) ⌝ }
+    ensures { λ _. ⌜ now (out .exit) ≡ partOut (now (part .entry)) (now (out .entry)) ⌝ }
+{
+    *value = part.len() as u64;
+    if out.len() < part.len() {
+        return 17;
+    }
+    numbers::copy_at(part, out, 0);
+    0
 }

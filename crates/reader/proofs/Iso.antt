@@ -4,19 +4,20 @@ use native.Mathlib.Omega.{arith}
 use mathlib.Core.Path.{_≡_, refl, sym, ap, ap₂, _∙_}
 use mathlib.Core.Bool.{Bool, true, false, cond}
 use mathlib.Core.List.{List, [], _∷_, _++_, append-assoc}
-use lib.ListN.{length, getD, take, length-append}
+use lib.ListN.{length, length-append}
 use lib.Seq.{take-at, drop-at}
 use lib.Dec.{leb}
 use borrow.Author.Tests.{le-leb, lt-leb}
 use Rattle.numbers.specs.Bytes.{be, bytesOf}
-use Rattle.numbers.specs.Rows.{Row, row, bytesOfRows, widths}
-use Rattle.numbers.proofs.Laws.{be-rest}
-use Rattle.numbers.proofs.Rows.{length-rows, be-row, be-behind, be-one}
-use Rattle.types.specs.Markers.{SIZ}
-use Rattle.types.specs.IsoSiz.{ssizOf, Size, Csiz, componentRows, sizRows, Ranges}
+use Rattle.numbers.specs.Rows.{row, bytesOfRows, widths}
+use Rattle.numbers.proofs.BytesLaws.{be-rest}
+use Rattle.numbers.proofs.Rows.{length-rows, be-row, be-behind}
+use Rattle.types.specs.Siz.{ssiz}
+use Rattle.types.specs.IsoSiz.{Size, Csiz, sizRows, Ranges}
+use Rattle.types.proofs.IsoSiz.{Fields, fields-standard}
 use Rattle.chain.specs.Chain.{on}
-use Rattle.reader.proofs.Sizes.{siz-info, move-siz, read-end}
-use Rattle.reader.proofs.Boxes.{box-extended, box-to-end, box-plain, content-part, passed-on, move-jp2c, move-past, found-end, found-on, found-jp2, content-found}
+use Rattle.reader.proofs.SizLaws.{siz-info, move-siz, read-end}
+use Rattle.reader.proofs.SearchLaws.{box-extended, box-to-end, box-plain, content-part, passed-on, move-jp2c, move-past, found-end, found-on, found-jp2, content-found}
 use Rattle.reader.specs.Siz.{infoAt, sizRead}
 use Rattle.reader.specs.Search.{JP2C, boxAt, moveAt, isJp2, foundFrom, foundIn, contentOf}
 use Rattle.reader.specs.Iso.{Form, plain, extended, last, IsoBox, boxRows, headerSize, boxBytes, Stands, boxesBytes, signature, jp2File, Others}
@@ -180,10 +181,6 @@ ssiz-sign : (signed : Bool) (depth : ℕ) → (1 ≤ depth) × (depth ≤ 38) �
 ssiz-sign true depth h = le-leb 128 (128 + (depth - 1)) (omega arith)
 ssiz-sign false depth h = lt-leb 128 (0 + (depth - 1)) (omega arith)
 
-ssiz-byte : (signed : Bool) (depth : ℕ) → (1 ≤ depth) × (depth ≤ 38) → cond signed 128 0 + (depth - 1) < 256
-ssiz-byte true depth h = omega arith
-ssiz-byte false depth h = omega arith
-
 -- A SIZ directly after SOC gives the image's width and height, the number of components, and bit depth and sign of the first.
 pub siz-iso : (z : Size) (rest : List ℕ) → Ranges z
     → sizRead (bytesOfRows (sizRows z) ++ rest)
@@ -195,26 +192,18 @@ pub siz-iso : (z : Size) (rest : List ℕ) → Ranges z
       «bits_per_component» = z .first .depth;
       «is_signed» = z .first .signed;
     })
-unfolding sizRead sizRows componentRows widths infoAt
+unfolding sizRead infoAt
 siz-iso z rest g =
     let s : List ℕ = bytesOfRows (sizRows z) ++ rest in
-    let before : ℕ → List Row = λ k. take k (sizRows z) in
-    let marker : be 2 s 2 ≡ SIZ = be-row (before 1) 2 SIZ _ rest (omega arith) in
-    let x : be 4 s 8 ≡ z .Xsiz = be-row (before 4) 4 (z .Xsiz) _ rest (g .Xsiz) in
-    let y : be 4 s 12 ≡ z .Ysiz = be-row (before 5) 4 (z .Ysiz) _ rest (g .Ysiz) in
-    let xo : be 4 s 16 ≡ z .XOsiz = be-row (before 6) 4 (z .XOsiz) _ rest (omega arith) in
-    let yo : be 4 s 20 ≡ z .YOsiz = be-row (before 7) 4 (z .YOsiz) _ rest (omega arith) in
-    let n : be 2 s 40 ≡ Csiz z = be-row (before 12) 2 (Csiz z) _ rest (omega arith) in
-    let ssiz : getD s 42 0 ≡ ssizOf (z .first) = sym (be-one s 42) ∙ be-row (before 13) 1 (ssizOf (z .first)) _ rest (ssiz-byte (z .first .signed) (z .first .depth) (g .depth)) in
-    let bits : getD s 42 0 % 128 + 1 ≡ z .first .depth = ap (λ (b : ℕ). b % 128 + 1) ssiz ∙ ssiz-bits (z .first .signed) (z .first .depth) (g .depth) in
-    let sign : leb 128 (getD s 42 0) ≡ z .first .signed = ap (leb 128) ssiz ∙ ssiz-sign (z .first .signed) (z .first .depth) (g .depth) in
-    let long : 43 ≤ length s = rw (length-append, length-rows) (omega arith) in
-    read-end s 2 _ (move-siz s 2 (omega arith) marker)
-    ∙ siz-info s 2 (omega arith) (omega arith) (omega arith)
+    let f : Fields z s = fields-standard z rest g in
+    let bits : ssiz s 2 % 128 + 1 ≡ z .first .depth = ap (λ (b : ℕ). b % 128 + 1) (f .Ssiz) ∙ ssiz-bits (z .first .signed) (z .first .depth) (g .depth) in
+    let sign : leb 128 (ssiz s 2) ≡ z .first .signed = ap (leb 128) (f .Ssiz) ∙ ssiz-sign (z .first .signed) (z .first .depth) (g .depth) in
+    read-end s 2 _ (move-siz s 2 (omega (arith, f .long)) (f .marker))
+    ∙ siz-info s 2 (f .long) (omega (arith, f .Xsiz, f .XOsiz)) (omega (arith, f .Ysiz, f .YOsiz))
     ∙ (λ i. Siz (record {
-      width = x i - xo i;
-      height = y i - yo i;
-      «num_components» = n i;
+      width = f .Xsiz i - f .XOsiz i;
+      height = f .Ysiz i - f .YOsiz i;
+      «num_components» = f .Csiz i;
       «bits_per_component» = bits i;
       «is_signed» = sign i;
     }))

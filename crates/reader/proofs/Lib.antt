@@ -1,5 +1,5 @@
 pub mod Moves
-pub mod Sizes
-pub mod Boxes
-pub mod Regions
+pub mod SizLaws
+pub mod SearchLaws
+pub mod GrowthLaws
 pub mod Iso

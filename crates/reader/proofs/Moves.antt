@@ -2,7 +2,7 @@
 use Prim.Native.Nat.{ℕ}
 use mathlib.Core.Path.{_≡_, ap}
 use Rattle.chain.specs.Chain.{Move, end, on, Chain, Rises, also, chain}
-use Rattle.chain.proofs.Laws.{chain-end, chain-on, chain-stops}
+use Rattle.chain.proofs.ChainLaws.{chain-end, chain-on, chain-stops}
 
 -- E of the answer of a move that ends, O of the position from which it goes on
 unfoldable pub Told : {A : Type 0} → (A → Type 0) → (ℕ → Type 0) → Move A → Type 0

@@ -1,4 +1,4 @@
--- Where a file holds its codestream (document 01, "Codestream search"; boxes: ISO/IEC 15444-1, annex I.4).
+-- Where a file holds its codestream (docs/RULES.md, "Codestream search"; boxes: ISO/IEC 15444-1, annex I.4).
 use Prim.Native.Nat.{ℕ, _+_, _-_, _^_, min}
 use mathlib.Core.Bool.{Bool, cond, _&&_}
 use mathlib.Core.List.{List, []}
@@ -6,6 +6,7 @@ use lib.ListN.{length, take, drop}
 use lib.Dec.{leb, ltb, eqb}
 use Rattle.numbers.specs.Bytes.{be}
 use Rattle.types.specs.Markers.{SOC}
+use Rattle.types.specs.Refusals.{refusal}
 use Rattle.chain.specs.Chain.{Move, end, on, chain}
 use Rattle.reader.specs.declared.search.Found.{Found}
 use Rattle.reader.specs.declared.search.Found.the-variants.{Codestream, Refused}
@@ -14,10 +15,6 @@ use Rattle.reader.specs.declared.search.BoxRead.{BoxRead}
 use Rattle.reader.specs.declared.search.BoxRead.the-variants.{Box, End, CutShort}
 use Rattle.reader.specs.declared.search.BoxStep.{BoxStep}
 use Rattle.reader.specs.declared.search.BoxStep.the-variants.{Ended, Next}
-
--- a refusal's number and place
-abbrev pub refused : ℕ → ℕ → Found
-refused number place = Refused (record { number = number; place = place })
 
 -- the type of the box that holds the codestream, "jp2c"
 abbrev pub JP2C : ℕ
@@ -46,15 +43,15 @@ content size at b =
     cond (leb (b .header) (b .length))
     (cond (ltb (at + b .length) (2 ^ 64))
     (Codestream (record { 0 = at + b .header }) (min (at + b .length) size - (at + b .header)))
-    (refused 16 at))
-    (refused 15 at)
+    (Refused (refusal 16 at)))
+    (Refused (refusal 15 at))
 
 -- past a box of another type: one that is shorter than its header stops the chain
 unfoldable pub passed : ℕ → BoxHeader → Move Found
 passed at b =
     cond (leb (b .header) (b .length))
-    (cond (ltb (at + b .length) (2 ^ 64)) (on (at + b .length)) (end (refused 16 at)))
-    (end (refused 14 at))
+    (cond (ltb (at + b .length) (2 ^ 64)) (on (at + b .length)) (end (Refused (refusal 16 at))))
+    (end (Refused (refusal 14 at)))
 
 -- ---- the chain of boxes
 
@@ -62,8 +59,8 @@ passed at b =
 unfoldable pub onBox : ℕ → ℕ → BoxRead → Move Found
 unfolding content passed
 onBox size at (Box b) = cond (eqb (b .kind) JP2C) (end (content size at b)) (passed at b)
-onBox size at End = end (refused 14 at)
-onBox size at CutShort = end (refused 13 at)
+onBox size at End = end (Refused (refusal 14 at))
+onBox size at CutShort = end (Refused (refusal 13 at))
 
 unfoldable pub moveAt : List ℕ → ℕ → Move Found
 unfolding boxAt onBox
@@ -71,7 +68,7 @@ moveAt s at = onBox (length s) at (boxAt s at)
 
 -- where the chain of boxes from a position on ends (the first argument of a chain is never its answer)
 unfoldable pub foundFrom : List ℕ → ℕ → Found
-foundFrom s at = chain (refused 14 0) (moveAt s) (length s) at .ended
+foundFrom s at = chain (Refused (refusal 14 0)) (moveAt s) (length s) at .ended
 
 -- ---- the file
 
@@ -84,8 +81,8 @@ unfolding isJp2 foundFrom
 foundIn s =
     cond (leb 2 (length s))
     (cond (isJp2 s) (foundFrom s 0)
-    (cond (eqb (be 2 s 0) SOC) (Codestream (record { 0 = 0 }) (length s)) (refused 12 0)))
-    (refused 11 0)
+    (cond (eqb (be 2 s 0) SOC) (Codestream (record { 0 = 0 }) (length s)) (Refused (refusal 12 0))))
+    (Refused (refusal 11 0))
 
 -- the part of the file that was found; where the search refuses, none
 unfoldable pub partOf : List ℕ → Found → List ℕ

@@ -1,4 +1,4 @@
--- The image's size and its samples, from the first SIZ that is met (document 01, "SIZ reading").
+-- The image's size and its samples, from the first SIZ that is met (docs/RULES.md, "SIZ reading").
 use Prim.Native.Nat.{ℕ, _+_, _-_, _%_}
 use mathlib.Core.Bool.{Bool, cond, _&&_}
 use mathlib.Core.List.{List}
@@ -6,6 +6,8 @@ use lib.ListN.{length, getD}
 use lib.Dec.{leb, eqb}
 use Rattle.numbers.specs.Bytes.{be}
 use Rattle.types.specs.Markers.{SIZ}
+use Rattle.types.specs.Siz.{xsiz, ysiz, xosiz, yosiz, csiz, ssiz}
+use Rattle.types.specs.Refusals.{refusal}
 use Rattle.chain.specs.Chain.{Move, end, on, chain}
 use Rattle.reader.specs.declared.siz.SizInfo.{SizInfo}
 use Rattle.reader.specs.declared.siz.SizRead.{SizRead}
@@ -15,19 +17,15 @@ use Rattle.reader.specs.declared.siz.SizStep.the-variants.{Ended, Next}
 use Rattle.reader.specs.declared.siz.SampleType.{SampleType}
 use Rattle.reader.specs.declared.siz.SampleType.the-variants.{UInt8, Int8, UInt16, Int16, UInt32, Int32}
 
--- a refusal's number and place
-abbrev pub refused : ℕ → ℕ → SizRead
-refused number place = Refused (record { number = number; place = place })
-
--- the fields of SIZ that are asked for, by their offsets from the marker
+-- the fields of SIZ that are asked for
 unfoldable pub infoAt : List ℕ → ℕ → SizInfo
 infoAt s at =
     record {
-      width = be 4 s (at + 6) - be 4 s (at + 14);
-      height = be 4 s (at + 10) - be 4 s (at + 18);
-      «num_components» = be 2 s (at + 38);
-      «bits_per_component» = getD s (at + 40) 0 % 128 + 1;
-      «is_signed» = leb 128 (getD s (at + 40) 0);
+      width = xsiz s at - xosiz s at;
+      height = ysiz s at - yosiz s at;
+      «num_components» = csiz s at;
+      «bits_per_component» = ssiz s at % 128 + 1;
+      «is_signed» = leb 128 (ssiz s at);
     }
 
 -- the SIZ at a position: 41 bytes, and neither origin past the image's far side
@@ -35,10 +33,10 @@ unfoldable pub sizAt : List ℕ → ℕ → SizRead
 unfolding infoAt
 sizAt s at =
     cond (leb (at + 41) (length s))
-    (cond (leb (be 4 s (at + 14)) (be 4 s (at + 6)))
-    (cond (leb (be 4 s (at + 18)) (be 4 s (at + 10))) (Siz (infoAt s at)) (refused 22 at))
-    (refused 22 at))
-    (refused 20 at)
+    (cond (leb (xosiz s at) (xsiz s at))
+    (cond (leb (yosiz s at) (ysiz s at)) (Siz (infoAt s at)) (Refused (refusal 22 at)))
+    (Refused (refusal 22 at)))
+    (Refused (refusal 20 at))
 
 -- a step: FF51 is read; any other FF skips its marker and its length; any other byte is skipped; too few bytes end it
 unfoldable pub moveAt : List ℕ → ℕ → Move SizRead
@@ -47,13 +45,13 @@ moveAt s at =
     cond (leb (at + 2) (length s))
     (cond (eqb (be 2 s at) SIZ) (end (sizAt s at))
     (cond (eqb (getD s at 0) 0xff)
-    (cond (leb (at + 4) (length s)) (on (at + (2 + be 2 s (at + 2)))) (end (refused 21 at)))
+    (cond (leb (at + 4) (length s)) (on (at + (2 + be 2 s (at + 2)))) (end (Refused (refusal 21 at))))
     (on (at + 1))))
-    (end (refused 21 at))
+    (end (Refused (refusal 21 at)))
 
 -- where the search from a position on ends (the first argument of a chain is never its answer)
 unfoldable pub sizFrom : List ℕ → ℕ → SizRead
-sizFrom s at = chain (refused 21 2) (moveAt s) (length s) at .ended
+sizFrom s at = chain (Refused (refusal 21 2)) (moveAt s) (length s) at .ended
 
 -- the search from 2 on, past SOC, which is not looked at
 unfoldable pub sizRead : List ℕ → SizRead

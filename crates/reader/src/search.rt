@@ -3,7 +3,8 @@
 ghost use mathlib.Core.Path.{_≡_};
 ghost use Prim.Native.Nat.{_+_, _≤_};
 ghost use lib.ListN.{length, take, drop};
-ghost use Rattle.reader.specs.Search.{refused, boxAt, isJp2, content, passed, moveOf, moveAt, foundFrom, foundIn, contentOf};
+ghost use Rattle.types.specs.Refusals.{refusal};
+ghost use Rattle.reader.specs.Search.{boxAt, isJp2, content, passed, moveOf, moveAt, foundFrom, foundIn, contentOf};
 use types::CodestreamOffset;
 use types::FileOffset;
 use types::InCodestream;
@@ -42,7 +43,7 @@ enum BoxStep {
 }
 
 fn refuse(number: u32, place: u64) -> Found
-    ensures { λ r. ⌜ r ≡ refused number place ⌝ }
+    ensures { λ r. ⌜ r ≡ Found.Refused (refusal number place) ⌝ }
 {
     Found::Refused(Refusal { number, place })
 }

@@ -1,10 +1,12 @@
-// The image's size and its samples, from the first SIZ that is met (document 01, "SIZ reading").
+// The image's size and its samples, from the first SIZ that is met (docs/RULES.md, "SIZ reading").
 ghost use mathlib.Core.Path.{_≡_};
 ghost use Prim.Native.Nat.{_-_, _≤_};
 ghost use lib.ListN.{length};
-ghost use Rattle.reader.specs.Siz.{refused, moveOf, moveAt, sizAt, sizRead, sampleType};
+ghost use Rattle.types.specs.Refusals.{refusal};
+ghost use Rattle.reader.specs.Siz.{moveOf, moveAt, sizAt, sizRead, sampleType};
 use types::Refusal;
 use types::markers::SIZ;
+use types::siz;
 
 pub struct SizInfo {
     pub width: u32,
@@ -36,7 +38,7 @@ pub enum SampleType {
 }
 
 fn refuse(number: u32, place: u64) -> SizRead
-    ensures { λ r. ⌜ r ≡ refused number place ⌝ }
+    ensures { λ r. ⌜ r ≡ SizRead.Refused (refusal number place) ⌝ }
 {
     SizRead::Refused(Refusal { number, place })
 }
@@ -49,12 +51,12 @@ fn read_siz(codestream: &[u8], at: usize) -> SizRead
     if codestream.len() - at < 41 {
         return refuse(20, at as u64);
     }
-    let xsiz = numbers::read_u32(codestream, at + 6);
-    let ysiz = numbers::read_u32(codestream, at + 10);
-    let xosiz = numbers::read_u32(codestream, at + 14);
-    let yosiz = numbers::read_u32(codestream, at + 18);
-    let csiz = numbers::read_u16(codestream, at + 38);
-    let ssiz = codestream[at + 40];
+    let xsiz = numbers::read_u32(codestream, at + siz::XSIZ);
+    let ysiz = numbers::read_u32(codestream, at + siz::YSIZ);
+    let xosiz = numbers::read_u32(codestream, at + siz::XOSIZ);
+    let yosiz = numbers::read_u32(codestream, at + siz::YOSIZ);
+    let csiz = numbers::read_u16(codestream, at + siz::CSIZ);
+    let ssiz = codestream[at + siz::SSIZ];
     if xsiz < xosiz {
         return refuse(22, at as u64);
     }

@@ -5,21 +5,21 @@ use mathlib.Core.Path.{_≡_, sym, ap, _∙_}
 use mathlib.Core.List.{List, _++_}
 use lib.ListN.{length, drop, length-replicate}
 use Rattle.numbers.specs.Bytes.{put}
-use Rattle.numbers.proofs.Laws.{put-start}
+use Rattle.numbers.proofs.BytesLaws.{put-start}
 use Rattle.types.specs.declared.Refusal.{Refusal}
 use Rattle.types.specs.declared.TilePartEntry.{TilePartEntry}
 use Rattle.parts.specs.Scan.{entriesFrom, scanned}
 use Rattle.parts.specs.declared.scan.Scanned.{Scanned}
 use Rattle.parts.specs.declared.scan.Scanned.the-variants.{Table, Refused}
-use Rattle.parts.proofs.Answers.{answer-counts}
+use Rattle.parts.proofs.ScanAnswers.{answer-counts}
 use Rattle.header.specs.Tlm.{placed}
 use Rattle.header.specs.Walk.{walkFrom}
 use Rattle.header.specs.Strip.{tlmEntries}
 use Rattle.header.specs.Parse.{tlmTable}
 use Rattle.header.specs.declared.parse.MainHeaderInfo.{MainHeaderInfo}
 use Rattle.header.specs.declared.parse.MainHeader.the-variants.{Header}
-use Rattle.header.proofs.Answers.{Read}
-use Rattle.header.proofs.Tlms.{length-placed}
+use Rattle.header.proofs.ParseLaws.{Read}
+use Rattle.header.proofs.TlmLaws.{length-placed}
 use Rattle.records.specs.MainHeader.{recordsAfter}
 use Rattle.records.specs.Scan.{written, scannedRecords}
 use Rattle.records.specs.Tables.{none, blank}

@@ -1,5 +1,7 @@
 // The reading of a main header whose TLM records go to a slice of records lent by the caller. It decides everything
 // first, then writes. A refusal leaves table and output as they were.
+// Over a slice of records: a change of a function here is made in twins/records.twin too, then `python3 tools/twin.py records` (README.md,
+// "For the next developer").
 ghost use mathlib.Core.Path.{_≡_};
 ghost use Prim.Native.Nat.{_+_, _*_, _≤_, _<_, _^_};
 ghost use lib.ListN.{length};

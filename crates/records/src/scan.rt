@@ -1,4 +1,6 @@
 // The tile-parts of a codestream, one record each, in a slice of records lent by the caller (docs/RULES.md, "SOT scan").
+// Over a slice of records: a change of a function here is made in twins/records.twin too, then `python3 tools/twin.py records` (README.md,
+// "For the next developer").
 ghost use mathlib.Core.Path.{_≡_};
 ghost use Prim.Native.Nat.{_≤_};
 ghost use lib.ListN.{length};

@@ -1,4 +1,6 @@
 // Tables of a program's own: 2,048 records (docs/RULES.md, "Tables of records"), filled here and handed back with the answer.
+// Over a slice of records: a change of a function here is made in twins/records.twin too, then `python3 tools/twin.py records` (README.md,
+// "For the next developer").
 ghost use mathlib.Core.Path.{_≡_};
 ghost use lib.ListN.{length};
 ghost use Rattle.header.specs.Parse.{parsed, outAfter};

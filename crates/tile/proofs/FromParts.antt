@@ -6,14 +6,14 @@ use mathlib.Core.List.{List, [], _∷_, _++_, flatten, append-assoc}
 use lib.ListN.{length, take, drop, length-append}
 use lib.Seq.{take-append-seam, drop-append-seam}
 use Rattle.types.specs.Row.{rowsOf}
-use Rattle.types.proofs.Laws.{Fits}
+use Rattle.types.proofs.RowLaws.{Fits}
 use Rattle.tile.specs.Rewrite.{over}
 use Rattle.tile.specs.Assembly.{ranges, andPart, partsIn, assembled, answerFor, assemblyAnswer, assemblyOut}
 use Rattle.tile.specs.FromParts.{lying, laid}
 use Rattle.tile.specs.declared.assembly.Range.{Range}
 use Rattle.tile.specs.declared.rewrite.Written.{Written}
-use Rattle.tile.proofs.Ranges.{range-kept}
-use Rattle.tile.proofs.Rows.{All, none, more, ranges-back}
+use Rattle.tile.proofs.AssemblyRanges.{range-kept}
+use Rattle.tile.proofs.AssemblyRows.{All, none, more, ranges-back}
 
 laid-fits : (at : ℕ) (parts : List (List ℕ)) → at + length (flatten parts) < 2 ^ 64 → All Fits (laid at parts)
 unfolding laid flatten

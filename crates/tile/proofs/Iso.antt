@@ -1,6 +1,6 @@
 -- Where tile origin and image origin are one, and a tile's sums fit 32 bits, our rewrite of a SIZ by the standard gives a tile of the
--- grid its size by B-11. The fields are read where the rows before them end; a cell below the count of cells starts before the image ends, so
--- that no step of the rewrite fails; and the eight fields that it writes are rows again.
+-- grid its size by B-11. The fields are read where its rows have them (types, proofs/Iso.antt); a cell below the count of cells starts before the
+-- image ends, so that no step of the rewrite fails; and the eight fields that it writes are rows again.
 use Prim.Native.Nat.{ℕ, _+_, _-_, _*_, _^_, _≤_, _<_}
 use native.Mathlib.Nat.{add-mul, one-mul, mul-comm, zero-mul, mod-lt, le-div-iff-mul-le, div-lt-iff-lt-mul, pos-of-ne-zero}
 use native.Mathlib.Omega.{arith}
@@ -10,52 +10,21 @@ use mathlib.Core.List.{List, [], _∷_, _++_, append-assoc, append-nil}
 use lib.ListN.{length, take, drop, length-append}
 use lib.Seq.{take-at, drop-at}
 use lib.Dec.{eqb}
-use Rattle.numbers.specs.Bytes.{be, put}
+use Rattle.numbers.specs.Bytes.{put}
 use Rattle.numbers.specs.Rows.{Row, row, bytesOfRows, widths}
 use Rattle.numbers.specs.Ceiling.{ceilDiv}
 use Rattle.numbers.proofs.Choice.{by-test, by-bool}
-use Rattle.numbers.proofs.Rows.{length-rows, be-row}
-use Rattle.types.specs.Markers.{SIZ}
+use Rattle.numbers.proofs.Rows.{length-rows}
+use Rattle.types.specs.Siz.{XSIZ, xsiz, xosiz, xtsiz}
 use Rattle.types.specs.IsoSiz.{Size, componentRows, sizRows, Ranges, TileRanges}
-use Rattle.tile.specs.Siz.{xsiz, ysiz, xosiz, yosiz, xtsiz, ytsiz, xtosiz, ytosiz, pair, oneTile}
+use Rattle.types.proofs.IsoSiz.{Fields, TileFields, fields-standard, tile-fields-standard}
+use Rattle.tile.specs.Siz.{marker, pair, oneTile}
 use Rattle.tile.specs.Rewrite.{axisOf, columnsOf, sized, inGrid, sizeIn, tileSize, cutTo, judged, rewritten, over, rewriteAnswer, rewriteOut}
 use Rattle.tile.specs.Iso.{numXtiles, numYtiles, columnOf, rowOf, startOf, endOf, widthOf, heightOf, headerOf, cutSize, forTile}
 use Rattle.tile.specs.declared.rewrite.Axis.the-variants.{Extent}
 use Rattle.tile.specs.declared.rewrite.TileSize.{TileSize}
 use Rattle.tile.specs.declared.rewrite.Written.the-variants.{Bytes}
-use Rattle.tile.proofs.Rewrites.{axis-inside, columns-some, grid-both, size-siz, room-enough}
-
--- ---- the fields
-
--- what we read of a header is a SIZ's
-pub record Read (z : Size) (h : List ℕ) : Type 0 where
-  pub long : 40 ≤ length h
-  pub marker : be 2 h 2 ≡ SIZ
-  pub Xsiz : xsiz h ≡ z .Xsiz
-  pub Ysiz : ysiz h ≡ z .Ysiz
-  pub XOsiz : xosiz h ≡ z .XOsiz
-  pub YOsiz : yosiz h ≡ z .YOsiz
-  pub XTsiz : xtsiz h ≡ z .XTsiz
-  pub YTsiz : ytsiz h ≡ z .YTsiz
-  pub XTOsiz : xtosiz h ≡ z .XTOsiz
-  pub YTOsiz : ytosiz h ≡ z .YTOsiz
-
-pub fields-standard : (z : Size) (rest : List ℕ) → Ranges z → TileRanges z → Read z (headerOf z rest)
-unfolding sizRows componentRows widths
-fields-standard z rest g t =
-    let before : ℕ → List Row = λ k. take k (sizRows z) in
-    record {
-      long = rw (length-append, length-rows) (omega arith);
-      marker = be-row (before 1) 2 SIZ _ rest (omega arith);
-      Xsiz = be-row (before 4) 4 (z .Xsiz) _ rest (g .Xsiz);
-      Ysiz = be-row (before 5) 4 (z .Ysiz) _ rest (g .Ysiz);
-      XOsiz = be-row (before 6) 4 (z .XOsiz) _ rest (omega arith);
-      YOsiz = be-row (before 7) 4 (z .YOsiz) _ rest (omega arith);
-      XTsiz = be-row (before 8) 4 (z .XTsiz) _ rest (t .XTsiz .1);
-      YTsiz = be-row (before 9) 4 (z .YTsiz) _ rest (t .YTsiz .1);
-      XTOsiz = be-row (before 10) 4 (z .XTOsiz) _ rest (omega arith);
-      YTOsiz = be-row (before 11) 4 (z .YTOsiz) _ rest (omega arith);
-    }
+use Rattle.tile.proofs.RewriteLaws.{axis-inside, columns-some, grid-both, size-siz, room-enough}
 
 -- ---- one axis
 
@@ -128,10 +97,10 @@ one-rows : (width height : ℕ) → oneTile width height ≡ bytesOfRows (oneRow
 unfolding oneTile pair bytesOfRows
 one-rows width height = simp (append-assoc, append-nil)
 
-cut-rows : (z : Size) (rest : List ℕ) (width height : ℕ) → put (headerOf z rest) 8 (oneTile width height) ≡ headerOf (cutSize z width height) rest
+cut-rows : (z : Size) (rest : List ℕ) (width height : ℕ) → put (headerOf z rest) (marker + XSIZ) (oneTile width height) ≡ headerOf (cutSize z width height) rest
 unfolding sizRows componentRows cutSize widths
 cut-rows z rest width height =
-    ap (put (headerOf z rest) 8) (one-rows width height)
+    ap (put (headerOf z rest) (marker + XSIZ)) (one-rows width height)
     ∙ put-rows (take 4 (sizRows z)) (take 8 (drop 4 (sizRows z))) (oneRows width height) (drop 12 (sizRows z)) rest refl
 
 cut-ranges : (z : Size) (width height : ℕ) → Ranges z → 1 ≤ width → 1 ≤ height → width < 2 ^ 32 → height < 2 ^ 32
@@ -159,19 +128,20 @@ module _ (z : Size) (rest : List ℕ) (tile : ℕ) (g : Ranges z) (t : TileRange
   unfolding sizeIn numXtiles numYtiles columnOf rowOf widthOf heightOf
   tile-standard =
       let h : List ℕ = headerOf z rest in
-      let f : Read z h = fields-standard z rest g t in
-      let columns : columnsOf (xsiz h) (xosiz h) (xtsiz h) ≡ numXtiles z =
-      (λ i. columnsOf (f .Xsiz i) (f .XOsiz i) (f .XTsiz i))
+      let f : Fields z h = fields-standard z rest g in
+      let k : TileFields z h = tile-fields-standard z rest g t in
+      let columns : columnsOf (xsiz h marker) (xosiz h marker) (xtsiz h marker) ≡ numXtiles z =
+      (λ i. columnsOf (f .Xsiz i) (f .XOsiz i) (k .XTsiz i))
       ∙ columns-some (z .Xsiz) (z .XOsiz) (z .XTsiz) (omega arith) (λ e. omega arith)
       ∙ ap (λ (o : ℕ). ceilDiv (z .Xsiz - o) (z .XTsiz)) (sym x) in
-      size-siz h tile (f .long) (f .marker)
+      size-siz h tile (omega (arith, f .long)) (f .marker)
       ∙ ap (λ (n : ℕ). inGrid h n tile) columns
       ∙ grid-both h (numXtiles z) tile (λ e. omega (arith, columns-positive z tile inside)) (widthOf z tile) (heightOf z tile)
-      ((λ i. axisOf (f .Xsiz i) (f .XOsiz i) (f .XTsiz i) (columnOf z tile))
+      ((λ i. axisOf (f .Xsiz i) (f .XOsiz i) (k .XTsiz i) (columnOf z tile))
       ∙ axis-standard (z .Xsiz) (z .XOsiz) (z .XTOsiz) (z .XTsiz) (columnOf z tile) (t .XTsiz .0) (column-inside z tile inside) x fitsX)
-      ((λ i. axisOf (f .Ysiz i) (f .YOsiz i) (f .YTsiz i) (rowOf z tile))
+      ((λ i. axisOf (f .Ysiz i) (f .YOsiz i) (k .YTsiz i) (rowOf z tile))
       ∙ axis-standard (z .Ysiz) (z .YOsiz) (z .YTOsiz) (z .YTsiz) (rowOf z tile) (t .YTsiz .0) (row-inside z tile inside) y fitsY)
-      ∙ (λ i. sized (widthOf z tile) (heightOf z tile) (f .XTsiz i) (f .YTsiz i))
+      ∙ (λ i. sized (widthOf z tile) (heightOf z tile) (k .XTsiz i) (k .YTsiz i))
 
   -- With room for the header the rewrite is not refused.
   pub rewrite-standard : (room : ℕ) → length (headerOf z rest) ≤ room → rewriteAnswer (headerOf z rest) tile room ≡ Bytes (length (headerOf z rest))

@@ -1,8 +1,8 @@
-pub mod Rewrites
-pub mod Headers
-pub mod Ranges
-pub mod Rows
-pub mod Assemblies
+pub mod RewriteLaws
+pub mod RewriteHeader
+pub mod AssemblyRanges
+pub mod AssemblyRows
+pub mod AssemblyLaws
 pub mod FromParts
 pub mod Iso
 pub mod IsoSamples

@@ -8,7 +8,8 @@ use Rattle.numbers.specs.Bytes.{be, put}
 use Rattle.numbers.specs.Ceiling.{ceilDiv}
 use Rattle.types.specs.Refusals.{refusal}
 use Rattle.types.specs.Markers.{SIZ}
-use Rattle.tile.specs.Siz.{xsiz, ysiz, xosiz, yosiz, xtsiz, ytsiz, oneTile}
+use Rattle.types.specs.Siz.{XSIZ, xsiz, ysiz, xosiz, yosiz, xtsiz, ytsiz}
+use Rattle.tile.specs.Siz.{marker, oneTile}
 use Rattle.tile.specs.declared.rewrite.Axis.{Axis}
 use Rattle.tile.specs.declared.rewrite.Axis.the-variants.{Extent, Outside}
 use Rattle.tile.specs.declared.rewrite.TileSize.{TileSize}
@@ -42,7 +43,7 @@ unfoldable pub sized : ℕ → ℕ → ℕ → ℕ → TileSize
 sized width height xt yt = cond (eqb width xt && eqb height yt) size.Whole (size.Cut width height)
 
 abbrev pub outside : TileSize
-outside = size.Refused (refusal 10 2)
+outside = size.Refused (refusal 10 marker)
 
 unfoldable pub bothAxes : Axis → Axis → ℕ → ℕ → TileSize
 unfolding sized
@@ -55,22 +56,26 @@ unfoldable pub inGrid : List ℕ → ℕ → ℕ → TileSize
 unfolding bothAxes
 inGrid h columns tile =
     cond (eqb columns 0) outside
-    (bothAxes (axisOf (xsiz h) (xosiz h) (xtsiz h) (tile % columns)) (axisOf (ysiz h) (yosiz h) (ytsiz h) (tile / columns)) (xtsiz h) (ytsiz h))
+    (bothAxes
+    (axisOf (xsiz h marker) (xosiz h marker) (xtsiz h marker) (tile % columns))
+    (axisOf (ysiz h marker) (yosiz h marker) (ytsiz h marker) (tile / columns))
+    (xtsiz h marker)
+    (ytsiz h marker))
 
 unfoldable pub sizeIn : List ℕ → ℕ → TileSize
-sizeIn h tile = inGrid h (columnsOf (xsiz h) (xosiz h) (xtsiz h)) tile
+sizeIn h tile = inGrid h (columnsOf (xsiz h marker) (xosiz h marker) (xtsiz h marker)) tile
 
 -- a header under 40 bytes, or no SIZ at 2: the header stays
 unfoldable pub tileSize : List ℕ → ℕ → TileSize
 unfolding sizeIn
-tileSize h tile = cond (leb 40 (length h)) (cond (eqb (be 2 h 2) SIZ) (sizeIn h tile) size.Whole) size.Whole
+tileSize h tile = cond (leb 40 (length h)) (cond (eqb (be 2 h marker) SIZ) (sizeIn h tile) size.Whole) size.Whole
 
 -- ---- the header, the answer, the output
 
 -- the header for a tile's size
 unfoldable pub cutTo : TileSize → List ℕ → List ℕ
 cutTo size.Whole h = h
-cutTo (size.Cut width height) h = put h 8 (oneTile width height)
+cutTo (size.Cut width height) h = put h (marker + XSIZ) (oneTile width height)
 cutTo (size.Refused r) h = h
 
 -- only a header of 40 bytes is cut

@@ -1,12 +1,18 @@
-// SIZ made to describe one tile as the whole image (document 01, "SIZ rewrite"). Offsets are the header's, whose SIZ marker stands at 2.
+// The header for one tile. For a tile of full size it stays unchanged, with the whole image's size; for any other SIZ is made to
+// describe the tile as the whole image.
 ghost use mathlib.Core.Path.{_≡_};
 ghost use Prim.Native.Nat.{_+_, _≤_};
 ghost use lib.ListN.{length};
-ghost use Rattle.numbers.specs.Bytes.{put};
-ghost use Rattle.tile.specs.Siz.{pair, oneTile};
+ghost use Rattle.numbers.specs.Bytes.{be, put};
+ghost use Rattle.types.specs.Siz.{XSIZ};
+ghost use Rattle.tile.specs.Siz.{marker, pair, oneTile};
 ghost use Rattle.tile.specs.Rewrite.{axisOf, columnsOf, sized, sizeIn, tileSize, cutTo, Room, judged, rewriteAnswer, rewriteOut};
 use types::Refusal;
 use types::markers::SIZ;
+use types::siz;
+
+// Where the SIZ marker stands in a header: directly behind SOC.
+const MARKER: usize = 2;
 
 // A tile along one axis.
 pub enum Axis {
@@ -70,20 +76,28 @@ fn full_or_cut(width: u32, height: u32, xtsiz: u32, ytsiz: u32) -> TileSize
     TileSize::Whole
 }
 
+// A field of SIZ, by its place counted from the marker.
+fn field(header: &[u8], place: usize) -> u32
+    requires { ⌜ marker + place + 4 ≤ length (now header) ⌝ }
+    ensures { λ r. ⌜ r ≡ be 4 (now (header .entry)) (marker + place) ⌝ }
+{
+    numbers::read_u32(header, MARKER + place)
+}
+
 fn size_in(header: &[u8], isot: u16) -> TileSize
     requires { ⌜ 40 ≤ length (now header) ⌝ }
     ensures { λ r. ⌜ r ≡ sizeIn (now (header .entry)) isot ⌝ }
 {
     let outside = TileSize::Refused(Refusal {
         number: 10,
-        place: 2,
+        place: MARKER as u64,
     });
-    let xsiz = numbers::read_u32(header, 8);
-    let ysiz = numbers::read_u32(header, 12);
-    let xosiz = numbers::read_u32(header, 16);
-    let yosiz = numbers::read_u32(header, 20);
-    let xtsiz = numbers::read_u32(header, 24);
-    let ytsiz = numbers::read_u32(header, 28);
+    let xsiz = field(header, siz::XSIZ);
+    let ysiz = field(header, siz::YSIZ);
+    let xosiz = field(header, siz::XOSIZ);
+    let yosiz = field(header, siz::YOSIZ);
+    let xtsiz = field(header, siz::XTSIZ);
+    let ytsiz = field(header, siz::YTSIZ);
     let tile = isot as u32;
     let columns = columns(xsiz, xosiz, xtsiz);
     if columns == 0 {
@@ -108,7 +122,7 @@ pub fn tile_size(header: &[u8], isot: u16) -> TileSize
     if header.len() < 40 {
         return TileSize::Whole;
     }
-    if numbers::read_u16(header, 2) != SIZ {
+    if numbers::read_u16(header, MARKER) != SIZ {
         return TileSize::Whole;
     }
     size_in(header, isot)
@@ -130,10 +144,12 @@ pub fn judge(size: TileSize, needed: u64, room: u64) -> Written
     Written::Bytes(needed)
 }
 
-fn write_pair(out: &mut [u8], at: usize, across: u32, down: u32)
-    requires { ⌜ at + 8 ≤ length (now out) ⌝ }
-    ensures { λ _. ⌜ now (out .exit) ≡ put (now (out .entry)) at (pair across down) ⌝ }
+// Two fields, by the place of the first.
+fn write_pair(out: &mut [u8], place: usize, across: u32, down: u32)
+    requires { ⌜ marker + place + 8 ≤ length (now out) ⌝ }
+    ensures { λ _. ⌜ now (out .exit) ≡ put (now (out .entry)) (marker + place) (pair across down) ⌝ }
 {
+    let at = MARKER + place;
     numbers::write_u32(out, at, across);
     numbers::write_u32(out, at + 4, down);
 }
@@ -141,12 +157,12 @@ fn write_pair(out: &mut [u8], at: usize, across: u32, down: u32)
 // Image end and origin, tile size and origin.
 fn write_one_tile(out: &mut [u8], width: u32, height: u32)
     requires { ⌜ 40 ≤ length (now out) ⌝ }
-    ensures { λ _. ⌜ now (out .exit) ≡ put (now (out .entry)) 8 (oneTile width height) ⌝ }
+    ensures { λ _. ⌜ now (out .exit) ≡ put (now (out .entry)) (marker + XSIZ) (oneTile width height) ⌝ }
 {
-    write_pair(out, 8, width, height);
-    write_pair(out, 16, 0, 0);
-    write_pair(out, 24, width, height);
-    write_pair(out, 32, 0, 0);
+    write_pair(out, siz::XSIZ, width, height);
+    write_pair(out, siz::XOSIZ, 0, 0);
+    write_pair(out, siz::XTSIZ, width, height);
+    write_pair(out, siz::XTOSIZ, 0, 0);
 }
 
 pub fn write_header(header: &[u8], size: TileSize, out: &mut [u8])

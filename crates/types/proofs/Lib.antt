@@ -1,4 +1,5 @@
-pub mod Laws
+pub mod IsoSiz
 pub mod Offsets
-pub mod Standing
+pub mod RowLaws
+pub mod RowStanding
 pub mod lent

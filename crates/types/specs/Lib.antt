@@ -2,4 +2,5 @@ pub mod Markers
 pub mod Offsets
 pub mod Row
 pub mod Refusals
+pub mod Siz
 pub mod IsoSiz

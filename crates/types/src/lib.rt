@@ -1,6 +1,7 @@
 // What passes between the crates: refusals, the two kinds of offset, tile-part records, and a record's 18 bytes; and the
-// standard's marker codes.
+// standard's marker codes and places of fields.
 pub mod markers;
+pub mod siz;
 
 ghost use mathlib.Core.Path.{_≡_};
 ghost use Prim.Native.Nat.{_+_, _≤_, _<_, _^_};

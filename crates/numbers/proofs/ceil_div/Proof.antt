@@ -3,7 +3,7 @@ use Prim.Native.Nat.{_/_}
 use native.Mathlib.Nat.{div-add-mod', le-mul-of-pos-right}
 use native.Mathlib.Omega.{arith}
 use borrow.Author.Needs.{needs}
-use Rattle.numbers.proofs.Laws.{ceil-exact, ceil-more}
+use Rattle.numbers.proofs.BytesLaws.{ceil-exact, ceil-more}
 use Rattle.numbers.proofs.ceil_div.Statement.{statement}
 use Rattle.numbers.proofs.ceil_div.Tie as tie
 

@@ -1,7 +1,7 @@
 -- The part that is lent reaches to the end, so what the copy leaves is one replacement.
 use native.Mathlib.Omega.{arith}
 use borrow.Author.Needs.{needs}
-use Rattle.numbers.proofs.Laws.{put-copy}
+use Rattle.numbers.proofs.BytesLaws.{put-copy}
 use Rattle.numbers.proofs.copy_at.Statement.{statement}
 use Rattle.numbers.proofs.copy_at.Tie as tie
 

@@ -1,7 +1,7 @@
 -- Two halves that were read, joined by the law over the width.
 use native.Mathlib.Omega.{arith}
 use borrow.Author.Needs.{needs}
-use Rattle.numbers.proofs.Laws.{be-join}
+use Rattle.numbers.proofs.BytesLaws.{be-join}
 use Rattle.numbers.proofs.read_u32.Statement.{statement}
 use Rattle.numbers.proofs.read_u32.Tie as tie
 

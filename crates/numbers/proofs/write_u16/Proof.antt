@@ -6,7 +6,7 @@ use native.Mathlib.Omega.{arith}
 use mathlib.Core.List.{[], _∷_}
 use lib.ListN.{length-set}
 use borrow.Author.Needs.{needs}
-use Rattle.numbers.proofs.Laws.{put-sets}
+use Rattle.numbers.proofs.BytesLaws.{put-sets}
 use Rattle.numbers.specs.Bytes.{bytesOf}
 use Rattle.numbers.proofs.write_u16.Statement.{statement}
 use Rattle.numbers.proofs.write_u16.Tie as tie

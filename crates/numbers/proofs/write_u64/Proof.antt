@@ -1,6 +1,6 @@
 -- Two halves that were written, joined by the law over the width.
 use borrow.Author.Needs.{needs}
-use Rattle.numbers.proofs.Laws.{put-halves}
+use Rattle.numbers.proofs.BytesLaws.{put-halves}
 use Rattle.numbers.proofs.write_u64.Statement.{statement}
 use Rattle.numbers.proofs.write_u64.Tie as tie
 

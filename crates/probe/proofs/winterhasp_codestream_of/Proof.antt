@@ -6,8 +6,8 @@ use Rattle.probe.proofs.winterhasp_codestream_of.Tie as tie
 codestream-of-requires : tie.Need-codestream-of-requires
 codestream-of-requires c κs = search needs
 
-tell-part-requires : tie.Need-tell-part-requires
-tell-part-requires c κs = search needs
+tell-requires : tie.Need-tell-requires
+tell-requires c κs = search needs
 
 same-length : tie.Need-same-length
 same-length c = search needs
@@ -17,4 +17,4 @@ returns c = (cc, (cc, cc))
 
 pub winterhasp-codestream-of-spec : {M : Type 1} → statement M
 winterhasp-codestream-of-spec =
-    tie.close (tie.spec codestream-of-requires tell-part-requires same-length returns)
+    tie.close (tie.spec codestream-of-requires tell-requires same-length returns)

@@ -1,6 +1,6 @@
 -- Three writes that adjoin are the row.
 use borrow.Author.Needs.{needs}
-use Rattle.types.proofs.Laws.{put-row}
+use Rattle.types.proofs.RowLaws.{put-row}
 use Rattle.types.proofs.write_row.Statement.{statement}
 use Rattle.types.proofs.write_row.Tie as tie
 

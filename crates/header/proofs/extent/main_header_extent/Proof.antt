@@ -5,8 +5,8 @@ use mathlib.Core.List.{List}
 use mathlib.Core.Path.{_≡_, sym, _∙_}
 use lib.ListN.{length}
 use borrow.Author.Needs.{needs}
-use Rattle.header.proofs.Steps.{only-cut}
-use Rattle.header.proofs.Extents.{extent-few, extent-no-soc, extent-steps, move-inside, segment-on, delimiter-on, extent-on, extent-sot, extent-cut}
+use Rattle.header.proofs.StepLaws.{only-cut}
+use Rattle.header.proofs.ExtentLaws.{extent-few, extent-no-soc, extent-steps, move-inside, segment-on, delimiter-on, extent-on, extent-sot, extent-cut}
 use Rattle.header.specs.Step.{moveAt, stepsFrom}
 use Rattle.chain.specs.Chain.{on}
 use Rattle.header.specs.Extent.{extentOf, extentEnd}

@@ -2,7 +2,7 @@
 use native.Mathlib.Omega.{arith}
 use mathlib.Core.Path.{_≡_, sym, _∙_}
 use borrow.Author.Needs.{needs}
-use Rattle.header.proofs.Answers.{parsed-refused, parsed-18, parsed-17, parsed-header}
+use Rattle.header.proofs.ParseLaws.{parsed-refused, parsed-18, parsed-17, parsed-header}
 use Rattle.header.specs.declared.parse.MainHeader.the-variants.{Header}
 use Rattle.header.specs.Parse.{judged}
 use Rattle.header.proofs.parse.decide.Statement.{statement}

@@ -3,7 +3,7 @@ use native.Mathlib.Omega.{arith}
 use mathlib.Core.Path.{sym, _∙_}
 use borrow.Author.Tests.{not-true, not-false}
 use borrow.Author.Needs.{needs}
-use Rattle.header.proofs.Answers.{judged-long, judged-no-soc, judged-no-siz, judged-walk, stands-inside}
+use Rattle.header.proofs.ParseLaws.{judged-long, judged-no-soc, judged-no-siz, judged-walk, stands-inside}
 use Rattle.header.proofs.parse.judge.Statement.{statement}
 use Rattle.header.proofs.parse.judge.Tie as tie
 

@@ -4,7 +4,7 @@ use native.Mathlib.Omega.{arith}
 use mathlib.Core.Path.{_≡_, refl, sym, _∙_}
 use lib.ListN.{length}
 use borrow.Author.Needs.{needs}
-use Rattle.header.proofs.Answers.{Decided, parsed-decided, table-put, out-put}
+use Rattle.header.proofs.ParseLaws.{Decided, parsed-decided, table-put, out-put}
 use Rattle.header.specs.declared.parse.MainHeader.the-variants.{Header}
 use Rattle.header.specs.Parse.{parsed, tableAfter, outAfter}
 use Rattle.header.proofs.parse.parse_main_header.Statement.{statement}

@@ -4,12 +4,12 @@ use native.Mathlib.Omega.{arith}
 use mathlib.Core.Path.{_≡_, sym, _∙_}
 use lib.ListN.{length}
 use borrow.Author.Needs.{needs}
-use Rattle.header.proofs.Visited.{entries-few}
-use Rattle.header.proofs.Walks.{passed-is, only-found}
+use Rattle.header.proofs.WalkVisited.{entries-few}
+use Rattle.header.proofs.WalkLaws.{passed-is, only-found}
 use Rattle.header.specs.declared.parse.MainHeader.the-variants.{Header}
 use Rattle.header.specs.declared.walk.WalkStep.the-variants.{Passed}
 use Rattle.header.specs.Walk.{walkStepAt}
-use Rattle.header.proofs.Counting.{Counting, counting-start, counting-plain, counting-tlm, counted-found, counted-refused}
+use Rattle.header.proofs.ParseCounting.{Counting, counting-start, counting-plain, counting-tlm, counted-found, counted-refused}
 use Rattle.header.proofs.parse.walk.Statement.{statement}
 use Rattle.header.proofs.parse.walk.Tie as tie
 

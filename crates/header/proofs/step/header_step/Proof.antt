@@ -3,7 +3,7 @@ use native.Mathlib.Omega.{arith}
 use mathlib.Core.Bool.{false}
 use mathlib.Core.Path.{_≡_, sym, _∙_}
 use borrow.Author.Needs.{needs}
-use Rattle.header.proofs.Steps.{step-short, step-sot, step-delimiter, step-no-length, step-no-end, step-segment}
+use Rattle.header.proofs.StepLaws.{step-short, step-sot, step-delimiter, step-no-length, step-no-end, step-segment}
 use Rattle.header.specs.Step.{delimits, segmentEnd}
 use Rattle.types.specs.Markers.{SOT}
 use Rattle.numbers.specs.Bytes.{be}

@@ -4,8 +4,8 @@ use native.Mathlib.Omega.{arith}
 use mathlib.Core.Path.{_≡_, sym, _∙_, ap}
 use lib.ListN.{length}
 use borrow.Author.Needs.{needs}
-use Rattle.header.proofs.Stripping.{Stripping, stripping-start, stripping-plain, stripping-tlm, stripping-done}
-use Rattle.header.proofs.Walks.{passed-is, walk-none}
+use Rattle.header.proofs.StripLaws.{Stripping, stripping-start, stripping-plain, stripping-tlm, stripping-done}
+use Rattle.header.proofs.WalkLaws.{passed-is, walk-none}
 use Rattle.header.specs.declared.walk.WalkStep.the-variants.{Passed}
 use Rattle.header.specs.Strip.{kept}
 use Rattle.header.specs.Walk.{walkStepAt}

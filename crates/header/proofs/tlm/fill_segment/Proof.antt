@@ -3,8 +3,8 @@ use Prim.Native.Nat.{ℕ, _+_, _-_, _^_, _<_}
 use native.Mathlib.Omega.{arith}
 use mathlib.Core.Path.{refl}
 use lib.ListN.{getD}
-use Rattle.types.proofs.Standing.{rows}
-use Rattle.header.proofs.Fills.{Filled, none-filled, all-filled, one-room, turn, entry-bound}
+use Rattle.types.proofs.RowStanding.{rows}
+use Rattle.header.proofs.TlmFill.{Filled, none-filled, all-filled, one-room, turn, entry-bound}
 use Rattle.header.proofs.tlm.fill_segment.Statement.{statement}
 use Rattle.header.proofs.tlm.fill_segment.Tie as tie
 

@@ -2,7 +2,7 @@
 use native.Mathlib.Omega.{arith}
 use mathlib.Core.Path.{sym, _∙_}
 use borrow.Author.Needs.{needs}
-use Rattle.header.proofs.Tlms.{tlm-short, tlm-unknown, tlm-entries}
+use Rattle.header.proofs.TlmLaws.{tlm-short, tlm-unknown, tlm-entries}
 use Rattle.header.specs.Tlm.{tlmAt, entryCount}
 use Rattle.header.specs.Step.{segmentEnd}
 use Rattle.header.proofs.tlm.tlm_at.Statement.{statement}

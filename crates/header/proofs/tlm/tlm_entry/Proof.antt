@@ -4,7 +4,7 @@ use native.Mathlib.Omega.{arith}
 use lib.ListN.{length}
 use borrow.Author.Needs.{needs}
 use Rattle.header.specs.Step.{segmentEnd}
-use Rattle.header.proofs.Fills.{entry-inside, entry-read, count-bound, length-sizes}
+use Rattle.header.proofs.TlmFill.{entry-inside, entry-read, count-bound, length-sizes}
 use Rattle.header.proofs.tlm.tlm_entry.Statement.{statement}
 use Rattle.header.proofs.tlm.tlm_entry.Tie as tie
 

@@ -1,7 +1,7 @@
 -- By the marker, and of a TLM segment by what it holds.
 use mathlib.Core.Path.{sym, _∙_, ap}
 use borrow.Author.Needs.{needs}
-use Rattle.header.proofs.Walks.{pass-other, pass-tlm}
+use Rattle.header.proofs.WalkLaws.{pass-other, pass-tlm}
 use Rattle.header.specs.Walk.{tlmStep}
 use Rattle.header.proofs.walk.pass.Statement.{statement}
 use Rattle.header.proofs.walk.pass.Tie as tie

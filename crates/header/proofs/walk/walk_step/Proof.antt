@@ -2,8 +2,8 @@
 use mathlib.Core.Logic.{⊎-elim}
 use mathlib.Core.Path.{_≡_, sym, _∙_, ap}
 use borrow.Author.Needs.{needs}
-use Rattle.header.proofs.Steps.{only-cut}
-use Rattle.header.proofs.Walks.{walk-sot, walk-cut, walk-segment, walk-delimiter, delimiter-marks, segment-marks}
+use Rattle.header.proofs.StepLaws.{only-cut}
+use Rattle.header.proofs.WalkLaws.{walk-sot, walk-cut, walk-segment, walk-delimiter, delimiter-marks, segment-marks}
 use Rattle.header.specs.Walk.{Markers, passedAt, walkStepAt}
 use Rattle.header.specs.declared.walk.WalkStep.the-variants.{Refused}
 use Rattle.header.specs.declared.step.HeaderStep.the-variants.{Delimiter, Segment}

@@ -2,7 +2,7 @@
 use Prim.Native.Nat.{ℕ}
 use mathlib.Core.Path.{_≡_, sym, ap, _∙_}
 use borrow.Author.Needs.{needs}
-use Rattle.parts.proofs.Answers.{answer-refused, answer-no-room, answer-table}
+use Rattle.parts.proofs.ScanAnswers.{answer-refused, answer-no-room, answer-table}
 use Rattle.parts.specs.declared.scan.Scanned.the-variants.{Table}
 use Rattle.parts.specs.Scan.{scanFrom, judged}
 use Rattle.parts.proofs.scan.decide.Statement.{statement}

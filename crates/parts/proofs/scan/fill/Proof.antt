@@ -1,11 +1,11 @@
 -- The rows that are left, put where the next row goes, make the table that all rows make of the one lent; a turn puts one.
 use Prim.Native.Nat.{_-_}
 use native.Mathlib.Omega.{arith}
-use Rattle.types.proofs.Laws.{length-rows}
-use Rattle.types.proofs.Standing.{rows}
+use Rattle.types.proofs.RowLaws.{length-rows}
+use Rattle.types.proofs.RowStanding.{rows}
 use Rattle.parts.specs.Scan.{entriesFrom}
-use Rattle.parts.proofs.Scans.{leads-inside}
-use Rattle.parts.proofs.Fills.{Filled, none-filled, stands, one-room, turn, all-filled}
+use Rattle.parts.proofs.ScanLaws.{leads-inside}
+use Rattle.parts.proofs.ScanFill.{Filled, none-filled, stands, one-room, turn, all-filled}
 use Rattle.parts.proofs.scan.fill.Statement.{statement}
 use Rattle.parts.proofs.scan.fill.Tie as tie
 

@@ -5,7 +5,7 @@ use mathlib.Core.List.{List}
 use mathlib.Core.Path.{_≡_, refl, sym, ap, ap₂, _∙_}
 use lib.ListN.{length}
 use borrow.Author.Needs.{needs}
-use Rattle.parts.proofs.Scans.{part-stands, part-offset, stop, scan-part, scan-ended, scan-refused}
+use Rattle.parts.proofs.ScanLaws.{part-stands, part-offset, stop, scan-part, scan-ended, scan-refused}
 use Rattle.parts.specs.declared.scan.ScanStep.the-variants.{Part}
 use Rattle.parts.specs.Scan.{ScanEnd, scanStepAt, scanFrom, judged, endedAs}
 use Rattle.chain.specs.Chain.{Chain, also}

@@ -4,7 +4,7 @@ use native.Mathlib.Omega.{arith}
 use mathlib.Core.Path.{_≡_, sym, _∙_}
 use lib.ListN.{length}
 use borrow.Author.Needs.{needs}
-use Rattle.parts.proofs.Answers.{answer-counts, table-kept, table-filled}
+use Rattle.parts.proofs.ScanAnswers.{answer-counts, table-kept, table-filled}
 use Rattle.parts.specs.declared.scan.Scanned.the-variants.{Table}
 use Rattle.parts.specs.Scan.{scanned}
 use Rattle.parts.proofs.scan.scan_sot_markers.Statement.{statement}

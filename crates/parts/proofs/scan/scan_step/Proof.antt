@@ -2,7 +2,7 @@
 use native.Mathlib.Omega.{arith}
 use mathlib.Core.Path.{sym, _∙_}
 use borrow.Author.Needs.{needs}
-use Rattle.parts.proofs.Scans.{step-outside, step-eoc, step-short, step-other, step-sot}
+use Rattle.parts.proofs.ScanLaws.{step-outside, step-eoc, step-short, step-other, step-sot}
 use Rattle.parts.proofs.scan.scan_step.Statement.{statement}
 use Rattle.parts.proofs.scan.scan_step.Tie as tie
 

@@ -2,7 +2,7 @@
 use native.Mathlib.Omega.{arith}
 use mathlib.Core.Path.{_≡_, sym, ap, _∙_}
 use borrow.Author.Needs.{needs}
-use Rattle.parts.proofs.Scans.{sot-lsot, sot-rest, sot-past, sot-part}
+use Rattle.parts.proofs.ScanLaws.{sot-lsot, sot-rest, sot-past, sot-part}
 use Rattle.parts.specs.declared.scan.ScanStep.the-variants.{Part}
 use Rattle.parts.specs.Scan.{entryOf}
 use Rattle.parts.specs.Sot.{lsot}

@@ -2,7 +2,7 @@
 use native.Mathlib.Omega.{arith}
 use mathlib.Core.Path.{_≡_, sym, _∙_}
 use borrow.Author.Needs.{needs}
-use Rattle.parts.proofs.Splits.{step-few, part-inside, standing-none, standing-part}
+use Rattle.parts.proofs.SplitLaws.{step-few, part-inside, standing-none, standing-part}
 use Rattle.parts.specs.declared.split.SplitStep.the-variants.{Part}
 use Rattle.parts.specs.Split.{splitStepAt}
 use Rattle.parts.proofs.split.split_at.Statement.{statement}

@@ -5,7 +5,7 @@ use native.Mathlib.Omega.{arith}
 use mathlib.Core.Path.{_≡_, sym, ap, _∙_}
 use lib.ListN.{length}
 use borrow.Author.Needs.{needs}
-use Rattle.parts.proofs.Splits.{part-inside, parts-on, parts-ended}
+use Rattle.parts.proofs.SplitLaws.{part-inside, parts-on, parts-ended}
 use Rattle.parts.specs.declared.split.SplitStep.the-variants.{Part}
 use Rattle.parts.specs.Split.{splitStepAt, partsFrom, partsOf}
 use Rattle.parts.proofs.split.split_count.Statement.{statement}

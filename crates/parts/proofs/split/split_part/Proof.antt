@@ -6,7 +6,7 @@ use mathlib.Core.List.{List, [], _∷_}
 use mathlib.Core.Path.{_≡_, refl, sym, ap, _∙_}
 use lib.ListN.{length, getD}
 use borrow.Author.Needs.{needs}
-use Rattle.parts.proofs.Splits.{part-inside, parts-on, parts-ended}
+use Rattle.parts.proofs.SplitLaws.{part-inside, parts-on, parts-ended}
 use Rattle.parts.specs.declared.split.SplitStep.the-variants.{Part}
 use Rattle.parts.specs.Split.{splitStepAt, partsFrom, partsOf}
 use Rattle.parts.proofs.split.split_part.Statement.{statement}

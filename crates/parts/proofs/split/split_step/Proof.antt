@@ -3,7 +3,7 @@ use Prim.Native.Nat.{ℕ, _+_}
 use native.Mathlib.Omega.{arith}
 use mathlib.Core.Path.{_≡_, sym, ap, _∙_}
 use borrow.Author.Needs.{needs}
-use Rattle.parts.proofs.Splits.{step-few, step-other, step-part, end-rest, end-past, end-psot}
+use Rattle.parts.proofs.SplitLaws.{step-few, step-other, step-part, end-rest, end-past, end-psot}
 use Rattle.parts.specs.declared.split.SplitStep.the-variants.{Part}
 use Rattle.parts.specs.Split.{partEnd, splitStepAt}
 use Rattle.parts.proofs.split.split_step.Statement.{statement}

@@ -8,8 +8,8 @@ use Rattle.probe.proofs.main_header.winterhasp_header_records.Proof.Tie
 parse-main-header-requires : tie.Need-parse-main-header-requires
 parse-main-header-requires c κs = search needs
 
-tell-header-requires : tie.Need-tell-header-requires
-tell-header-requires c κs = search needs
+tell-requires : tie.Need-tell-requires
+tell-requires c κs = search needs
 
 same-length : tie.Need-same-length
 same-length c = search needs
@@ -23,4 +23,4 @@ returns c = (cc, (cc, (cc, (cc, (cc, cc)))))
 pub winterhasp-header-records-spec : {M : Type 1} → statement M
 winterhasp-header-records-spec =
     tie.close
-    (tie.spec parse-main-header-requires tell-header-requires same-length same-length-2 returns)
+    (tie.spec parse-main-header-requires tell-requires same-length same-length-2 returns)

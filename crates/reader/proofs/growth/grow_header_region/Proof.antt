@@ -5,7 +5,7 @@ use mathlib.Core.Path.{_≡_, refl, sym, _∙_}
 use lib.Seq.{length-take-le}
 use lib.ListN.{length}
 use borrow.Author.Needs.{needs}
-use Rattle.reader.proofs.Regions.{region-early, region-48, whole-suffices, complete-suffices, truncated-not, turn-last, turn-part, turn-more}
+use Rattle.reader.proofs.GrowthLaws.{region-early, region-48, whole-suffices, complete-suffices, truncated-not, turn-last, turn-part, turn-more}
 use Rattle.reader.specs.Growth.{regionAt, growthFrom, grownAt, grown}
 use Rattle.reader.proofs.growth.grow_header_region.Statement.{statement}
 use Rattle.reader.proofs.growth.grow_header_region.Tie as tie

@@ -4,7 +4,7 @@ use native.Mathlib.Omega.{arith}
 use mathlib.Core.Path.{_≡_, sym, _∙_}
 use borrow.Author.Needs.{needs}
 use Rattle.reader.specs.declared.search.BoxRead.the-variants.{Box}
-use Rattle.reader.proofs.Boxes.{box-end, box-cut, box-extended, box-to-end, box-plain, copied, copied-first}
+use Rattle.reader.proofs.SearchLaws.{box-end, box-cut, box-extended, box-to-end, box-plain, copied, copied-first}
 use Rattle.numbers.specs.Bytes.{be}
 use Rattle.reader.proofs.search.box_at.Statement.{statement}
 use Rattle.reader.proofs.search.box_at.Tie as tie

@@ -1,7 +1,7 @@
 -- At each return what was read chooses the case of the definition.
 use mathlib.Core.Path.{sym, _∙_}
 use borrow.Author.Needs.{needs}
-use Rattle.reader.proofs.Boxes.{move-end, move-cut, move-jp2c, move-past}
+use Rattle.reader.proofs.SearchLaws.{move-end, move-cut, move-jp2c, move-past}
 use Rattle.chain.specs.Chain.{end}
 use Rattle.reader.proofs.search.box_step.Statement.{statement}
 use Rattle.reader.proofs.search.box_step.Tie as tie

@@ -5,7 +5,7 @@ use mathlib.Core.Path.{_≡_, sym, ap₂, _∙_}
 use lib.ListN.{length, take, drop}
 use borrow.Author.Needs.{needs}
 use Rattle.types.proofs.Offsets.{Sum, in-file-sum}
-use Rattle.reader.proofs.Boxes.{inside-at, content-found, content-none}
+use Rattle.reader.proofs.SearchLaws.{inside-at, content-found, content-none}
 use Rattle.reader.proofs.search.codestream_of.Statement.{statement}
 use Rattle.reader.proofs.search.codestream_of.Tie as tie
 

@@ -6,7 +6,7 @@ use borrow.Author.Needs.{needs}
 use Rattle.reader.specs.declared.search.Found.the-variants.{Codestream}
 use Rattle.types.proofs.Offsets.{Difference, in-codestream-difference}
 use Rattle.reader.specs.Search.{content}
-use Rattle.reader.proofs.Boxes.{content-15, content-16, content-part}
+use Rattle.reader.proofs.SearchLaws.{content-15, content-16, content-part}
 use Rattle.reader.proofs.search.content_of_box.Statement.{statement}
 use Rattle.reader.proofs.search.content_of_box.Tie as tie
 

@@ -1,6 +1,6 @@
 -- Eight bytes that were read one after the other.
 use borrow.Author.Needs.{needs}
-use Rattle.reader.proofs.Boxes.{eight-of}
+use Rattle.reader.proofs.SearchLaws.{eight-of}
 use Rattle.reader.proofs.search.copy_out.Statement.{statement}
 use Rattle.reader.proofs.search.copy_out.Tie as tie
 

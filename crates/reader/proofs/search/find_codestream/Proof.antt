@@ -2,7 +2,7 @@
 use native.Mathlib.Omega.{arith}
 use mathlib.Core.Path.{sym, _∙_}
 use borrow.Author.Needs.{needs}
-use Rattle.reader.proofs.Boxes.{found-few, found-jp2, found-neither, found-whole}
+use Rattle.reader.proofs.SearchLaws.{found-few, found-jp2, found-neither, found-whole}
 use Rattle.reader.proofs.search.find_codestream.Statement.{statement}
 use Rattle.reader.proofs.search.find_codestream.Tie as tie
 

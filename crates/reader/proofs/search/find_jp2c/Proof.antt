@@ -4,7 +4,7 @@ use native.Mathlib.Omega.{arith}
 use mathlib.Core.Path.{_≡_, refl, sym, ap, _∙_}
 use lib.ListN.{length}
 use borrow.Author.Needs.{needs}
-use Rattle.reader.proofs.Boxes.{rises, found-end, found-on}
+use Rattle.reader.proofs.SearchLaws.{rises, found-end, found-on}
 use Rattle.reader.specs.Search.{moveOf, foundFrom}
 use Rattle.reader.proofs.search.find_jp2c.Statement.{statement}
 use Rattle.reader.proofs.search.find_jp2c.Tie as tie

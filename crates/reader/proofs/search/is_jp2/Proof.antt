@@ -3,7 +3,7 @@ use native.Mathlib.Omega.{arith}
 use mathlib.Core.Path.{sym, ap, _∙_}
 use lib.Dec.{eqb}
 use borrow.Author.Needs.{needs}
-use Rattle.reader.proofs.Boxes.{jp2-short, jp2-other, jp2-last}
+use Rattle.reader.proofs.SearchLaws.{jp2-short, jp2-other, jp2-last}
 use Rattle.reader.proofs.search.is_jp2.Statement.{statement}
 use Rattle.reader.proofs.search.is_jp2.Tie as tie
 

@@ -2,7 +2,7 @@
 use native.Mathlib.Omega.{arith}
 use mathlib.Core.Path.{sym, _∙_}
 use borrow.Author.Needs.{needs}
-use Rattle.reader.proofs.Boxes.{passed-14, passed-16, passed-on}
+use Rattle.reader.proofs.SearchLaws.{passed-14, passed-16, passed-on}
 use Rattle.chain.specs.Chain.{end}
 use Rattle.reader.proofs.search.pass_box.Statement.{statement}
 use Rattle.reader.proofs.search.pass_box.Tie as tie

@@ -4,7 +4,7 @@ use native.Mathlib.Omega.{arith}
 use mathlib.Core.Path.{_≡_, refl, sym, ap, _∙_}
 use lib.ListN.{length}
 use borrow.Author.Needs.{needs}
-use Rattle.reader.proofs.Sizes.{rises, read-end, read-on}
+use Rattle.reader.proofs.SizLaws.{rises, read-end, read-on}
 use Rattle.reader.specs.Siz.{moveOf, sizFrom, sizRead}
 use Rattle.reader.proofs.siz.parse_siz_marker.Statement.{statement}
 use Rattle.reader.proofs.siz.parse_siz_marker.Tie as tie

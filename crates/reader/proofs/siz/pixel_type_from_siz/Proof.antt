@@ -1,7 +1,7 @@
 -- The ranges, in the definition's order.
 use native.Mathlib.Omega.{arith}
 use mathlib.Core.Path.{sym}
-use Rattle.reader.proofs.Sizes.{sample-8, sample-16, sample-32, sample-none, sample-many}
+use Rattle.reader.proofs.SizLaws.{sample-8, sample-16, sample-32, sample-none, sample-many}
 use Rattle.reader.proofs.siz.pixel_type_from_siz.Statement.{statement}
 use Rattle.reader.proofs.siz.pixel_type_from_siz.Tie as tie
 

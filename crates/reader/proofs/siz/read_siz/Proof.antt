@@ -2,7 +2,7 @@
 use native.Mathlib.Omega.{arith}
 use mathlib.Core.Path.{sym, _∙_}
 use borrow.Author.Needs.{needs}
-use Rattle.reader.proofs.Sizes.{siz-short, siz-left, siz-above, siz-info, info-of}
+use Rattle.reader.proofs.SizLaws.{siz-short, siz-left, siz-above, siz-info, info-of}
 use Rattle.reader.proofs.siz.read_siz.Statement.{statement}
 use Rattle.reader.proofs.siz.read_siz.Tie as tie
 

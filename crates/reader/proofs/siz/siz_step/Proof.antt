@@ -3,7 +3,7 @@ use Prim.Native.Nat.{_+_}
 use native.Mathlib.Omega.{arith}
 use mathlib.Core.Path.{sym, _∙_}
 use borrow.Author.Needs.{needs}
-use Rattle.reader.proofs.Sizes.{not-siz, move-few, move-siz, move-byte, move-no-length, move-segment}
+use Rattle.reader.proofs.SizLaws.{not-siz, move-few, move-siz, move-byte, move-no-length, move-segment}
 use Rattle.chain.specs.Chain.{end, on}
 use Rattle.reader.proofs.siz.siz_step.Statement.{statement}
 use Rattle.reader.proofs.siz.siz_step.Tie as tie

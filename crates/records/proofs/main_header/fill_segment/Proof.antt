@@ -6,9 +6,9 @@ use native.Mathlib.Nat.{add-zero}
 use native.Mathlib.Omega.{arith}
 use lib.ListN.{getD}
 use borrow.Author.Needs.{needs}
-use Rattle.numbers.proofs.Laws.{put-one}
-use Rattle.types.proofs.Standing.{records}
-use Rattle.header.proofs.Fills.{Filled, none-filled, all-filled, one-room, turn, entry-bound}
+use Rattle.numbers.proofs.BytesLaws.{put-one}
+use Rattle.types.proofs.RowStanding.{records}
+use Rattle.header.proofs.TlmFill.{Filled, none-filled, all-filled, one-room, turn, entry-bound}
 use Rattle.records.proofs.main_header.fill_segment.Statement.{statement}
 use Rattle.records.proofs.main_header.fill_segment.Proof.Tie as tie
 

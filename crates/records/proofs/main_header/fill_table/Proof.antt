@@ -6,10 +6,10 @@ use native.Mathlib.Omega.{arith}
 use mathlib.Core.Path.{_≡_, sym, _∙_}
 use lib.ListN.{length}
 use borrow.Author.Needs.{needs}
-use Rattle.types.proofs.Standing.{records}
-use Rattle.header.proofs.Filling.{Filling, count-ahead, filling-start, filling-plain, filling-tlm, filling-done}
-use Rattle.header.proofs.Visited.{entriesFrom}
-use Rattle.header.proofs.Walks.{passed-is, walk-none}
+use Rattle.types.proofs.RowStanding.{records}
+use Rattle.header.proofs.ParseFilling.{Filling, count-ahead, filling-start, filling-plain, filling-tlm, filling-done}
+use Rattle.header.proofs.WalkVisited.{entriesFrom}
+use Rattle.header.proofs.WalkLaws.{passed-is, walk-none}
 use Rattle.header.specs.declared.walk.WalkStep.the-variants.{Passed}
 use Rattle.header.specs.Walk.{walkStepAt}
 use Rattle.records.proofs.main_header.fill_table.Statement.{statement}

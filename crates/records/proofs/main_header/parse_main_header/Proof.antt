@@ -5,7 +5,7 @@ use native.Mathlib.Omega.{arith}
 use mathlib.Core.Path.{_≡_, refl, sym, _∙_}
 use lib.ListN.{length}
 use borrow.Author.Needs.{needs}
-use Rattle.header.proofs.Answers.{Decided, parsed-decided, out-put}
+use Rattle.header.proofs.ParseLaws.{Decided, parsed-decided, out-put}
 use Rattle.records.proofs.Answers.{records-put}
 use Rattle.header.specs.declared.parse.MainHeader.the-variants.{Header}
 use Rattle.header.specs.Parse.{parsed, outAfter}

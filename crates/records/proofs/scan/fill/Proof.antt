@@ -4,10 +4,10 @@ mod Tie
 use Prim.Native.Nat.{_-_}
 use native.Mathlib.Omega.{arith}
 use borrow.Author.Needs.{needs}
-use Rattle.numbers.proofs.Laws.{put-one}
-use Rattle.types.proofs.Standing.{records}
-use Rattle.parts.proofs.Scans.{leads-inside}
-use Rattle.parts.proofs.Fills.{Filled, none-filled, stands, one-room, turn, all-filled}
+use Rattle.numbers.proofs.BytesLaws.{put-one}
+use Rattle.types.proofs.RowStanding.{records}
+use Rattle.parts.proofs.ScanLaws.{leads-inside}
+use Rattle.parts.proofs.ScanFill.{Filled, none-filled, stands, one-room, turn, all-filled}
 use Rattle.records.proofs.scan.fill.Statement.{statement}
 use Rattle.records.proofs.scan.fill.Proof.Tie as tie
 

@@ -6,7 +6,7 @@ use lib.ListN.{length}
 use borrow.Author.Needs.{needs}
 use Rattle.parts.specs.declared.scan.Scanned.the-variants.{Table}
 use Rattle.parts.specs.Scan.{scanned}
-use Rattle.parts.proofs.Answers.{answer-counts}
+use Rattle.parts.proofs.ScanAnswers.{answer-counts}
 use Rattle.records.proofs.Answers.{table-kept, table-filled}
 use Rattle.records.proofs.scan.scan_sot_markers.Statement.{statement}
 use Rattle.records.proofs.scan.scan_sot_markers.Proof.Tie as tie

@@ -6,13 +6,13 @@ use mathlib.Core.List.{List, _++_, append-assoc}
 use mathlib.Core.Path.{_≡_, sym, ap, _∙_}
 use lib.ListN.{length, length-append}
 use borrow.Author.Needs.{needs}
-use Rattle.tile.proofs.Assemblies.{for-room, length-assembled, judged-saturated}
-use Rattle.tile.proofs.Headers.{length-cut, judged-bytes, over-refused, over-bytes}
+use Rattle.tile.proofs.AssemblyLaws.{for-room, length-assembled, judged-saturated}
+use Rattle.tile.proofs.RewriteHeader.{length-cut, judged-bytes, over-refused, over-bytes}
 use Rattle.tile.specs.declared.rewrite.TileSize.{TileSize}
 use Rattle.tile.specs.Assembly.{ranges, partsIn, sizeFor, joined, assembled, answerFor, assemblyAnswer, assemblyOut}
 use Rattle.tile.specs.Rewrite.{cutTo, judged}
 use Rattle.types.specs.Markers.{EOC}
-use Rattle.numbers.proofs.Laws.{length-bytes, put-put}
+use Rattle.numbers.proofs.BytesLaws.{length-bytes, put-put}
 use Rattle.numbers.specs.Bytes.{bytesOf, put}
 use Rattle.tile.proofs.assembly.build_minimal_codestream.Statement.{statement}
 use Rattle.tile.proofs.assembly.build_minimal_codestream.Tie as tie

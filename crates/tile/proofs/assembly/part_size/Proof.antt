@@ -1,7 +1,7 @@
 -- The test is the definition's; with it Isot's two bytes are there.
 use mathlib.Core.Path.{sym, _∙_}
 use borrow.Author.Needs.{needs}
-use Rattle.tile.proofs.Assemblies.{sot-long, part-sot, part-other}
+use Rattle.tile.proofs.AssemblyLaws.{sot-long, part-sot, part-other}
 use Rattle.tile.proofs.assembly.part_size.Statement.{statement}
 use Rattle.tile.proofs.assembly.part_size.Tie as tie
 

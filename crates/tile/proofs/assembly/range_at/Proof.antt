@@ -2,7 +2,7 @@
 use native.Mathlib.Omega.{arith}
 use mathlib.Core.Path.{sym, ap, ap₂, _∙_}
 use borrow.Author.Needs.{needs}
-use Rattle.tile.proofs.Ranges.{range-kept, range-dropped}
+use Rattle.tile.proofs.AssemblyRanges.{range-kept, range-dropped}
 use Rattle.tile.specs.Assembly.{rangeOf}
 use Rattle.tile.specs.declared.assembly.Range.the-variants.{Kept}
 use Rattle.tile.proofs.assembly.range_at.Statement.{statement}

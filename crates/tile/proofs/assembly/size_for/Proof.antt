@@ -5,8 +5,8 @@ use mathlib.Core.Path.{_≡_, refl, sym, ap, _∙_}
 use lib.ListN.{length}
 use borrow.Author.Needs.{needs}
 use Rattle.tile.specs.declared.assembly.Range.the-variants.{Kept}
-use Rattle.tile.proofs.Assemblies.{for-first, for-none}
-use Rattle.tile.proofs.Ranges.{kept-inside, partsFrom, parts-none, parts-kept, parts-dropped}
+use Rattle.tile.proofs.AssemblyLaws.{for-first, for-none}
+use Rattle.tile.proofs.AssemblyRanges.{kept-inside, partsFrom, parts-none, parts-kept, parts-dropped}
 use Rattle.tile.specs.Assembly.{rangeOf, ranges, sizeFor}
 use Rattle.types.specs.Row.{entryAt}
 use Rattle.tile.proofs.assembly.size_for.Statement.{statement}

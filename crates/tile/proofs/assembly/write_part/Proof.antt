@@ -4,9 +4,9 @@ use native.Mathlib.Omega.{arith}
 use mathlib.Core.List.{List}
 use mathlib.Core.Path.{sym, ap, _∙_}
 use borrow.Author.Needs.{needs}
-use Rattle.tile.proofs.Assemblies.{sot-long, patched-sot, patched-other}
+use Rattle.tile.proofs.AssemblyLaws.{sot-long, patched-sot, patched-other}
 use Rattle.numbers.specs.Bytes.{bytesOf, put}
-use Rattle.numbers.proofs.Laws.{length-bytes, put-inside}
+use Rattle.numbers.proofs.BytesLaws.{length-bytes, put-inside}
 use Rattle.tile.proofs.assembly.write_part.Statement.{statement}
 use Rattle.tile.proofs.assembly.write_part.Tie as tie
 

@@ -5,12 +5,12 @@ use mathlib.Core.List.{List}
 use mathlib.Core.Path.{_≡_, refl, sym, ap, _∙_}
 use lib.ListN.{length, take, drop}
 use borrow.Author.Needs.{needs}
-use Rattle.tile.proofs.Assemblies.{joined-none, joined-next, length-kept, length-patched}
-use Rattle.tile.proofs.Ranges.{kept-inside, length-part, partsFrom, parts-none, parts-kept, parts-dropped}
+use Rattle.tile.proofs.AssemblyLaws.{joined-none, joined-next, length-kept, length-patched}
+use Rattle.tile.proofs.AssemblyRanges.{kept-inside, length-part, partsFrom, parts-none, parts-kept, parts-dropped}
 use Rattle.tile.specs.Assembly.{rangeOf, ranges, patched, joined}
 use Rattle.tile.specs.declared.assembly.Range.the-variants.{Kept, Dropped}
 use Rattle.types.specs.Row.{entryAt}
-use Rattle.numbers.proofs.Laws.{put-put, put-none}
+use Rattle.numbers.proofs.BytesLaws.{put-put, put-none}
 use Rattle.numbers.specs.Bytes.{put}
 use Rattle.tile.proofs.assembly.write_parts.Statement.{statement}
 use Rattle.tile.proofs.assembly.write_parts.Tie as tie

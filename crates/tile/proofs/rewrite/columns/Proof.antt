@@ -4,8 +4,8 @@ use native.Mathlib.Omega.{arith}
 use native.Mathlib.Nat.{le-mul-of-pos-right}
 use mathlib.Core.Path.{sym, _∙_}
 use borrow.Author.Needs.{needs}
-use Rattle.tile.proofs.Rewrites.{columns-below, columns-none, columns-some}
-use Rattle.numbers.proofs.Laws.{ceil-least}
+use Rattle.tile.proofs.RewriteLaws.{columns-below, columns-none, columns-some}
+use Rattle.numbers.proofs.BytesLaws.{ceil-least}
 use Rattle.tile.proofs.rewrite.columns.Statement.{statement}
 use Rattle.tile.proofs.rewrite.columns.Tie as tie
 

@@ -4,7 +4,7 @@ use native.Mathlib.Omega.{arith}
 use native.Mathlib.Nat.{mul-le-mul}
 use mathlib.Core.Path.{sym, ap, _∙_}
 use borrow.Author.Needs.{needs}
-use Rattle.tile.proofs.Rewrites.{axis-inside, axis-below, axis-passes}
+use Rattle.tile.proofs.RewriteLaws.{axis-inside, axis-below, axis-passes}
 use Rattle.tile.specs.declared.rewrite.Axis.the-variants.{Extent}
 use Rattle.tile.proofs.rewrite.extent.Statement.{statement}
 use Rattle.tile.proofs.rewrite.extent.Tie as tie

@@ -1,6 +1,6 @@
 -- The tests that led to each answer are the definition's.
 use mathlib.Core.Path.{sym}
-use Rattle.tile.proofs.Rewrites.{sized-narrow, sized-low, sized-full}
+use Rattle.tile.proofs.RewriteLaws.{sized-narrow, sized-low, sized-full}
 use Rattle.tile.proofs.rewrite.full_or_cut.Statement.{statement}
 use Rattle.tile.proofs.rewrite.full_or_cut.Tie as tie
 

@@ -2,7 +2,7 @@
 use native.Mathlib.Omega.{arith}
 use mathlib.Core.Path.{sym, _∙_}
 use borrow.Author.Needs.{needs}
-use Rattle.tile.proofs.Rewrites.{room-enough, room-short, judged-refused, judged-room}
+use Rattle.tile.proofs.RewriteLaws.{room-enough, room-short, judged-refused, judged-room}
 use Rattle.tile.proofs.rewrite.judge.Statement.{statement}
 use Rattle.tile.proofs.rewrite.judge.Tie as tie
 

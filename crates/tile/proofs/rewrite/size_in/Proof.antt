@@ -2,7 +2,7 @@
 use Prim.Native.Nat.{ℕ}
 use mathlib.Core.Path.{_≡_, sym, ap, _∙_}
 use borrow.Author.Needs.{needs}
-use Rattle.tile.proofs.Rewrites.{across, down, grid-none, grid-across, grid-down, grid-both}
+use Rattle.tile.proofs.RewriteLaws.{across, down, grid-none, grid-across, grid-down, grid-both}
 use Rattle.tile.specs.Rewrite.{inGrid, sizeIn}
 use Rattle.tile.proofs.rewrite.size_in.Statement.{statement}
 use Rattle.tile.proofs.rewrite.size_in.Tie as tie
@@ -25,23 +25,23 @@ counted c = c .before .before .before .before .before .before
 down-known : (c : tie.After-extent2) → down (start (counted c) .args .header .now) (counted c .columns .result) (start (counted c) .args .isot) ≡ c .extent2 .result
 down-known c = cc
 
-read-u32-requires : tie.Need-read-u32-requires
-read-u32-requires c κs = search needs
+field-requires : tie.Need-field-requires
+field-requires c κs = search needs
 
-read-u32-requires-2 : tie.Need-read-u32-requires-2
-read-u32-requires-2 c κs = search needs
+field-requires-2 : tie.Need-field-requires-2
+field-requires-2 c κs = search needs
 
-read-u32-requires-3 : tie.Need-read-u32-requires-3
-read-u32-requires-3 c κs = search needs
+field-requires-3 : tie.Need-field-requires-3
+field-requires-3 c κs = search needs
 
-read-u32-requires-4 : tie.Need-read-u32-requires-4
-read-u32-requires-4 c κs = search needs
+field-requires-4 : tie.Need-field-requires-4
+field-requires-4 c κs = search needs
 
-read-u32-requires-5 : tie.Need-read-u32-requires-5
-read-u32-requires-5 c κs = search needs
+field-requires-5 : tie.Need-field-requires-5
+field-requires-5 c κs = search needs
 
-read-u32-requires-6 : tie.Need-read-u32-requires-6
-read-u32-requires-6 c κs = search needs
+field-requires-6 : tie.Need-field-requires-6
+field-requires-6 c κs = search needs
 
 columns-requires : tie.Need-columns-requires
 columns-requires c κs = search needs
@@ -98,12 +98,12 @@ pub size-in-spec : {M : Type 1} → statement M
 size-in-spec =
     tie.close
     (tie.spec
-    read-u32-requires
-    read-u32-requires-2
-    read-u32-requires-3
-    read-u32-requires-4
-    read-u32-requires-5
-    read-u32-requires-6
+    field-requires
+    field-requires-2
+    field-requires-3
+    field-requires-4
+    field-requires-5
+    field-requires-6
     columns-requires
     returns
     rem-column

@@ -1,7 +1,7 @@
 -- The tests that led to each answer are the definition's.
 use mathlib.Core.Path.{sym, _∙_}
 use borrow.Author.Needs.{needs}
-use Rattle.tile.proofs.Rewrites.{size-short, size-other, size-siz}
+use Rattle.tile.proofs.RewriteLaws.{size-short, size-other, size-siz}
 use Rattle.tile.proofs.rewrite.tile_size.Statement.{statement}
 use Rattle.tile.proofs.rewrite.tile_size.Tie as tie
 

@@ -1,7 +1,7 @@
 -- The header is copied; where it is cut the eight fields are replaced in the copy.
 use native.Mathlib.Omega.{arith}
 use borrow.Author.Needs.{needs}
-use Rattle.tile.proofs.Headers.{cut-room, cut-kept, put-cut}
+use Rattle.tile.proofs.RewriteHeader.{cut-room, cut-kept, put-cut}
 use Rattle.tile.proofs.rewrite.write_header.Statement.{statement}
 use Rattle.tile.proofs.rewrite.write_header.Tie as tie
 

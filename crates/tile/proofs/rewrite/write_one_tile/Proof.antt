@@ -1,6 +1,6 @@
 -- Four pairs that adjoin are the eight fields.
 use borrow.Author.Needs.{needs}
-use Rattle.tile.proofs.Headers.{put-one}
+use Rattle.tile.proofs.RewriteHeader.{put-one}
 use Rattle.tile.proofs.rewrite.write_one_tile.Statement.{statement}
 use Rattle.tile.proofs.rewrite.write_one_tile.Tie as tie
 

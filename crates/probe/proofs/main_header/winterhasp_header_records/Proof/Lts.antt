@@ -160,8 +160,8 @@ abbrev b7 : Syntax.Body
 b7 = Syntax.assign (Syntax.place 14 List.[]) (Syntax.addrOf (Syntax.place 6 (List._∷_ (Syntax.deref (Syntax.tyInt Syntax.w64)) List.[])))
 
 abbrev b8 : Syntax.Body
-b8 = Syntax.call "probe::main_header::tell_header" (List._∷_ (Syntax.copy (Syntax.place 7 List.[])) (List._∷_ (Syntax.copy (Syntax.place 12 List.[])) (List._∷_ (Syntax.copy
-    (Syntax.place 13 List.[])) (List._∷_ (Syntax.copy (Syntax.place 14 List.[])) List.[])))) (Syntax.place 0 List.[])
+b8 = Syntax.call "header::parse::tell" (List._∷_ (Syntax.copy (Syntax.place 7 List.[])) (List._∷_ (Syntax.copy (Syntax.place 12 List.[])) (List._∷_ (Syntax.copy (Syntax.place 13
+    List.[])) (List._∷_ (Syntax.copy (Syntax.place 14 List.[])) List.[])))) (Syntax.place 0 List.[])
 
 abbrev b9 : Syntax.Body
 b9 = Syntax.return
@@ -1188,8 +1188,8 @@ module _ (claims· : Claims) where
     module _ (M : Type 1) where
       abbrev pub Closed : Type 2
       Closed = (𝓤 : URA.URA M) (H : Wp.Heap 𝓤) (A : Atoms.Atoms 𝓤) (W : Kit.Given 𝓤 H A) (𝓣 : Wp.Tables 𝓤 H) (known0 : Plain.Known 𝓤 H A W 𝓣 3 ps·0 r·0 (claims· .0) (claims· .1)
-          "records::main_header::parse_main_header") (known1 : Plain.Known 𝓤 H A W 𝓣 3 ps·1 r·1 (claims· .2) (claims· .3) "probe::main_header::tell_header") → Statement.Triple 𝓤
-          (Wp.WpFn 𝓤 H (𝓣 .C) (𝓣 .Λ) (Function.fnOf 6 ps r xs m hs body)) (Function.plainOf 𝓤 H A 6 ps r Pre· Post·)
+          "records::main_header::parse_main_header") (known1 : Plain.Known 𝓤 H A W 𝓣 3 ps·1 r·1 (claims· .2) (claims· .3) "header::parse::tell") → Statement.Triple 𝓤 (Wp.WpFn 𝓤 H
+          (𝓣 .C) (𝓣 .Λ) (Function.fnOf 6 ps r xs m hs body)) (Function.plainOf 𝓤 H A 6 ps r Pre· Post·)
 
     module _ where
       abbrev at0 : Typed.TF T33 O0
@@ -1300,7 +1300,7 @@ module _ (claims· : Claims) where
       module _ {M : Type 1} (𝓤 : URA.URA M) (H : Wp.Heap 𝓤) (A : Atoms.Atoms 𝓤) (W : Kit.Given 𝓤 H A) (𝓣 : Wp.Tables 𝓤 H) where
         abbrev Knowns : Type 1
         Knowns = Plain.Known 𝓤 H A W 𝓣 3 ps·0 r·0 (claims· .0) (claims· .1) "records::main_header::parse_main_header" × Plain.Known 𝓤 H A W 𝓣 3 ps·1 r·1 (claims· .2) (claims· .3)
-            "probe::main_header::tell_header"
+            "header::parse::tell"
 
       module _ (κs : Lifetimes.Lfts 6) (qs : Lifetimes.Shares 6) where
         abbrev g2 : List.List Row.Entry
@@ -2298,59 +2298,59 @@ module _ (claims· : Claims) where
               Path'.refl)) d9
 
           d11 : Typed.Typed 𝓤 H A 𝓣 E G23 b10 Δ0 at11
-          d11 = Typed.s-seq 𝓤 H A W 𝓣 E G23 G24 b8 b9 Δ0 (Typed.both s22) at10 (Plain.t-call-plain 𝓤 H A W 𝓣 3 ps·1 r·1 (claims· .2) (claims· .3) "probe::main_header::tell_header"
-              (known .1) E (λ pos β. β) G23 (
+          d11 = Typed.s-seq 𝓤 H A W 𝓣 E G23 G24 b8 b9 Δ0 (Typed.both s22) at10 (Plain.t-call-plain 𝓤 H A W 𝓣 3 ps·1 r·1 (claims· .2) (claims· .3) "header::parse::tell" (known .1) E
+              (λ pos β. β) G23 (
                 record { pos = 7; st = List.[]; d = 0; at = λ x. x },
                 (
                   record {
                     pos = 12;
-                    ty = Syntax.tyRef Syntax.erased Syntax.mut (Syntax.tyInt
-                        Syntax.w64);
-                    ref = λ x. x;
+                    ty = Syntax.tyRef Syntax.erased Syntax.mut (Syntax.tyInt Syntax.w64);
+                    ref
+                        = λ x. x;
                   },
                   (
                     record { pos = 13; ty = Syntax.tyRef Syntax.erased Syntax.mut (Syntax.tyInt Syntax.w64); ref = λ x. x },
                     (
                       record {
                         pos = 14;
-                        ty =
-                            Syntax.tyRef Syntax.erased Syntax.mut (Syntax.tyInt Syntax.w64);
+                        ty = Syntax.tyRef
+                            Syntax.erased Syntax.mut (Syntax.tyInt Syntax.w64);
                         ref = λ x. x;
                       },
                       tt,
                     ),
                   ),
                 ),
-              ) 0 (List._∷_ 8 (List._∷_ 9 (List._∷_ 10 List.[]))) (Call.sub-id 𝓤 H A W (G23
-              .slots)) (
+              ) 0 (List._∷_ 8 (List._∷_ 9 (List._∷_ 10 List.[]))) (Call.sub-id 𝓤 H A W (G23 .slots)) (
                 (
-                  Yields.yields-copy 𝓤 H A W (λ ρ. Unit) (Declared.row MainHeader.the-type) Path'.refl (Copies.cEnum MainHeader.the-type Laws.the-laws Laws.the-copy .copy 𝓤
-                      H A W) (Rows.whole (Declared.row MainHeader.the-type)) (λ x. x) (λ x. x) (λ ρ told. Local.mem-whole 𝓤 H A W (Declared.row MainHeader.the-type) ρ) λ ρ told.
-                      Local.whole-mem 𝓤 H A W (Declared.row MainHeader.the-type) ρ,
+                  Yields.yields-copy 𝓤 H A W (λ ρ. Unit) (Declared.row MainHeader.the-type) Path'.refl (Copies.cEnum MainHeader.the-type Laws.the-laws Laws.the-copy .copy 𝓤 H A W)
+                      (Rows.whole (Declared.row MainHeader.the-type)) (λ x. x) (λ x. x) (λ ρ told. Local.mem-whole 𝓤 H A W (Declared.row MainHeader.the-type) ρ) λ ρ told. Local.whole-mem 𝓤
+                      H A W (Declared.row MainHeader.the-type) ρ,
                   Path'.refl,
                 ),
                 (
-                  Reads.as-is 𝓤 H A (Rows.mref (Referent.rtF (Referent.fInt Syntax.w64)) (Syntax.tyRef
-                      Syntax.erased Syntax.mut (Syntax.tyInt Syntax.w64)) 8),
-                  Reads.reads-mref 𝓤 H A W (Referent.rtF (Referent.fInt Syntax.w64)) (Syntax.tyRef Syntax.erased Syntax.mut
-                      (Syntax.tyInt Syntax.w64)) 8,
+                  Reads.as-is 𝓤 H A (Rows.mref (Referent.rtF (Referent.fInt Syntax.w64)) (Syntax.tyRef Syntax.erased
+                      Syntax.mut (Syntax.tyInt Syntax.w64)) 8),
+                  Reads.reads-mref 𝓤 H A W (Referent.rtF (Referent.fInt Syntax.w64)) (Syntax.tyRef Syntax.erased Syntax.mut (Syntax.tyInt
+                      Syntax.w64)) 8,
                   Path'.refl,
                   (
-                    Reads.as-is 𝓤 H A (Rows.mref (Referent.rtF (Referent.fInt Syntax.w64)) (Syntax.tyRef Syntax.erased Syntax.mut (Syntax.tyInt
-                        Syntax.w64)) 9),
+                    Reads.as-is 𝓤 H A (Rows.mref (Referent.rtF (Referent.fInt Syntax.w64)) (Syntax.tyRef Syntax.erased Syntax.mut (Syntax.tyInt Syntax.w64))
+                        9),
                     Reads.reads-mref 𝓤 H A W (Referent.rtF (Referent.fInt Syntax.w64)) (Syntax.tyRef Syntax.erased Syntax.mut (Syntax.tyInt Syntax.w64)) 9,
                     Path'.refl,
                     (
-                      Reads.as-is 𝓤 H A (Rows.mref (Referent.rtF (Referent.fInt Syntax.w64)) (Syntax.tyRef Syntax.erased Syntax.mut (Syntax.tyInt Syntax.w64)) 10),
-                      Reads.reads-mref 𝓤 H A
-                          W (Referent.rtF (Referent.fInt Syntax.w64)) (Syntax.tyRef Syntax.erased Syntax.mut (Syntax.tyInt Syntax.w64)) 10,
+                      Reads.as-is 𝓤
+                          H A (Rows.mref (Referent.rtF (Referent.fInt Syntax.w64)) (Syntax.tyRef Syntax.erased Syntax.mut (Syntax.tyInt Syntax.w64)) 10),
+                      Reads.reads-mref 𝓤 H A W (Referent.rtF
+                          (Referent.fInt Syntax.w64)) (Syntax.tyRef Syntax.erased Syntax.mut (Syntax.tyInt Syntax.w64)) 10,
                       Path'.refl,
                       tt,
                     ),
                   ),
                 ),
-              ) (Reads.room-gone 𝓤 H A
-              (Syntax.tyInt Syntax.w32)) (tt, (tt, (tt, tt))) Path'.refl) d10
+              ) (Reads.room-gone 𝓤 H A (Syntax.tyInt Syntax.w32))
+              (tt, (tt, (tt, tt))) Path'.refl) d10
 
           d12 : Typed.Typed 𝓤 H A 𝓣 E G22 b11 Δ0 at12
           d12 = Typed.s-seq 𝓤 H A W 𝓣 E G22 G23 b7 b10 Δ0 (Typed.give s21) at11 (Reborrow.t-mref-relend 𝓤 H A W E 𝓣 G22 6 14 5 10 (Referent.rtF (Referent.fInt Syntax.w64))
@@ -2907,44 +2907,44 @@ module _ (claims· : Claims) where
       m11 = λ before given. s17 .next (m10 (before .before) (before .slice-known2 .given)) given
 
       module _ (before· : After-slice-known2) where
-        pub record After-tell-header-arg·own : Type 0 where
+        pub record After-tell-arg·own : Type 0 where
           pub given : s17 .gives (m10 (before· .before) (before· .slice-known2 .given))
 
-      pub record After-tell-header-arg : Type 0 where
+      pub record After-tell-arg : Type 0 where
         pub before : After-slice-known2
-        pub tell-header-arg : After-tell-header-arg·own before
+        pub tell-arg : After-tell-arg·own before
 
-      abbrev pub m12 : (before : After-tell-header-arg) → (given : s19 .gives (m11 (before .before) (before .tell-header-arg .given))) → Typed.Mo T21
-      m12 = λ before given. s19 .next (m11 (before .before) (before .tell-header-arg .given)) given
+      abbrev pub m12 : (before : After-tell-arg) → (given : s19 .gives (m11 (before .before) (before .tell-arg .given))) → Typed.Mo T21
+      m12 = λ before given. s19 .next (m11 (before .before) (before .tell-arg .given)) given
 
-      module _ (before· : After-tell-header-arg) where
-        pub record After-tell-header-arg2·own : Type 0 where
-          pub given : s19 .gives (m11 (before· .before) (before· .tell-header-arg .given))
+      module _ (before· : After-tell-arg) where
+        pub record After-tell-arg2·own : Type 0 where
+          pub given : s19 .gives (m11 (before· .before) (before· .tell-arg .given))
 
-      pub record After-tell-header-arg2 : Type 0 where
-        pub before : After-tell-header-arg
-        pub tell-header-arg2 : After-tell-header-arg2·own before
+      pub record After-tell-arg2 : Type 0 where
+        pub before : After-tell-arg
+        pub tell-arg2 : After-tell-arg2·own before
 
-      abbrev pub m13 : (before : After-tell-header-arg2) → (given : s21 .gives (m12 (before .before) (before .tell-header-arg2 .given))) → Typed.Mo T23
-      m13 = λ before given. s21 .next (m12 (before .before) (before .tell-header-arg2 .given)) given
+      abbrev pub m13 : (before : After-tell-arg2) → (given : s21 .gives (m12 (before .before) (before .tell-arg2 .given))) → Typed.Mo T23
+      m13 = λ before given. s21 .next (m12 (before .before) (before .tell-arg2 .given)) given
 
-      module _ (before· : After-tell-header-arg2) where
-        pub record After-tell-header-arg3·own : Type 0 where
-          pub given : s21 .gives (m12 (before· .before) (before· .tell-header-arg2 .given))
+      module _ (before· : After-tell-arg2) where
+        pub record After-tell-arg3·own : Type 0 where
+          pub given : s21 .gives (m12 (before· .before) (before· .tell-arg2 .given))
 
-      pub record After-tell-header-arg3 : Type 0 where
-        pub before : After-tell-header-arg2
-        pub tell-header-arg3 : After-tell-header-arg3·own before
+      pub record After-tell-arg3 : Type 0 where
+        pub before : After-tell-arg2
+        pub tell-arg3 : After-tell-arg3·own before
 
-      abbrev pub Need-tell-header-requires : Type 0
-      Need-tell-header-requires = (c : After-tell-header-arg3) → s22 .asks (m13 (c .before) (c .tell-header-arg3 .given))
+      abbrev pub Need-tell-requires : Type 0
+      Need-tell-requires = (c : After-tell-arg3) → s22 .asks (m13 (c .before) (c .tell-arg3 .given))
 
-      abbrev pub m14 : (before : After-tell-header-arg3) → (given : s22 .gives (m13 (before .before) (before .tell-header-arg3 .given))) → Typed.Mo T24
-      m14 = λ before given. s22 .next (m13 (before .before) (before .tell-header-arg3 .given)) given
+      abbrev pub m14 : (before : After-tell-arg3) → (given : s22 .gives (m13 (before .before) (before .tell-arg3 .given))) → Typed.Mo T24
+      m14 = λ before given. s22 .next (m13 (before .before) (before .tell-arg3 .given)) given
 
-      module _ (before· : After-tell-header-arg3) where
-        abbrev pub After-tell-header·own : Type 0
-        After-tell-header·own = Called.Called ps·1 r·1 (claims· .3) T23 (
+      module _ (before· : After-tell-arg3) where
+        abbrev pub After-tell·own : Type 0
+        After-tell·own = Called.Called ps·1 r·1 (claims· .3) T23 (
           record { pos = 7; st = List.[]; d = 0; at = λ x. x },
           (
             record {
@@ -2958,72 +2958,70 @@ module _ (claims· : Claims) where
               (record { pos = 14; ty = Syntax.tyRef Syntax.erased Syntax.mut (Syntax.tyInt Syntax.w64); ref = λ x. x }, tt),
             ),
           ),
-        ) (m13 (before· .before) (before· .tell-header-arg3
-            .given))
+        ) (m13 (before· .before) (before· .tell-arg3 .given))
 
-      pub record After-tell-header : Type 0 where
-        pub before : After-tell-header-arg3
-        pub tell-header : After-tell-header·own before
+      pub record After-tell : Type 0 where
+        pub before : After-tell-arg3
+        pub tell : After-tell·own before
 
-      abbrev pub After-tell-header·gave : (c : After-tell-header) → s22 .gives (m13 (c .before .before) (c .before .tell-header-arg3 .given))
-      After-tell-header·gave = λ c. Called.given ps·1 r·1 (claims· .3) T23 (
+      abbrev pub After-tell·gave : (c : After-tell) → s22 .gives (m13 (c .before .before) (c .before .tell-arg3 .given))
+      After-tell·gave = λ c. Called.given ps·1 r·1 (claims· .3) T23 (
         record { pos = 7; st = List.[]; d = 0; at = λ x. x },
         (
           record {
             pos = 12;
-            ty = Syntax.tyRef
-                Syntax.erased Syntax.mut (Syntax.tyInt Syntax.w64);
+            ty = Syntax.tyRef Syntax.erased
+                Syntax.mut (Syntax.tyInt Syntax.w64);
             ref = λ x. x;
           },
           (
-            record {
-              pos = 13;
-              ty = Syntax.tyRef Syntax.erased Syntax.mut (Syntax.tyInt Syntax.w64);
-              ref = λ x.
-                  x;
-            },
-            (record { pos = 14; ty = Syntax.tyRef Syntax.erased Syntax.mut (Syntax.tyInt Syntax.w64); ref = λ x. x }, tt),
+            record { pos = 13; ty = Syntax.tyRef Syntax.erased Syntax.mut (Syntax.tyInt Syntax.w64); ref = λ x. x },
+            (
+              record
+                  { pos = 14; ty = Syntax.tyRef Syntax.erased Syntax.mut (Syntax.tyInt Syntax.w64); ref = λ x. x },
+              tt,
+            ),
           ),
         ),
-      ) (m13 (c .before .before) (c .before
-          .tell-header-arg3 .given)) (c .tell-header)
+      ) (m13 (c .before .before) (c .before .tell-arg3 .given)) (c
+          .tell)
 
-      abbrev pub m15 : (before : After-tell-header-arg3) → (given : s22 .gives (m13 (before .before) (before .tell-header-arg3 .given))) → Typed.Mo T25
+      abbrev pub m15 : (before : After-tell-arg3) → (given : s22 .gives (m13 (before .before) (before .tell-arg3 .given))) → Typed.Mo T25
       m15 = λ before given. s23 (m14 before given)
 
-      abbrev pub m16 : (before : After-tell-header-arg3) → (given : s22 .gives (m13 (before .before) (before .tell-header-arg3 .given))) → Typed.Mo T27
+      abbrev pub m16 : (before : After-tell-arg3) → (given : s22 .gives (m13 (before .before) (before .tell-arg3 .given))) → Typed.Mo T27
       m16 = λ before given. s25 .next (m15 before given)
 
-      abbrev pub m17 : (before : After-tell-header-arg3) → (given : s22 .gives (m13 (before .before) (before .tell-header-arg3 .given))) → Typed.Mo T30
+      abbrev pub m17 : (before : After-tell-arg3) → (given : s22 .gives (m13 (before .before) (before .tell-arg3 .given))) → Typed.Mo T30
       m17 = λ before given. s28 .next (m16 before given)
 
-      abbrev pub m18 : (before : After-tell-header-arg3) → (given : s22 .gives (m13 (before .before) (before .tell-header-arg3 .given))) → Typed.Mo T33
+      abbrev pub m18 : (before : After-tell-arg3) → (given : s22 .gives (m13 (before .before) (before .tell-arg3 .given))) → Typed.Mo T33
       m18 = λ before given. s31 .next (m17 before given)
 
       abbrev pub Need-same-length : Type 0
-      Need-same-length = (c : After-tell-header) → MutSlice.SameLen (Row.get 2 (T33 .locals) (m18 (c .before) (After-tell-header·gave c))) (dens (c .before .before .before .before
-          .before .before .before .before .before .before .before .before .κs) (c .before .before .before .before .before .before .before .before .before .before .before .before
-          .args) .1 .0)
+      Need-same-length = (c : After-tell) → MutSlice.SameLen (Row.get 2 (T33 .locals) (m18 (c .before) (After-tell·gave c))) (dens (c .before .before .before .before .before
+          .before .before .before .before .before .before .before .κs) (c .before .before .before .before .before .before .before .before .before .before .before .before .args) .1
+          .0)
 
       abbrev pub Need-same-length-2 : Type 0
-      Need-same-length-2 = (c : After-tell-header) → MutSlice.SameLen (Row.get 3 (T33 .locals) (m18 (c .before) (After-tell-header·gave c))) (dens (c .before .before .before
-          .before .before .before .before .before .before .before .before .before .κs) (c .before .before .before .before .before .before .before .before .before .before .before
-          .before .args) .1 .1 .0)
+      Need-same-length-2 = (c : After-tell) → MutSlice.SameLen (Row.get 3 (T33 .locals) (m18 (c .before) (After-tell·gave c))) (dens (c .before .before .before .before .before
+          .before .before .before .before .before .before .before .κs) (c .before .before .before .before .before .before .before .before .before .before .before .before .args) .1
+          .1 .0)
 
       abbrev pub Need-returns : Type 0
-      Need-returns = (c : After-tell-header) → Post· (c .before .before .before .before .before .before .before .before .before .before .before .before .κs) (dens (c .before
-          .before .before .before .before .before .before .before .before .before .before .before .κs) (c .before .before .before .before .before .before .before .before .before
-          .before .before .before .args)) (Function.resV r (c .before .before .before .before .before .before .before .before .before .before .before .before .κs) (m18 (c .before)
-          (After-tell-header·gave c) .0)) (Clauses.atExit (Kinds.endedOf 6 ps r) (c .before .before .before .before .before .before .before .before .before .before .before .before
-          .κs) (dens (c .before .before .before .before .before .before .before .before .before .before .before .before .κs) (c .before .before .before .before .before .before
-          .before .before .before .before .before .before .args)) (Enter.lastsP (c .before .before .before .before .before .before .before .before .before .before .before .before
-          .κs) 1 ps xs (dens (c .before .before .before .before .before .before .before .before .before .before .before .before .κs) (c .before .before .before .before .before
-          .before .before .before .before .before .before .before .args)) (m18 (c .before) (After-tell-header·gave c) .1)))
+      Need-returns = (c : After-tell) → Post· (c .before .before .before .before .before .before .before .before .before .before .before .before .κs) (dens (c .before .before
+          .before .before .before .before .before .before .before .before .before .before .κs) (c .before .before .before .before .before .before .before .before .before .before
+          .before .before .args)) (Function.resV r (c .before .before .before .before .before .before .before .before .before .before .before .before .κs) (m18 (c .before)
+          (After-tell·gave c) .0)) (Clauses.atExit (Kinds.endedOf 6 ps r) (c .before .before .before .before .before .before .before .before .before .before .before .before .κs)
+          (dens (c .before .before .before .before .before .before .before .before .before .before .before .before .κs) (c .before .before .before .before .before .before .before
+          .before .before .before .before .before .args)) (Enter.lastsP (c .before .before .before .before .before .before .before .before .before .before .before .before .κs) 1 ps
+          xs (dens (c .before .before .before .before .before .before .before .before .before .before .before .before .κs) (c .before .before .before .before .before .before
+          .before .before .before .before .before .before .args)) (m18 (c .before) (After-tell·gave c) .1)))
 
-      module _ (parse-main-header-requires : Need-parse-main-header-requires) (tell-header-requires : Need-tell-header-requires) (same-length : Need-same-length) (same-length-2 :
+      module _ (parse-main-header-requires : Need-parse-main-header-requires) (tell-requires : Need-tell-requires) (same-length : Need-same-length) (same-length-2 :
           Need-same-length-2) (returns : Need-returns) where
-        lay2 : (c : After-tell-header) → at10 (W0 (c .before .before .before .before .before .before .before .before .before .before .before .before .κs) (c .before .before .before
-            .before .before .before .before .before .before .before .before .before .args)) (m14 (c .before) (After-tell-header·gave c))
+        lay2 : (c : After-tell) → at10 (W0 (c .before .before .before .before .before .before .before .before .before .before .before .before .κs) (c .before .before .before
+            .before .before .before .before .before .before .before .before .before .args)) (m14 (c .before) (After-tell·gave c))
         lay2 = λ c. (
           Path'.refl,
           (
@@ -3034,24 +3032,23 @@ module _ (claims· : Claims) where
                 (
                   Path'.refl,
                   (
-                    MutSlice.fix-len (Row.get 2 (T33 .locals) (m18 (c .before) (After-tell-header·gave c)) .ptr) (Row.get 2
-                        (T33 .locals) (m18 (c .before) (After-tell-header·gave c)) .name) (Row.get 2 (T33 .locals) (m18 (c .before) (After-tell-header·gave c)) .now) (dens (c .before .before
-                        .before .before .before .before .before .before .before .before .before .before .κs) (c .before .before .before .before .before .before .before .before .before .before
-                        .before .before .args) .1 .0 .now) (same-length record { before = c .before; tell-header = c .tell-header }),
+                    MutSlice.fix-len (Row.get 2 (T33 .locals) (m18 (c .before) (After-tell·gave c)) .ptr) (Row.get 2 (T33
+                        .locals) (m18 (c .before) (After-tell·gave c)) .name) (Row.get 2 (T33 .locals) (m18 (c .before) (After-tell·gave c)) .now) (dens (c .before .before .before .before
+                        .before .before .before .before .before .before .before .before .κs) (c .before .before .before .before .before .before .before .before .before .before .before .before
+                        .args) .1 .0 .now) (same-length record { before = c .before; tell = c .tell }),
                     (
-                      MutSlice.fix-len (Row.get 3 (T33 .locals) (m18 (c
-                          .before) (After-tell-header·gave c)) .ptr) (Row.get 3 (T33 .locals) (m18 (c .before) (After-tell-header·gave c)) .name) (Row.get 3 (T33 .locals) (m18 (c .before)
-                          (After-tell-header·gave c)) .now) (dens (c .before .before .before .before .before .before .before .before .before .before .before .before .κs) (c .before .before
-                          .before .before .before .before .before .before .before .before .before .before .args) .1 .1 .0 .now) (same-length-2 record {
-                            before = c .before;
-                            tell-header = c
-                                .tell-header;
-                          }),
+                      MutSlice.fix-len (Row.get 3 (T33 .locals) (m18 (c .before) (After-tell·gave c)) .ptr)
+                          (Row.get 3 (T33 .locals) (m18 (c .before) (After-tell·gave c)) .name) (Row.get 3 (T33 .locals) (m18 (c .before) (After-tell·gave c)) .now) (dens (c .before .before
+                          .before .before .before .before .before .before .before .before .before .before .κs) (c .before .before .before .before .before .before .before .before .before .before
+                          .before .before .args) .1 .1 .0 .now) (same-length-2 record { before = c .before; tell = c .tell }),
                       (Path'.refl, (Path'.refl, (Path'.refl, tt))),
                     ),
                   ),
                 ),
-                returns record { before = c .before; tell-header = c .tell-header },
+                returns record {
+                  before = c .before;
+                  tell = c .tell;
+                },
               ),
             ),
           ),
@@ -3064,67 +3061,69 @@ module _ (claims· : Claims) where
           λ g. (
             Path'.refl,
             λ g'. λ g''. λ g'3. λ g'4. λ g'5. (
-              tell-header-requires record {
+              tell-requires record {
                 before = record {
                   before = record {
                     before = record {
-                      before =
-                          record {
-                            before = record { before = record { before = c .before; parse-main-header = c .parse-main-header }; table = record { given = g } };
-                            out = record {
-                              given = g';
-                            };
-                          };
+                      before = record {
+                        before = record { before = record { before = c .before; parse-main-header = c .parse-main-header }; table = record { given = g } };
+                        out = record { given = g' };
+                      };
                       slice-known2 = record { given = g'' };
                     };
-                    tell-header-arg = record { given = g'3 };
+                    tell-arg = record { given = g'3 };
                   };
-                  tell-header-arg2 = record { given = g'4 };
+                  tell-arg2 = record { given = g'4 };
                 };
-                tell-header-arg3 = record {
-                  given = g'5;
-                };
+                tell-arg3 = record { given = g'5 };
               },
-              λ g'6. lay2 record {
-                before = record {
-                  before = record {
+              λ g'6.
+                  lay2 record {
                     before = record {
                       before = record {
                         before = record {
                           before = record {
                             before = record {
-                              before = c .before;
-                              parse-main-header = c .parse-main-header;
+                              before = record {
+                                before = record {
+                                  before = c .before;
+                                  parse-main-header = c .parse-main-header;
+                                };
+                                table = record { given = g };
+                              };
+                              out = record { given = g' };
                             };
-                            table = record { given = g };
+                            slice-known2 = record { given = g'' };
                           };
-                          out = record { given = g' };
+                          tell-arg =
+                              record { given = g'3 };
                         };
-                        slice-known2 = record { given = g'' };
+                        tell-arg2 = record { given = g'4 };
                       };
-                      tell-header-arg = record { given = g'3 };
+                      tell-arg3 = record { given = g'5 };
                     };
-                    tell-header-arg2 = record { given = g'4 };
-                  };
-                  tell-header-arg3 = record { given = g'5 };
-                };
-                tell-header = Called.called
-                    ps·1 r·1 (claims· .3) T23 (
-                      record { pos = 7; st = List.[]; d = 0; at = λ x. x },
+                    tell = Called.called ps·1 r·1 (claims· .3) T23 (
+                      record {
+                        pos =
+                            7;
+                        st = List.[];
+                        d = 0;
+                        at = λ x. x;
+                      },
                       (
-                        record {
-                          pos = 12;
-                          ty = Syntax.tyRef Syntax.erased Syntax.mut (Syntax.tyInt
-                              Syntax.w64);
-                          ref = λ x. x;
-                        },
+                        record { pos = 12; ty = Syntax.tyRef Syntax.erased Syntax.mut (Syntax.tyInt Syntax.w64); ref = λ x. x },
                         (
-                          record { pos = 13; ty = Syntax.tyRef Syntax.erased Syntax.mut (Syntax.tyInt Syntax.w64); ref = λ x. x },
+                          record {
+                            pos = 13;
+                            ty
+                                = Syntax.tyRef Syntax.erased Syntax.mut (Syntax.tyInt Syntax.w64);
+                            ref = λ x. x;
+                          },
                           (
                             record {
                               pos = 14;
-                              ty =
-                                  Syntax.tyRef Syntax.erased Syntax.mut (Syntax.tyInt Syntax.w64);
+                              ty = Syntax.tyRef Syntax.erased Syntax.mut (Syntax.tyInt
+                                  Syntax.w64);
                               ref = λ x. x;
                             },
                             tt,
@@ -3135,17 +3134,23 @@ module _ (claims· : Claims) where
                       before = record {
                         before = record {
                           before = record {
-                            before =
-                                record { before = record { before = c .before; parse-main-header = c .parse-main-header }; table = record { given = g } };
+                            before = record {
+                              before = record {
+                                before = c .before;
+                                parse-main-header = c .parse-main-header;
+                              };
+                              table = record { given = g };
+                            };
                             out = record { given = g' };
                           };
                           slice-known2 = record { given = g'' };
                         };
-                        tell-header-arg = record { given = g'3 };
+                        tell-arg =
+                            record { given = g'3 };
                       };
-                      tell-header-arg2 = record { given = g'4 };
+                      tell-arg2 = record { given = g'4 };
                     } g'5) g'6;
-              },
+                  },
             ),
           ),
         )
@@ -3237,6 +3242,6 @@ module _ (claims· : Claims) where
           }
 
         module _ {M : Type 1} (𝓤 : URA.URA M) (H : Wp.Heap 𝓤) (A : Atoms.Atoms 𝓤) (W : Kit.Given 𝓤 H A) (𝓣 : Wp.Tables 𝓤 H) (known0 : Plain.Known 𝓤 H A W 𝓣 3 ps·0 r·0 (claims· .0)
-            (claims· .1) "records::main_header::parse_main_header") (known1 : Plain.Known 𝓤 H A W 𝓣 3 ps·1 r·1 (claims· .2) (claims· .3) "probe::main_header::tell_header") where
+            (claims· .1) "records::main_header::parse_main_header") (known1 : Plain.Known 𝓤 H A W 𝓣 3 ps·1 r·1 (claims· .2) (claims· .3) "header::parse::tell") where
           pub spec : Statement.Triple 𝓤 (Wp.WpFn 𝓤 H (𝓣 .C) (𝓣 .Λ) (Function.fnOf 6 ps r xs m hs body)) (Function.plainOf 𝓤 H A 6 ps r Pre· Post·)
           spec = Plain.t-fn-plain 𝓤 H A W 𝓣 6 ps r xs m hs body (λ κs qs bs. Φ) (λ κs qs bs bd. typed κs qs 𝓤 H A W 𝓣 (known0, known1) bs bd) Pre· Post· asked

@@ -1,7 +1,7 @@
 -- `Tie` of `probe::main_header/winterhasp_header_records`, written by tools/twin.py from twins/probe.twin: change that, and not this.
-use Rattle.probe.proofs.main_header.tell_header.Met
-use Rattle.probe.proofs.main_header.tell_header.Reads
-use Rattle.probe.proofs.main_header.tell_header.Symbol
+use Rattle.header.proofs.parse.tell.Met
+use Rattle.header.proofs.parse.tell.Reads
+use Rattle.header.proofs.parse.tell.Symbol
 use Rattle.probe.proofs.main_header.winterhasp_header_records.Code
 use Rattle.probe.proofs.main_header.winterhasp_header_records.Key
 use Rattle.probe.proofs.readings.main_header.winterhasp_header_records.Kinds
@@ -42,23 +42,23 @@ After-out = Lts.After-out (Reads''.Asked, Reads''.Learnt, Reads.Asked, Reads.Lea
 abbrev pub After-slice-known2 : Type 0
 After-slice-known2 = Lts.After-slice-known2 (Reads''.Asked, Reads''.Learnt, Reads.Asked, Reads.Learnt) Reads'.Pre Reads'.Post
 
-abbrev pub After-tell-header-arg : Type 0
-After-tell-header-arg = Lts.After-tell-header-arg (Reads''.Asked, Reads''.Learnt, Reads.Asked, Reads.Learnt) Reads'.Pre Reads'.Post
+abbrev pub After-tell-arg : Type 0
+After-tell-arg = Lts.After-tell-arg (Reads''.Asked, Reads''.Learnt, Reads.Asked, Reads.Learnt) Reads'.Pre Reads'.Post
 
-abbrev pub After-tell-header-arg2 : Type 0
-After-tell-header-arg2 = Lts.After-tell-header-arg2 (Reads''.Asked, Reads''.Learnt, Reads.Asked, Reads.Learnt) Reads'.Pre Reads'.Post
+abbrev pub After-tell-arg2 : Type 0
+After-tell-arg2 = Lts.After-tell-arg2 (Reads''.Asked, Reads''.Learnt, Reads.Asked, Reads.Learnt) Reads'.Pre Reads'.Post
 
-abbrev pub After-tell-header-arg3 : Type 0
-After-tell-header-arg3 = Lts.After-tell-header-arg3 (Reads''.Asked, Reads''.Learnt, Reads.Asked, Reads.Learnt) Reads'.Pre Reads'.Post
+abbrev pub After-tell-arg3 : Type 0
+After-tell-arg3 = Lts.After-tell-arg3 (Reads''.Asked, Reads''.Learnt, Reads.Asked, Reads.Learnt) Reads'.Pre Reads'.Post
 
-abbrev pub After-tell-header : Type 0
-After-tell-header = Lts.After-tell-header (Reads''.Asked, Reads''.Learnt, Reads.Asked, Reads.Learnt) Reads'.Pre Reads'.Post
+abbrev pub After-tell : Type 0
+After-tell = Lts.After-tell (Reads''.Asked, Reads''.Learnt, Reads.Asked, Reads.Learnt) Reads'.Pre Reads'.Post
 
 abbrev pub Need-parse-main-header-requires : Type 0
 Need-parse-main-header-requires = Lts.Need-parse-main-header-requires (Reads''.Asked, Reads''.Learnt, Reads.Asked, Reads.Learnt) Reads'.Pre Reads'.Post
 
-abbrev pub Need-tell-header-requires : Type 0
-Need-tell-header-requires = Lts.Need-tell-header-requires (Reads''.Asked, Reads''.Learnt, Reads.Asked, Reads.Learnt) Reads'.Pre Reads'.Post
+abbrev pub Need-tell-requires : Type 0
+Need-tell-requires = Lts.Need-tell-requires (Reads''.Asked, Reads''.Learnt, Reads.Asked, Reads.Learnt) Reads'.Pre Reads'.Post
 
 abbrev pub Need-same-length : Type 0
 Need-same-length = Lts.Need-same-length (Reads''.Asked, Reads''.Learnt, Reads.Asked, Reads.Learnt) Reads'.Pre Reads'.Post
@@ -70,8 +70,8 @@ abbrev pub Need-returns : Type 0
 Need-returns = Lts.Need-returns (Reads''.Asked, Reads''.Learnt, Reads.Asked, Reads.Learnt) Reads'.Pre Reads'.Post
 
 module _ {M : Type 1} where
-  pub spec : (answer : Need-parse-main-header-requires) → (answer : Need-tell-header-requires) → (answer : Need-same-length) → (answer : Need-same-length-2) → (answer :
-      Need-returns) → Lts.Closed (Reads''.Asked, Reads''.Learnt, Reads.Asked, Reads.Learnt) Reads'.Pre Reads'.Post M
+  pub spec : (answer : Need-parse-main-header-requires) → (answer : Need-tell-requires) → (answer : Need-same-length) → (answer : Need-same-length-2) → (answer : Need-returns) →
+      Lts.Closed (Reads''.Asked, Reads''.Learnt, Reads.Asked, Reads.Learnt) Reads'.Pre Reads'.Post M
   spec = λ answer answer' answer'' answer'3 answer'4. Lts.spec (Reads''.Asked, Reads''.Learnt, Reads.Asked, Reads.Learnt) Reads'.Pre Reads'.Post answer answer' answer'' answer'3
       answer'4
 
@@ -95,4 +95,4 @@ module _ {M : Type 1} where
     𝓡 = 𝓡;
   }) (Reads'.passes record { M = M; 𝓤 = 𝓤; H = H; 𝓜 = 𝓜; 𝓖 = 𝓖; 𝓡 = 𝓡 }) λ g. closed 𝓤 H (𝓖 .A) (Running.givenOf 𝓤 H 𝓜 𝓖) (Run.Over 𝓤 H 𝓜 𝓖 𝓡 Code.env) (Reads''.known
       record { M = M; 𝓤 = 𝓤; H = H; 𝓜 = 𝓜; 𝓖 = 𝓖; 𝓡 = 𝓡 } Code.env Symbol'.name Symbol'.routine Code.calls-records·main-header·parse-main-header (Met'.met 𝓤 H 𝓜 𝓖 𝓡)) (Reads.known
-      record { M = M; 𝓤 = 𝓤; H = H; 𝓜 = 𝓜; 𝓖 = 𝓖; 𝓡 = 𝓡 } Code.env Symbol.name Symbol.routine Code.calls-probe·main-header·tell-header (Met.met 𝓤 H 𝓜 𝓖 𝓡))
+      record { M = M; 𝓤 = 𝓤; H = H; 𝓜 = 𝓜; 𝓖 = 𝓖; 𝓡 = 𝓡 } Code.env Symbol.name Symbol.routine Code.calls-header·parse·tell (Met.met 𝓤 H 𝓜 𝓖 𝓡))

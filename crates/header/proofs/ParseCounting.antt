@@ -1,0 +1,96 @@
+-- The walk that counts: what was stripped and the entries so far, with what lies ahead, are those of the whole walk.
+use Prim.Native.Nat.{ℕ, _+_, _-_, _≤_}
+use native.Mathlib.Nat.{zero-add}
+use native.Mathlib.Omega.{arith}
+use mathlib.Core.Path.{_≡_, refl, sym, ap, _∙_}
+use mathlib.Core.Bool.{true, false}
+use mathlib.Core.List.{List, []}
+use lib.ListN.{length, take, drop, length-append, length-take}
+use Rattle.types.specs.declared.Refusal.{Refusal}
+use Rattle.chain.specs.Chain.{Chain}
+use Rattle.header.specs.Tlm.{Entry, entriesIn}
+use Rattle.header.specs.Walk.{WalkEnd, walkStepAt, walkFrom}
+use Rattle.header.specs.Strip.{kept, decodeHeader, tlmEntries}
+use Rattle.header.specs.Parse.{readAs}
+use Rattle.header.specs.declared.walk.Passed.{Passed as Passing}
+use Rattle.header.specs.declared.walk.WalkStep.the-variants.{Passed, FirstSot, Refused}
+use Rattle.header.proofs.TlmLaws.{length-entries}
+use Rattle.header.proofs.WalkLaws.{passed-is, walk-found, walk-refused}
+use Rattle.header.proofs.WalkVisited.{stopped-on, ended-on, keptFrom, entriesFrom, kept-plain, entries-plain, kept-tlm, entries-tlm, entries-few, length-visited}
+use Rattle.header.specs.declared.parse.MainHeader.the-variants as answer
+
+pub record Counting (s : List ℕ) (at stripped entries : ℕ) : Type 0 where
+  pub inside : at ≤ length s
+  pub before : stripped + 2 ≤ at
+  pub few : entries ≤ at
+  pub header : length (keptFrom s at) + (at - stripped) ≡ length (decodeHeader s (walkFrom s 2 .visits))
+  pub records : entries + length (entriesFrom s at) ≡ length (entriesFrom s 2)
+  pub stops : walkFrom s at .stopped ≡ walkFrom s 2 .stopped
+  pub ends : walkFrom s at .ended ≡ walkFrom s 2 .ended
+
+pub counting-start : (s : List ℕ) → 2 ≤ length s → Counting s 2 0 0
+unfolding decodeHeader
+counting-start s h =
+    record {
+      inside = h;
+      before = omega arith;
+      few = omega arith;
+      header = simp (length-append, length-take) (omega arith);
+      records = zero-add _;
+      stops = refl;
+      ends = refl;
+    }
+
+module _ (s : List ℕ) (at stripped entries : ℕ) (c : Counting s at stripped entries) (p : Passing) (found : walkStepAt s at ≡ Passed p) where
+  pub counting-plain : p .«is_tlm» ≡ false → Counting s (p .next) stripped entries
+  counting-plain plain =
+      let told = passed-is s at p found in
+      let past = told .past in
+      let inside = told .inside in
+      let longer = ap length (kept-plain s at p found plain) ∙ length-append (take (p .next - at) (drop at s)) (keptFrom s (p .next)) in
+      record {
+        inside = inside;
+        before = omega (arith, c .before);
+        few = omega (arith, c .few);
+        header = omega (arith, c .header, c .before, longer, length-visited s at (p .next) inside);
+        records = ap (λ (es : List Entry). entries + length es) (sym (entries-plain s at p found plain)) ∙ c .records;
+        stops = sym (stopped-on s at p found) ∙ c .stops;
+        ends = sym (ended-on s at p found) ∙ c .ends;
+      }
+
+  pub counting-tlm : p .«is_tlm» ≡ true → Counting s (p .next) (stripped + (p .next - at)) (entries + p .entries)
+  counting-tlm is =
+      let told = passed-is s at p found in
+      let past = told .past in
+      let few = entries-few s at p found is in
+      let more = ap length (entries-tlm s at p found is) ∙ length-append (entriesIn s at 0 (p .entries)) (entriesFrom s (p .next)) in
+      record {
+        inside = told .inside;
+        before = omega (arith, c .before);
+        few = omega (arith, c .few);
+        header = omega (arith, c .header, c .before, ap length (kept-tlm s at p found is));
+        records = omega (arith, c .records, more, length-entries s at 0 (p .entries));
+        stops = sym (stopped-on s at p found) ∙ c .stops;
+        ends = sym (ended-on s at p found) ∙ c .ends;
+      }
+
+module _ (s : List ℕ) (at stripped entries : ℕ) (c : Counting s at stripped entries) where
+  pub counted-found : walkStepAt s at ≡ FirstSot
+      → readAs s (walkFrom s 2) (walkFrom s 2 .ended) ≡ answer.Header (record {
+        «first_sot_offset» = record { 0 = at };
+        «decode_header_length» = at - stripped;
+        «tlm_entries» = entries;
+      })
+  unfolding readAs kept tlmEntries
+  counted-found found =
+      let w = walk-found s at found in
+      let stop : walkFrom s 2 .stopped ≡ at = sym (c .stops) ∙ ap (λ (x : Chain WalkEnd). x .stopped) w in
+      let none : keptFrom s at ≡ [] = ap (λ (x : Chain WalkEnd). kept s (x .visits)) w in
+      let header : length (decodeHeader s (walkFrom s 2 .visits)) ≡ at - stripped = omega (arith, c .header, ap length none) in
+      let records : length (entriesFrom s 2) ≡ entries = omega (arith, c .records, ap (λ (x : Chain WalkEnd). length (tlmEntries s (x .visits))) w) in
+      ap (readAs s (walkFrom s 2)) (sym (c .ends) ∙ ap (λ (x : Chain WalkEnd). x .ended) w)
+      ∙ (λ i. answer.Header (record { «first_sot_offset» = record { 0 = stop i }; «decode_header_length» = header i; «tlm_entries» = records i }))
+
+  pub counted-refused : (r : Refusal) → walkStepAt s at ≡ Refused r → readAs s (walkFrom s 2) (walkFrom s 2 .ended) ≡ answer.Refused r
+  unfolding readAs
+  counted-refused r found = ap (readAs s (walkFrom s 2)) (sym (c .ends) ∙ ap (λ (x : Chain WalkEnd). x .ended) (walk-refused s at r found))

@@ -1,0 +1,155 @@
+-- The answer of the whole reading, opened once: a law for each case.
+use Prim.Native.Nat.{ℕ, _+_, _*_, _^_, _≤_, _<_}
+use native.Mathlib.Omega.{arith}
+use mathlib.Core.Path.{_≡_, refl, sym, ap, _∙_}
+use mathlib.Core.Bool.{true, false, _&&_}
+use mathlib.Core.List.{List, _++_}
+use lib.ListN.{length, drop}
+use lib.Dec.{leb, eqb}
+use borrow.Author.Tests.{le-leb, lt-leb, eq-eqb, leb-true}
+use Rattle.numbers.specs.Bytes.{be, put}
+use Rattle.numbers.proofs.BytesLaws.{put-start}
+use Rattle.types.specs.Refusals.{refusal}
+use Rattle.types.specs.Row.{rowsOf}
+use Rattle.types.proofs.RowLaws.{length-rows}
+use Rattle.types.specs.declared.Refusal.{Refusal}
+use Rattle.types.specs.Markers.{SOC, SIZ}
+use Rattle.header.specs.Tlm.{placed}
+use Rattle.header.specs.Walk.{WalkEnd, firstSot, refused, walkFrom}
+use Rattle.header.specs.Strip.{decodeHeader, tlmEntries}
+use Rattle.header.specs.Parse.{readAs, stands, judged, withRoom, parsed, tlmTable, tableAfter, outAfter}
+use Rattle.header.specs.declared.parse.MainHeaderInfo.{MainHeaderInfo}
+use Rattle.header.specs.declared.parse.MainHeader.{MainHeader}
+use Rattle.header.specs.declared.parse.MainHeader.the-variants.{Header, Refused}
+use Rattle.numbers.proofs.Choice.{by-test}
+use Rattle.header.proofs.TlmLaws.{length-placed}
+use Rattle.header.proofs.StripLengths.{entries-bound, stopped-inside}
+
+module _ (s : List ℕ) where
+  pub judged-long : 0xffff_ffff < length s → judged s ≡ Refused (refusal 19 0)
+  unfolding judged
+  judged-long h = rw (lt-leb _ _ h)
+
+  module _ (short : length s ≤ 0xffff_ffff) where
+    pub judged-no-soc : stands s 0 SOC ≡ false → judged s ≡ Refused (refusal 1 0)
+    unfolding judged
+    judged-no-soc e = rw (le-leb _ _ short, e)
+
+    pub judged-no-siz : stands s 0 SOC ≡ true → stands s 2 SIZ ≡ false → judged s ≡ Refused (refusal 2 2)
+    unfolding judged
+    judged-no-siz e k = rw (le-leb _ _ short, e, k)
+
+    pub judged-walk : stands s 0 SOC ≡ true → stands s 2 SIZ ≡ true → judged s ≡ readAs s (walkFrom s 2) (walkFrom s 2 .ended)
+    unfolding judged
+    judged-walk e k = rw (le-leb _ _ short, e, k)
+
+and-first : (a b : mathlib.Core.Bool.Bool) → (a && b) ≡ true → a ≡ true
+and-first true b e = refl
+and-first false b e = e
+
+pub stands-there : (s : List ℕ) (at marker : ℕ) → at + 2 ≤ length s → be 2 s at ≡ marker → stands s at marker ≡ true
+unfolding stands
+stands-there s at marker h e = rw (le-leb _ _ h, eq-eqb _ _ e)
+
+pub stands-inside : (s : List ℕ) (at marker : ℕ) → stands s at marker ≡ true → at + 2 ≤ length s
+unfolding stands
+stands-inside s at marker e = leb-true (at + 2) (length s) (and-first (leb (at + 2) (length s)) (eqb (be 2 s at) marker) e)
+
+-- ---- what an accepted header says
+
+pub record Read (s : List ℕ) (h : MainHeaderInfo) : Type 0 where
+  pub short : length s ≤ 0xffff_ffff
+  pub two : 2 ≤ length s
+  pub first : h .«first_sot_offset» .0 ≡ walkFrom s 2 .stopped
+  pub header : h .«decode_header_length» ≡ length (decodeHeader s (walkFrom s 2 .visits))
+  pub entries : h .«tlm_entries» ≡ length (tlmEntries s (walkFrom s 2 .visits))
+  pub ends : walkFrom s 2 .ended ≡ firstSot
+
+abbrev Says : List ℕ → MainHeader → Type 0
+Says s (Header h) = Read s h
+Says s (Refused r) = Unit {0}
+
+says-walk : (s : List ℕ) → length s ≤ 0xffff_ffff → 2 ≤ length s → (ended : WalkEnd) → walkFrom s 2 .ended ≡ ended → Says s (readAs s (walkFrom s 2) ended)
+unfolding readAs
+says-walk s short two firstSot e = record { short = short; two = two; first = refl; header = refl; entries = refl; ends = e }
+says-walk s short two (refused r) e = tt
+
+says : (s : List ℕ) → Says s (judged s)
+unfolding judged
+says s =
+    by-test (Says s) (leb (length s) 0xffff_ffff)
+    (λ short. by-test (Says s) (stands s 0 SOC)
+    (λ soc. by-test (Says s) (stands s 2 SIZ)
+    (λ siz. says-walk s (leb-true (length s) 0xffff_ffff short) (omega (arith, stands-inside s 2 SIZ siz)) (walkFrom s 2 .ended) refl)
+    (λ _. tt))
+    (λ _. tt))
+    (λ _. tt)
+
+pub judged-read : (s : List ℕ) (h : MainHeaderInfo) → judged s ≡ Header h → Read s h
+judged-read s h e = rw e at (says s)
+
+-- ---- the answer, by the room
+
+module _ (s : List ℕ) (rows room : ℕ) where
+  pub parsed-refused : (r : Refusal) → judged s ≡ Refused r → parsed s rows room ≡ Refused r
+  unfolding parsed withRoom
+  parsed-refused r e = ap (withRoom rows room) e
+
+  module _ (h : MainHeaderInfo) (e : judged s ≡ Header h) where
+    pub parsed-18 : rows < h .«tlm_entries» → parsed s rows room ≡ Refused (refusal 18 (h .«tlm_entries»))
+    unfolding parsed withRoom
+    parsed-18 few = ap (withRoom rows room) e ∙ rw (lt-leb _ _ few)
+
+    module _ (many : h .«tlm_entries» ≤ rows) where
+      pub parsed-17 : room < h .«decode_header_length» → parsed s rows room ≡ Refused (refusal 17 (h .«decode_header_length»))
+      unfolding parsed withRoom
+      parsed-17 few = ap (withRoom rows room) e ∙ rw (le-leb _ _ many, lt-leb _ _ few)
+
+      pub parsed-header : h .«decode_header_length» ≤ room → parsed s rows room ≡ Header h
+      unfolding parsed withRoom
+      parsed-header fits = ap (withRoom rows room) e ∙ rw (le-leb _ _ many, le-leb _ _ fits)
+
+-- ---- what an accepted answer says: the header, that there is room for what is then written, and that the records' offsets fit in 64 bits
+
+pub record Decided (s : List ℕ) (rows room : ℕ) (h : MainHeaderInfo) : Type 0 where
+  pub read : Read s h
+  pub many : length (tlmEntries s (walkFrom s 2 .visits)) ≤ rows
+  pub fits : length (decodeHeader s (walkFrom s 2 .visits)) ≤ room
+  pub bound : h .«first_sot_offset» .0 + length (tlmEntries s (walkFrom s 2 .visits)) * 2 ^ 32 < 2 ^ 64
+
+abbrev Decides : List ℕ → ℕ → ℕ → MainHeader → Type 0
+Decides s rows room (Header h) = Decided s rows room h
+Decides s rows room (Refused r) = Unit {0}
+
+decides : (s : List ℕ) (rows room : ℕ) (answer : MainHeader) → Says s answer → Decides s rows room (withRoom rows room answer)
+unfolding withRoom
+decides s rows room (Header h) r =
+    by-test (Decides s rows room) (leb (h .«tlm_entries») rows)
+    (λ many. by-test (Decides s rows room) (leb (h .«decode_header_length») room)
+    (λ fits. record {
+      read = r;
+      many = omega (arith, r .entries, leb-true (h .«tlm_entries») rows many);
+      fits = omega (arith, r .header, leb-true (h .«decode_header_length») room fits);
+      bound = omega (arith, r .first, r .short, entries-bound s (r .two), stopped-inside s (r .two));
+    })
+    (λ _. tt))
+    (λ _. tt)
+decides s rows room (Refused r) said = tt
+
+pub parsed-decided : (s : List ℕ) (rows room : ℕ) (h : MainHeaderInfo) → parsed s rows room ≡ Header h → Decided s rows room h
+unfolding parsed
+parsed-decided s rows room h e = rw e at (decides s rows room (judged s) (says s))
+
+-- what is written is one replacement from the start
+module _ (s : List ℕ) (h : MainHeaderInfo) (r : Read s h) where
+  pub table-put : (table : List ℕ) → put table 0 (rowsOf (placed (h .«first_sot_offset» .0) (tlmEntries s (walkFrom s 2 .visits)))) ≡ tableAfter (Header h) s table
+  unfolding tableAfter tlmTable
+  table-put table =
+      let rows : List ℕ = rowsOf (placed (walkFrom s 2 .stopped) (tlmEntries s (walkFrom s 2 .visits))) in
+      let long : length rows ≡ 18 * h .«tlm_entries» =
+      omega (arith, length-rows (placed (walkFrom s 2 .stopped) (tlmEntries s (walkFrom s 2 .visits))), length-placed (walkFrom s 2 .stopped) (tlmEntries s (walkFrom s 2 .visits)), r .entries) in
+      rw (r .first) (put-start table rows ∙ ap (λ (n : ℕ). rows ++ drop n table) long)
+
+  pub out-put : (out : List ℕ) → put out 0 (decodeHeader s (walkFrom s 2 .visits)) ≡ outAfter (Header h) s out
+  unfolding outAfter
+  out-put out = put-start out _ ∙ ap (λ (n : ℕ). decodeHeader s (walkFrom s 2 .visits) ++ drop n out) (sym (r .header))

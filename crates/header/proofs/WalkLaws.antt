@@ -1,0 +1,189 @@
+-- The walk's definitions, opened once: a law for each case; the walk goes forward inside the bytes, so the laws of a chain hold of it.
+use Prim.Native.Nat.{ℕ, _≤_, _<_}
+use native.Mathlib.Omega.{arith}
+use mathlib.Core.Path.{_≡_, refl, sym, ap, _∙_}
+use mathlib.Core.Bool.{true, false}
+use mathlib.Core.List.{List, [], _∷_}
+use mathlib.Core.Logic.{⊎-elim}
+use lib.ListN.{length}
+use lib.Dec.{leb, eqb}
+use borrow.Author.Tests.{eq-eqb, ne-eqb, leb-true, eqb-true, eqb-false}
+use denote.Enum.Declared.{tagOf}
+use types.Run.{OneOf}
+use Rattle.numbers.specs.Bytes.{be}
+use Rattle.types.specs.Markers.{TLM}
+use Rattle.chain.specs.Chain.{on, Chain, Rises, also}
+use Rattle.chain.proofs.ChainLaws.{chain-end, chain-on, end-on}
+use Rattle.header.specs.Step.{delimits, segmentEnd, stepAt}
+use Rattle.header.specs.Tlm.{ltlm, stlm, indexSize, entryCount, Accepted, tlmAt}
+use Rattle.header.specs.Walk.{cutAt, tlmStep, passedAt, walkStepOf, walkStepAt, WalkEnd, firstSot, refused, walkMove, walkAt, walkFrom, Markers}
+use Rattle.header.specs.declared.step.HeaderStep.{HeaderStep}
+use Rattle.header.specs.declared.step.HeaderStep.the-variants.{Sot, Delimiter, Segment, CutShort}
+use Rattle.header.specs.declared.tlm.Tlm.{Tlm}
+use Rattle.header.specs.declared.walk.Passed.{Passed as Passing}
+use Rattle.header.specs.declared.walk.WalkStep.{WalkStep}
+use Rattle.header.specs.declared.walk.WalkStep.the-variants.{Passed, FirstSot, Refused}
+use Rattle.header.proofs.walk.WalkStep.{the-type}
+use Rattle.types.specs.declared.Refusal.{Refusal}
+use Rattle.numbers.proofs.Choice.{by-test}
+use Rattle.header.proofs.StepLaws.{Told, step-told}
+
+-- ---- what is passed
+
+module _ (s : List ℕ) (at next : ℕ) where
+  pub pass-other : (be 2 s at ≡ TLM → ⊥) → passedAt s at next ≡ Passed (record { next = next; «is_tlm» = false; entries = 0 })
+  unfolding passedAt
+  pass-other h = rw (ne-eqb _ _ h)
+
+  pub pass-tlm : be 2 s at ≡ TLM → passedAt s at next ≡ tlmStep next (tlmAt s at)
+  unfolding passedAt
+  pass-tlm e = rw (eq-eqb _ _ e)
+
+  pub walk-segment : stepAt s at ≡ Segment next → walkStepAt s at ≡ passedAt s at next
+  unfolding walkStepAt walkStepOf
+  walk-segment e = ap (walkStepOf s at) e
+
+  pub walk-delimiter : stepAt s at ≡ Delimiter next → walkStepAt s at ≡ passedAt s at next
+  unfolding walkStepAt walkStepOf
+  walk-delimiter e = ap (walkStepOf s at) e
+
+pub walk-sot : (s : List ℕ) (at : ℕ) → stepAt s at ≡ Sot → walkStepAt s at ≡ FirstSot
+unfolding walkStepAt walkStepOf
+walk-sot s at e = ap (walkStepOf s at) e
+
+pub walk-cut : (s : List ℕ) (at : ℕ) → stepAt s at ≡ CutShort → walkStepAt s at ≡ Refused (cutAt s at)
+unfolding walkStepAt walkStepOf
+walk-cut s at e = ap (walkStepOf s at) e
+
+-- no delimiter has TLM's low byte
+tlm-no-delimiter : delimits TLM ≡ false
+unfolding delimits
+tlm-no-delimiter = refl
+
+-- what a step that goes on says of its marker
+pub delimiter-marks : (s : List ℕ) (at next : ℕ) → stepAt s at ≡ Delimiter next → Markers s at next
+delimiter-marks s at next e =
+    let told : Told s at (Delimiter next) = rw e at (step-told s at) in
+    record {
+      marker = omega arith;
+      segment = λ m. absurd (let d : true ≡ false = sym (told .3) ∙ ap delimits m ∙ tlm-no-delimiter in let z : _≡_ {A = ℕ} 0 1 = cc in omega arith);
+    }
+
+pub segment-marks : (s : List ℕ) (at next : ℕ) → stepAt s at ≡ Segment next → Markers s at next
+segment-marks s at next e =
+    let told : Told s at (Segment next) = rw e at (step-told s at) in
+    record { marker = omega arith; segment = λ m. record { marked = told .3; ends = omega arith } }
+
+-- ---- what a step that passes something says
+
+-- a TLM segment that was passed
+pub record TlmPassed (s : List ℕ) (at : ℕ) (p : Passing) : Type 0 where
+  pub marker : be 2 s at ≡ TLM
+  pub accepted : Accepted s at
+  pub count : p .entries ≡ entryCount s at
+  pub whole : p .next ≡ segmentEnd s at
+
+pub record PassedIs (s : List ℕ) (at : ℕ) (p : Passing) : Type 0 where
+  pub past : at < p .next
+  pub inside : p .next ≤ length s
+  pub plain : p .«is_tlm» ≡ false → be 2 s at ≡ TLM → ⊥
+  pub tlm : p .«is_tlm» ≡ true → TlmPassed s at p
+
+abbrev Tells : List ℕ → ℕ → WalkStep → Type 0
+Tells s at (Passed p) = PassedIs s at p
+Tells s at FirstSot = Unit {0}
+Tells s at (Refused r) = Unit {0}
+
+pub not-true-false : true ≡ false → ⊥
+not-true-false e = let z : _≡_ {A = ℕ} 0 1 = cc in omega arith
+
+tells-tlm : (s : List ℕ) (at next : ℕ) → at < next → next ≤ length s → be 2 s at ≡ TLM → next ≡ segmentEnd s at → Tells s at (tlmStep next (tlmAt s at))
+unfolding tlmAt tlmStep
+tells-tlm s at next past inside m whole =
+    let P : Tlm → Type 0 = λ t. Tells s at (tlmStep next t) in
+    by-test P (leb 4 (ltlm s at))
+    (λ long. by-test P (eqb (indexSize (stlm s at)) 3) (λ _. tt)
+    (λ known. record {
+      past = past;
+      inside = inside;
+      plain = λ e. absurd (not-true-false e);
+      tlm = λ _. record {
+        marker = m;
+        accepted = record { ends = rw whole at inside; long = leb-true 4 (ltlm s at) long; known = known-size (stlm s at) (eqb-false (indexSize (stlm s at)) 3 known) };
+        count = refl;
+        whole = whole;
+      };
+    }))
+    (λ _. tt)
+  where
+    known-size : (stlm : ℕ) → (indexSize stlm ≡ 3 → ⊥) → indexSize stlm < 3
+    known-size stlm h = omega arith
+
+tells-passed : (s : List ℕ) (at next : ℕ) → at < next → next ≤ length s → (be 2 s at ≡ TLM → next ≡ segmentEnd s at) → Tells s at (passedAt s at next)
+unfolding passedAt
+tells-passed s at next past inside whole =
+    by-test (Tells s at) (eqb (be 2 s at) TLM)
+    (λ m. let e = eqb-true (be 2 s at) TLM m in tells-tlm s at next past inside e (whole e))
+    (λ m. record { past = past; inside = inside; plain = λ _. eqb-false (be 2 s at) TLM m; tlm = λ e. absurd (not-true-false (sym e)) })
+
+tells-step : (s : List ℕ) (at : ℕ) (found : HeaderStep) → Told s at found → Tells s at (walkStepOf s at found)
+unfolding walkStepOf
+tells-step s at Sot told = tt
+tells-step s at (Delimiter next) told =
+    tells-passed s at next (told .0) (told .1) (λ m. absurd (not-true-false (sym (told .3) ∙ ap delimits m ∙ tlm-no-delimiter)))
+tells-step s at (Segment next) told = tells-passed s at next (told .0) (told .1) (λ _. told .2)
+tells-step s at CutShort told = tt
+
+pub passed-is : (s : List ℕ) (at : ℕ) (p : Passing) → walkStepAt s at ≡ Passed p → PassedIs s at p
+unfolding walkStepAt
+passed-is s at p e = rw e at (tells-step s at (stepAt s at) (step-told s at))
+
+-- ---- the walk, by what the step finds
+
+moved : (s : List ℕ) (at next : ℕ) (found : WalkStep) → Tells s at found → walkMove found ≡ on next → (at < next) × (at < length s)
+unfolding walkMove
+moved s at next (Passed p) told e = let h : p .next ≡ next = cc in let a = told .past in let b = told .inside in (omega arith, omega arith)
+moved s at next FirstSot told e = absurd (end-on e)
+moved s at next (Refused r) told e = absurd (end-on e)
+
+pub walk-rises : (s : List ℕ) → Rises (walkAt s) (length s)
+unfolding walkAt walkStepAt
+walk-rises s at next e = moved s at next (walkStepAt s at) (tells-step s at (stepAt s at) (step-told s at)) e
+
+pub walk-on : (s : List ℕ) (at : ℕ) (p : Passing) → walkStepAt s at ≡ Passed p
+    → walkFrom s at ≡ also (record { at = at; next = p .next }) (walkFrom s (p .next))
+unfolding walkFrom walkAt walkMove
+walk-on s at p e = chain-on firstSot (walkAt s) (length s) (walk-rises s) at (p .next) (ap walkMove e)
+
+pub walk-found : (s : List ℕ) (at : ℕ) → walkStepAt s at ≡ FirstSot → walkFrom s at ≡ record { visits = []; stopped = at; ended = firstSot }
+unfolding walkFrom walkAt walkMove
+walk-found s at e = chain-end firstSot (walkAt s) (length s) (walk-rises s) at firstSot (ap walkMove e)
+
+pub walk-refused : (s : List ℕ) (at : ℕ) (r : Refusal) → walkStepAt s at ≡ Refused r → walkFrom s at ≡ record { visits = []; stopped = at; ended = refused r }
+unfolding walkFrom walkAt walkMove
+walk-refused s at r e = chain-end firstSot (walkAt s) (length s) (walk-rises s) at (refused r) (ap walkMove e)
+
+-- a step that passes nothing ends the walk
+pub walk-none : (s : List ℕ) (at : ℕ) → OneOf (1 ∷ 2 ∷ []) (tagOf the-type (walkStepAt s at)) → walkFrom s at .visits ≡ []
+walk-none s at k = by (walkStepAt s at) refl k
+  where
+    by : (found : WalkStep) → walkStepAt s at ≡ found → OneOf (1 ∷ 2 ∷ []) (tagOf the-type found) → walkFrom s at .visits ≡ []
+    by (Passed p) e k = absurd (⊎-elim (λ e. omega arith) (λ e. omega arith) k)
+    by FirstSot e k = ap (λ (c : Chain WalkEnd). c .visits) (walk-found s at e)
+    by (Refused r) e k = ap (λ (c : Chain WalkEnd). c .visits) (walk-refused s at r e)
+
+-- neither something passed nor a refusal
+pub only-found : (found : WalkStep) → OneOf (1 ∷ 2 ∷ []) (tagOf the-type found) → OneOf (0 ∷ 1 ∷ []) (tagOf the-type found) → found ≡ FirstSot
+only-found (Passed p) k g = absurd (⊎-elim (λ e. omega arith) (λ e. omega arith) k)
+only-found FirstSot k g = refl
+only-found (Refused r) k g = absurd (⊎-elim (λ e. omega arith) (λ e. omega arith) g)
+
+-- a move is something passed
+pub on-passed : (s : List ℕ) (at next : ℕ) → walkAt s at ≡ on next → (p : Passing) × (walkStepAt s at ≡ Passed p) × (p .next ≡ next)
+unfolding walkAt walkMove
+on-passed s at next e = by (walkStepAt s at) refl
+  where
+    by : (found : WalkStep) → walkStepAt s at ≡ found → (p : Passing) × (walkStepAt s at ≡ Passed p) × (p .next ≡ next)
+    by (Passed p) f = (p, f, let h : on (p .next) ≡ on next = sym (ap walkMove f) ∙ e in (cc))
+    by FirstSot f = absurd (end-on (sym (ap walkMove f) ∙ e))
+    by (Refused r) f = absurd (end-on (sym (ap walkMove f) ∙ e))

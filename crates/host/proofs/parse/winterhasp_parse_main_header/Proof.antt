@@ -1,0 +1,24 @@
+-- What the callees say of answer and lent memory is what is promised.
+use borrow.Author.Needs.{needs}
+use Rattle.host.proofs.parse.winterhasp_parse_main_header.Statement.{statement}
+use Rattle.host.proofs.parse.winterhasp_parse_main_header.Tie as tie
+
+parse-main-header-requires : tie.Need-parse-main-header-requires
+parse-main-header-requires c κs = search needs
+
+tell-requires : tie.Need-tell-requires
+tell-requires c κs = search needs
+
+same-length : tie.Need-same-length
+same-length c = search needs
+
+same-length-2 : tie.Need-same-length-2
+same-length-2 c = search needs
+
+returns : tie.Need-returns
+returns c = (cc, (cc, (cc, (cc, (cc, cc)))))
+
+pub winterhasp-parse-main-header-spec : {M : Type 1} → statement M
+winterhasp-parse-main-header-spec =
+    tie.close
+    (tie.spec parse-main-header-requires tell-requires same-length same-length-2 returns)

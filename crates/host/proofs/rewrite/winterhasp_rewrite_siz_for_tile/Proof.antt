@@ -1,0 +1,20 @@
+-- What the callees say of answer and lent memory is what is promised.
+use borrow.Author.Needs.{needs}
+use Rattle.host.proofs.rewrite.winterhasp_rewrite_siz_for_tile.Statement.{statement}
+use Rattle.host.proofs.rewrite.winterhasp_rewrite_siz_for_tile.Tie as tie
+
+rewrite-siz-for-tile-requires : tie.Need-rewrite-siz-for-tile-requires
+rewrite-siz-for-tile-requires c κs = search needs
+
+tell-written-requires : tie.Need-tell-written-requires
+tell-written-requires c κs = search needs
+
+same-length : tie.Need-same-length
+same-length c = search needs
+
+returns : tie.Need-returns
+returns c = (cc, (cc, cc))
+
+pub winterhasp-rewrite-siz-for-tile-spec : {M : Type 1} → statement M
+winterhasp-rewrite-siz-for-tile-spec =
+    tie.close (tie.spec rewrite-siz-for-tile-requires tell-written-requires same-length returns)

@@ -1,0 +1,27 @@
+// The reading of the main header.
+ghost use mathlib.Core.Path.{_≡_};
+ghost use Prim.Native.Nat.{_/_};
+ghost use lib.ListN.{length};
+ghost use Rattle.header.specs.Parse.{parsed, tableAfter, outAfter, headerNumber, headerFirst, headerLength, headerEntries};
+
+// `table` gets a row of 18 bytes for each TLM entry, `out` the decode header. `first_sot`: the first SOT's offset, or a refusal's
+// place; `decode_length`: the decode header's length; `entries`: the rows.
+#[no_mangle]
+pub extern "C" fn winterhasp_parse_main_header(
+    codestream: &[u8],
+    table: &mut [u8],
+    out: &mut [u8],
+    first_sot: &mut u64,
+    decode_length: &mut u64,
+    entries: &mut u64,
+) -> u32
+    ensures { λ r. ⌜ r ≡ headerNumber (parsed (now (codestream .entry)) (length (now (table .entry)) / 18) (length (now (out .entry)))) ⌝ }
+    ensures { λ _. ⌜ now («first_sot» .exit) ≡ headerFirst (parsed (now (codestream .entry)) (length (now (table .entry)) / 18) (length (now (out .entry)))) ⌝ }
+    ensures { λ _. ⌜ now («decode_length» .exit) ≡ headerLength (parsed (now (codestream .entry)) (length (now (table .entry)) / 18) (length (now (out .entry)))) (now («decode_length» .entry)) ⌝ }
+    ensures { λ _. ⌜ now (entries .exit) ≡ headerEntries (parsed (now (codestream .entry)) (length (now (table .entry)) / 18) (length (now (out .entry)))) (now (entries .entry)) ⌝ }
+    ensures { λ _. ⌜ now (table .exit) ≡ tableAfter (parsed (now (codestream .entry)) (length (now (table .entry)) / 18) (length (now (out .entry)))) (now (codestream .entry)) (now (table .entry)) ⌝ }
+    ensures { λ _. ⌜ now (out .exit) ≡ outAfter (parsed (now (codestream .entry)) (length (now (table .entry)) / 18) (length (now (out .entry)))) (now (codestream .entry)) (now (out .entry)) ⌝ }
+{
+    let answer = header::parse::parse_main_header(codestream, table, out);
+    header::parse::tell(answer, first_sot, decode_length, entries)
+}

@@ -1,0 +1,201 @@
+-- Demand 3's premises. They hold of sample A, so the theorem says something; and each is needed: for each the smallest codestream of which all others
+-- hold and the conclusion doesn't. All is computed, but for the length past 2^32-1.
+use Prim.Native.Nat.{ℕ, zero, suc, _<_}
+use native.Mathlib.Omega.{arith}
+use mathlib.Core.Path.{_≡_, refl}
+use mathlib.Core.Bool.{Bool, true, false, _&&_}
+use mathlib.Core.List.{List, [], _∷_, _++_}
+use lib.ListN.{length}
+use lib.Dec.{ltb}
+use borrow.Author.Tests.{ltb-true}
+use Rattle.types.specs.Refusals.{refusal}
+use Rattle.types.specs.Markers.{SOC, SIZ}
+use Rattle.types.specs.Row.{rowsOf}
+use Rattle.types.specs.declared.Refusal.{Refusal}
+use Rattle.types.specs.declared.TilePartEntry.{TilePartEntry}
+use Rattle.header.specs.declared.parse.MainHeader.the-variants.{Header}
+use Rattle.header.proofs.ParseLaws.{judged-long}
+use Rattle.parts.specs.Scan.{scanFrom, entriesFrom}
+use Rattle.parts.specs.Split.{partsOf}
+use Rattle.parts.specs.Tiles.{ofTile, bytesAt, joined, AllLong}
+use Rattle.parts.specs.declared.scan.Scanned.the-variants.{Table}
+use Rattle.tile.specs.Rewrite.{tileSize}
+use Rattle.tile.specs.Assembly.{assemblyAnswer}
+use Rattle.tile.specs.declared.rewrite.TileSize.{TileSize}
+use Rattle.tile.specs.declared.rewrite.TileSize.the-variants.{Whole, Cut}
+use Rattle.laws.specs.Sample.{two, four, zeros, sot, A}
+use Rattle.laws.specs.Demand3.{AllBytes, Accepted, NoPsot0, decodeHeaderOf, assembledOf, Assembles, Reassembled}
+use Rattle.laws.proofs.SampleComputing.{walks, scan-runs, split-runs, tiles}
+use Rattle.laws.proofs.Demand3.{demand-3}
+use Rattle.header.specs.Parse as parse
+use Rattle.header.specs.declared.parse.MainHeader.the-variants as main
+use Rattle.parts.specs.Scan as scan
+use Rattle.parts.specs.declared.scan.Scanned.the-variants as scans
+use Rattle.tile.specs.Rewrite as rewrite
+use Rattle.tile.specs.declared.rewrite.TileSize.the-variants as size
+use Rattle.tile.specs.declared.rewrite.Written.the-variants as writes
+
+-- ---- they hold of A, and tile 5
+
+unfoldable allBelow : List ℕ → Bool
+allBelow [] = true
+allBelow (x ∷ rest) = ltb x 256 && allBelow rest
+
+both : (a b : Bool) → (a && b) ≡ true → (a ≡ true) × (b ≡ true)
+both true b e = (refl, e)
+both false b e = let z : _≡_ {A = ℕ} 0 1 = cc in absurd (omega arith)
+
+all-bytes : (s : List ℕ) → allBelow s ≡ true → AllBytes s
+unfolding allBelow
+all-bytes [] e i = omega arith
+all-bytes (x ∷ rest) e zero = ltb-true x 256 (both (ltb x 256) (allBelow rest) e .0)
+all-bytes (x ∷ rest) e (suc i) = all-bytes rest (both (ltb x 256) (allBelow rest) e .1) i
+
+abbrev entry : ℕ → ℕ → ℕ → TilePartEntry
+entry index offset long = record { «tile_index» = index; offset = record { 0 = offset }; length = long }
+
+A-bytes : allBelow A ≡ true
+unfolding walks allBelow
+A-bytes = refl
+
+pub A-accepted : Accepted A 57
+unfolding walks scan-runs
+A-accepted =
+    record {
+      bytes = all-bytes A A-bytes;
+      info = record { «first_sot_offset» = record { 0 = 57 }; «decode_header_length» = 45; «tlm_entries» = 2 };
+      header = refl;
+      first = refl;
+      count = 2;
+      scan = refl;
+    }
+
+cut-accepts : {w g : ℕ} {r : Refusal} {z : TileSize} → z ≡ Cut w g → z ≡ size.Refused r → ⊥
+cut-accepts e f = let z : _≡_ {A = ℕ} 0 1 = cc in omega arith
+
+not-empty : {e : TilePartEntry} {es : List TilePartEntry} → _≡_ {A = List TilePartEntry} (e ∷ es) [] → ⊥
+not-empty e = let z : _≡_ {A = ℕ} 0 1 = cc in omega arith
+
+A-tile-5 : tileSize (decodeHeaderOf A) 5 ≡ Cut 2 2
+unfolding walks tiles
+A-tile-5 = refl
+
+pub A-assembles : Assembles A 5 (ofTile 5 (entriesFrom A 57)) (zeros 63)
+unfolding walks scan-runs tiles AllLong NoPsot0
+A-assembles =
+    record {
+      long = (omega arith, tt);
+      some = λ e. not-empty e;
+      sized = (λ e. omega arith, tt);
+      siz = omega arith;
+      accepts = λ r e. cut-accepts A-tile-5 e;
+      room = omega arith;
+      short = omega arith;
+    }
+
+pub A-reassembled : Reassembled A 5 (ofTile 5 (entriesFrom A 57)) (zeros 63)
+A-reassembled = demand-3 A 57 A-accepted .assembly 5 (zeros 63) A-assembles
+
+-- ---- the smallest codestreams
+
+-- SOC and SIZ with an Lsiz, 1 wide: XTsiz, YTsiz and YTOsiz, the other fields 0; 40 bytes, which end before Csiz
+unfoldable pub begun : ℕ → ℕ → ℕ → ℕ → List ℕ
+begun lsiz xt yt yto =
+    two SOC ++ two SIZ ++ two lsiz ++ two 0 ++ four 1 ++ four 0 ++ four 0 ++ four 0 ++ four xt ++ four yt ++ four 0 ++ four yto
+
+-- Lsiz 38, with a Csiz of 0: one tile-part of 12 bytes stands at 42
+unfoldable pub least : List ℕ → List ℕ
+least part = begun 38 1 0 0 ++ two 0 ++ part
+
+-- the header is accepted with the first SOT at p, no TLM met; the scan from there gives these entries; and the rewrite for a tile gives a size
+abbrev Taken : List ℕ → ℕ → List TilePartEntry → ℕ → TileSize → Type 0
+Taken s p es tile z =
+    (parse.judged s ≡ Header (record { «first_sot_offset» = record { 0 = p }; «decode_header_length» = p; «tlm_entries» = 0 }))
+    × (scan.judged (scanFrom s p) ≡ Table (length es))
+    × (entriesFrom s p ≡ es)
+    × (tileSize (decodeHeaderOf s) tile ≡ z)
+
+computed : Unit {0}
+unfolding walks scan-runs split-runs tiles bytesAt joined begun least
+computed = tt
+
+-- with all premises, 54 bytes: none is shorter
+pub least-taken : Taken (least (sot 0 12)) 42 (entry 0 42 12 ∷ []) 0 Whole
+unfolding computed
+least-taken = (refl, refl, refl, refl)
+
+-- ---- an entry of 12 bytes or longer
+
+-- 10 bytes, the last two of the SOT segment being EOC: no part stands in them, so the split gives none
+pub short-taken : Taken (least (two 0xff90 ++ two 10 ++ two 0 ++ four 10 ++ two 0xffd9)) 42 (entry 0 42 10 ∷ []) 0 Whole
+unfolding computed
+short-taken = (refl, refl, refl, refl)
+
+pub short-split : partsOf (joined (least (two 0xff90 ++ two 10 ++ two 0 ++ four 10 ++ two 0xffd9)) (entry 0 42 10 ∷ [])) ≡ []
+unfolding computed
+short-split = refl
+
+-- 4 bytes, Isot being EOC: the scan of what is assembled refuses
+pub shorter-taken : Taken (least (sot 0xffd9 4)) 42 (entry 0xffd9 42 4 ∷ []) 0xffd9 Whole
+unfolding computed
+shorter-taken = (refl, refl, refl, refl)
+
+pub shorter-scan : scan.judged (scanFrom (assembledOf (least (sot 0xffd9 4)) (entry 0xffd9 42 4 ∷ [])) 42) ≡ scans.Refused (refusal 7 42)
+unfolding computed
+shorter-scan = refl
+
+-- ---- an entry at all
+
+-- tile 1 has none, and behind the header stands EOC
+pub none-taken : Taken (least (sot 0 12)) 42 (entry 0 42 12 ∷ []) 1 Whole
+unfolding computed
+none-taken = (refl, refl, refl, refl)
+
+pub none-walk : parse.judged (assembledOf (least (sot 0 12)) (ofTile 1 (entriesFrom (least (sot 0 12)) 42))) ≡ main.Refused (refusal 3 42)
+unfolding computed
+none-walk = refl
+
+-- ---- no Psot 0
+
+-- the entry reaches to the codestream's end, and in what is assembled past EOC
+pub psot-0-taken : Taken (least (sot 0 0)) 42 (entry 0 42 12 ∷ []) 0 Whole
+unfolding computed
+psot-0-taken = (refl, refl, refl, refl)
+
+pub psot-0-scan : entriesFrom (assembledOf (least (sot 0 0)) (entry 0 42 12 ∷ [])) 42 ≡ entry 0 42 14 ∷ []
+unfolding computed
+psot-0-scan = refl
+
+-- ---- Lsiz of 38 or more
+
+-- Lsiz 34, and EPH at 38, which the rewrite takes for the low half of YTOsiz and makes 0. (The eight fields end at 40, so 36 would do: `rewalked`.)
+pub lsiz-34-taken : Taken (begun 34 1 1 0xff92 ++ sot 0 12) 40 (entry 0 40 12 ∷ []) 0 (Cut 1 0)
+unfolding computed
+lsiz-34-taken = (refl, refl, refl, refl)
+
+pub lsiz-34-walk : parse.judged (assembledOf (begun 34 1 1 0xff92 ++ sot 0 12) (entry 0 40 12 ∷ [])) ≡ main.Refused (refusal 3 38)
+unfolding computed
+lsiz-34-walk = refl
+
+-- ---- a rewrite that accepts
+
+-- XTsiz 0
+pub refused-taken : Taken (begun 38 0 0 0 ++ two 0 ++ sot 0 12) 42 (entry 0 42 12 ∷ []) 0 rewrite.outside
+unfolding computed
+refused-taken = (refl, refl, refl, refl)
+
+pub refused-answer : assemblyAnswer (begun 38 0 0 0 ++ two 0) (rowsOf (entry 0 42 12 ∷ [])) (begun 38 0 0 0 ++ two 0 ++ sot 0 12) 56 ≡ writes.Refused (refusal 10 2)
+unfolding computed
+refused-answer = refl
+
+-- ---- room
+
+pub room-answer : assemblyAnswer (least []) (rowsOf (entry 0 42 12 ∷ [])) (least (sot 0 12)) 55 ≡ writes.Refused (refusal 17 56)
+unfolding computed
+room-answer = refl
+
+-- ---- at most 2^32-1 bytes
+
+-- EOC makes what is assembled up to 2 bytes longer than the codestream: with no TLM and one part to the end, 2^32-2 bytes are enough
+pub long-walk : (s : List ℕ) (es : List TilePartEntry) → 0xffff_ffff < length (assembledOf s es) → parse.judged (assembledOf s es) ≡ main.Refused (refusal 19 0)
+long-walk s es h = judged-long (assembledOf s es) h

@@ -1,0 +1,194 @@
+-- The walk over a decode header with an SOT after it: the delimiters and segments that are kept are read the same at their new places, so the walk
+-- passes them one by one and stops at the SOT. The rewrite changes bytes inside the SIZ segment only, behind its marker and its length.
+use Prim.Native.Nat.{ℕ, _+_, _-_, _≤_}
+use native.Mathlib.Nat.{add-zero}
+use native.Mathlib.Omega.{arith}
+use mathlib.Core.Path.{_≡_, refl, sym, ap, _∙_}
+use mathlib.Core.Bool.{false}
+use mathlib.Core.List.{List, _∷_, _++_, append-assoc}
+use lib.ListN.{length, take, length-append}
+use lib.Seq.{getD-take, take-append-le, drop-append-le, length-take-le, take-add}
+use Rattle.numbers.specs.Bytes.{be, put}
+use Rattle.numbers.proofs.BytesLaws.{be-cong, be-rest, be-front, be-put-before, length-put}
+use Rattle.types.specs.Markers.{SIZ, TLM, SOT}
+use Rattle.chain.specs.Chain.{Chain, end, on, Visit, Run, stay, step}
+use Rattle.chain.proofs.ChainLaws.{chain-run, chain-stops}
+use Rattle.header.specs.Step.{delimits, segmentEnd}
+use Rattle.header.specs.Walk.{walkStepAt, WalkEnd, firstSot, walkAt, walkFrom}
+use Rattle.header.specs.Strip.{kept, decodeHeader}
+use Rattle.header.specs.declared.walk.WalkStep.the-variants.{Passed}
+use Rattle.header.proofs.StepLaws.{step-sot}
+use Rattle.header.proofs.WalkLaws.{walk-sot, walk-found, walk-rises}
+use Rattle.header.proofs.WalkVisited.{stopped-on, ended-on, length-visited}
+use Rattle.tile.specs.Siz.{oneTile}
+use Rattle.tile.specs.Rewrite.{cutTo}
+use Rattle.tile.specs.declared.rewrite.TileSize.{TileSize}
+use Rattle.tile.specs.declared.rewrite.TileSize.the-variants.{Whole, Cut, Refused}
+use Rattle.tile.proofs.RewriteHeader.{length-one}
+use Rattle.laws.specs.Demand3.{AllBytes}
+use Rattle.laws.proofs.Demand3Items.{true-false, Item, delimiter, segment, item, item-long, ends-sot, step-again, kept-tlm, kept-other, by-tlm, piece, field, pass-again}
+
+-- ---- the walk over what is kept
+
+-- the walk from a position on stops at another, at an SOT
+pub record Stops (a : List ℕ) (from to : ℕ) : Type 0 where
+  pub stopped : walkFrom a from .stopped ≡ to
+  pub ended : walkFrom a from .ended ≡ firstSot
+
+stops-on : (a : List ℕ) (from next to : ℕ) → walkStepAt a from ≡ Passed (record { next = next; «is_tlm» = false; entries = 0 }) → Stops a next to → Stops a from to
+stops-on a from next to found more = record { stopped = stopped-on a from _ found ∙ more .stopped; ended = ended-on a from _ found ∙ more .ended }
+
+stops-here : (a : List ℕ) (at : ℕ) → at + 2 ≤ length a → be 2 a at ≡ SOT → Stops a at at
+stops-here a at room m =
+    let e = walk-found a at (walk-sot a at (step-sot a at room m)) in
+    record { stopped = ap (λ (c : Chain WalkEnd). c .stopped) e; ended = ap (λ (c : Chain WalkEnd). c .ended) e }
+
+stops-as : {a b : List ℕ} {from there to stop : ℕ} → a ≡ b → from ≡ there → to ≡ stop → Stops a from to → Stops b there stop
+stops-as e f g h = rw (← e, ← f, ← g) h
+
+module _ (s : List ℕ) (bytes : AllBytes s) (rest : List ℕ) where
+  -- an item is passed, and then what is kept after it
+  pass-on : (at next : ℕ) {stop : ℕ} {visits : List Visit} → walkAt s at ≡ on next → Run (walkAt s) next visits stop → be 2 s stop ≡ SOT
+      → (be 2 s at ≡ TLM → ⊥) → (front : List ℕ)
+      → Stops ((front ++ piece s at next) ++ (kept s visits ++ rest)) (length (front ++ piece s at next)) (length (front ++ piece s at next) + length (kept s visits))
+      → Stops (front ++ ((piece s at next ++ kept s visits) ++ rest)) (length front) (length front + length (piece s at next ++ kept s visits))
+  pass-on at next {visits = visits} found run ends other front more =
+      let i = item s at next found in
+      let here : List ℕ = piece s at next in
+      let k : List ℕ = kept s visits in
+      let past : length (front ++ here) ≡ length front + (next - at) = simp length-append (omega (arith, length-visited s at next (i .1))) in
+      let total : length (front ++ here) + length k ≡ length front + length (here ++ k) = simp length-append (omega arith) in
+      rw (append-assoc here k rest)
+      (stops-on (front ++ (here ++ (k ++ rest))) (length front) (length front + (next - at)) (length front + length (here ++ k))
+      (pass-again s at next (i .0) (i .1) other front (k ++ rest) (λ n. field s bytes at next run ends (i .1) n rest))
+      (stops-as (append-assoc front here (k ++ rest)) past total more))
+
+  module _ (two : 2 ≤ length rest) (begins : be 2 rest 0 ≡ SOT) where
+    rewalk : {at stop : ℕ} {visits : List Visit} → Run (walkAt s) at visits stop → be 2 s stop ≡ SOT → (front : List ℕ)
+        → Stops (front ++ (kept s visits ++ rest)) (length front) (length front + length (kept s visits))
+    unfolding kept
+    rewalk stay ends front =
+        rw add-zero
+        (stops-here (front ++ rest) (length front) (simp length-append (omega arith))
+        (ap (be 2 (front ++ rest)) (sym (add-zero (length front))) ∙ be-rest 2 front rest 0 ∙ begins))
+    rewalk (step {at = at} {next = next} {rest = visits} found past run) ends front =
+        by-tlm s at
+        (λ is. rw (kept-tlm s at next visits is) (rewalk run ends front))
+        (λ other. rw (kept-other s at next visits other) (pass-on at next found run ends other front (rewalk run ends (front ++ piece s at next))))
+
+-- ---- the rewritten SIZ segment
+
+put-front : (f k : List ℕ) (at : ℕ) (bs : List ℕ) → at + length bs ≤ length f → put (f ++ k) at bs ≡ put f at bs ++ k
+unfolding put
+put-front f k at bs h =
+    let before : at ≤ length f = omega arith in
+    rw (take-append-le at f k, drop-append-le (at + length bs) f k) (simp append-assoc)
+
+module _ (f : List ℕ) (long : 40 ≤ length f) where
+  -- only the front of a header is cut
+  cut-front : (z : TileSize) (k : List ℕ) → cutTo z (f ++ k) ≡ cutTo z f ++ k
+  unfolding cutTo
+  cut-front Whole k = refl
+  cut-front (Cut w g) k = put-front f k 8 (oneTile w g) (omega (arith, length-one w g))
+  cut-front (Refused r) k = refl
+
+  cut-length : (z : TileSize) → length (cutTo z f) ≡ length f
+  unfolding cutTo
+  cut-length Whole = refl
+  cut-length (Cut w g) = length-put f 8 (oneTile w g) (omega (arith, length-one w g))
+  cut-length (Refused r) = refl
+
+  -- SOC, the SIZ marker and Lsiz stay
+  cut-keeps : (z : TileSize) (i : ℕ) → i ≤ 6 → be 2 (cutTo z f) i ≡ be 2 f i
+  unfolding cutTo
+  cut-keeps Whole i h = refl
+  cut-keeps (Cut w g) i h = be-put-before 2 f 8 (oneTile w g) i (omega arith) (omega arith)
+  cut-keeps (Refused r) i h = refl
+
+siz-no-delimiter : delimits SIZ ≡ false
+unfolding delimits
+siz-no-delimiter = refl
+
+-- the SIZ segment ends where Lsiz says
+siz-ends : (s : List ℕ) (next : ℕ) → be 2 s 2 ≡ SIZ → Item s 2 next → next ≡ 4 + be 2 s 4
+unfolding segmentEnd
+siz-ends s next m (delimiter d n) = absurd (true-false (sym d ∙ ap delimits m ∙ siz-no-delimiter))
+siz-ends s next m (segment sot d room n) = omega arith
+
+front-is : (s : List ℕ) (next : ℕ) → 2 ≤ next → take 2 s ++ piece s 2 next ≡ take next s
+front-is s next h =
+    let back : 2 + (next - 2) ≡ next = omega arith in
+    sym (take-add 2 (next - 2) s) ∙ ap (λ (n : ℕ). take n s) back
+
+-- the SIZ segment from SOC on, cut, with anything after it
+module _ (s : List ℕ) (marker : be 2 s 2 ≡ SIZ) (lsiz : 36 ≤ be 2 s 4) (next : ℕ) (siz : Item s 2 next) (inside : next ≤ length s) (z : TileSize) where
+  abbrev cut : List ℕ
+  cut = cutTo z (take 2 s ++ piece s 2 next)
+
+  front-long : length (take 2 s ++ piece s 2 next) ≡ next
+  front-long = let two = item-long siz in ap length (front-is s next (omega arith)) ∙ length-take-le next s inside
+
+  enough : 40 ≤ length (take 2 s ++ piece s 2 next)
+  enough = omega (arith, front-long, siz-ends s next marker siz)
+
+  cut-long : length cut ≡ next
+  cut-long = cut-length (take 2 s ++ piece s 2 next) enough z ∙ front-long
+
+  read-again : (y : List ℕ) (i : ℕ) → i ≤ 6 → be 2 (cut ++ y) i ≡ be 2 s i
+  read-again y i h =
+      let ends = siz-ends s next marker siz in
+      be-front 2 cut y i (omega (arith, cut-long))
+      ∙ cut-keeps (take 2 s ++ piece s 2 next) enough z i h
+      ∙ ap (λ (l : List ℕ). be 2 l i) (front-is s next (omega arith))
+      ∙ be-cong 2 _ _ _ _ (λ n m. getD-take next s (i + n) 0 (omega arith))
+
+  pass-siz : (y : List ℕ) → walkStepAt (cut ++ y) 2 ≡ Passed (record { next = next; «is_tlm» = false; entries = 0 })
+  pass-siz y =
+      let ends = siz-ends s next marker siz in
+      let there : 2 + (next - 2) ≡ next = omega arith in
+      let size : length (cut ++ y) ≡ next + length y = simp length-append (omega (arith, cut-long)) in
+      step-again s 2 next (cut ++ y) 2 siz (λ e. omega arith) (read-again y 2 (omega arith)) (λ _. (read-again y 4 (omega arith), omega arith)) (omega arith)
+      ∙ ap (λ (n : ℕ). Passed (record { next = n; «is_tlm» = false; entries = 0 })) there
+
+-- ---- the whole header
+
+-- a codestream that begins as another does, and whose walk stops at an SOT
+pub record Rewalked (s a : List ℕ) (to : ℕ) : Type 0 where
+  pub long : 4 ≤ length a
+  pub soc : be 2 a 0 ≡ be 2 s 0
+  pub siz : be 2 a 2 ≡ be 2 s 2
+  pub stops : Stops a 2 to
+
+rewalked-as : {s a b : List ℕ} {to stop : ℕ} → a ≡ b → to ≡ stop → Rewalked s a to → Rewalked s b stop
+rewalked-as e f r = rw (← e, ← f) r
+
+module _ (s : List ℕ) (bytes : AllBytes s) (rest : List ℕ) (two : 2 ≤ length rest) (begins : be 2 rest 0 ≡ SOT) (marker : be 2 s 2 ≡ SIZ) (lsiz : 36 ≤ be 2 s 4) (z : TileSize) where
+  rewalked-run : {stop : ℕ} {visits : List Visit} → Run (walkAt s) 2 visits stop → be 2 s stop ≡ SOT
+      → Rewalked s (cutTo z (decodeHeader s visits) ++ rest) (length (decodeHeader s visits))
+  unfolding decodeHeader
+  rewalked-run stay ends = absurd (omega arith)
+  rewalked-run (step {next = next} {rest = visits} found past run) ends =
+      let i = item s 2 next found in
+      let k : List ℕ = kept s visits in
+      let head : List ℕ = cut s marker lsiz next (i .0) (i .1) z in
+      let head-long : length head ≡ next = cut-long s marker lsiz next (i .0) (i .1) z in
+      let kept-is : take 2 s ++ kept s (record { at = 2; next = next } ∷ visits) ≡ (take 2 s ++ piece s 2 next) ++ k =
+      ap (λ (l : List ℕ). take 2 s ++ l) (kept-other s 2 next visits (λ e. omega arith)) ∙ sym (append-assoc (take 2 s) (piece s 2 next) k) in
+      let whole : cutTo z (take 2 s ++ kept s (record { at = 2; next = next } ∷ visits)) ++ rest ≡ head ++ (k ++ rest) =
+      rw (kept-is, cut-front (take 2 s ++ piece s 2 next) (enough s marker lsiz next (i .0) (i .1) z) z k, append-assoc) in
+      let size : length head + length k ≡ length (take 2 s ++ kept s (record { at = 2; next = next } ∷ visits)) =
+      rw (kept-is, length-append) (omega (arith, front-long s marker lsiz next (i .0) (i .1) z)) in
+      rewalked-as (sym whole) size
+      (record {
+        long = simp length-append (omega (arith, siz-ends s next marker (i .0)));
+        soc = read-again s marker lsiz next (i .0) (i .1) z (k ++ rest) 0 (omega arith);
+        siz = read-again s marker lsiz next (i .0) (i .1) z (k ++ rest) 2 (omega arith);
+        stops = stops-on (head ++ (k ++ rest)) 2 next (length head + length k) (pass-siz s marker lsiz next (i .0) (i .1) z (k ++ rest))
+            (stops-as refl head-long refl (rewalk s bytes rest two begins run ends head));
+      })
+
+  pub rewalked : walkFrom s 2 .ended ≡ firstSot → Rewalked s (cutTo z (decodeHeader s (walkFrom s 2 .visits)) ++ rest) (length (decodeHeader s (walkFrom s 2 .visits)))
+  unfolding walkFrom
+  rewalked ended =
+      rewalked-run (chain-run firstSot (walkAt s) (length s) (walk-rises s) 2)
+      (ends-sot s (walkFrom s 2 .stopped) (chain-stops firstSot (walkAt s) (length s) (walk-rises s) 2 ∙ ap end ended))

@@ -1,0 +1,261 @@
+-- The starred edges (docs/RULES.md, "Edges"), in the order there, each as a comment over its theorems; and the last one, which has no star. All but
+-- that, which is of every codestream of a length, are computed.
+use Prim.Native.Nat.{ℕ, _≤_}
+use native.Mathlib.Omega.{arith}
+use mathlib.Core.Path.{_≡_, refl, sym, _∙_}
+use mathlib.Core.List.{List, [], _∷_, _++_}
+use lib.ListN.{length, take, replicate}
+use Rattle.types.specs.Refusals.{refusal}
+use Rattle.types.specs.Row.{rowOf, rowsOf}
+use Rattle.types.specs.declared.TilePartEntry.{TilePartEntry}
+use Rattle.header.specs.Extent.{extentOf}
+use Rattle.header.specs.Walk.{walkFrom}
+use Rattle.header.specs.Strip.{decodeHeader}
+use Rattle.header.specs.Parse.{judged, tlmTable}
+use Rattle.header.specs.declared.extent.MainHeaderExtent.the-variants.{Complete, Truncated}
+use Rattle.header.specs.declared.parse.MainHeader.{MainHeader}
+use Rattle.header.specs.declared.parse.MainHeader.the-variants.{Header}
+use Rattle.parts.specs.Scan.{entriesFrom, scanned, scannedTable}
+use Rattle.parts.specs.Split.{partsOf}
+use Rattle.parts.specs.Tiles.{ofTile}
+use Rattle.parts.specs.declared.scan.Scanned.the-variants.{Table}
+use Rattle.tile.specs.Rewrite.{outside, tileSize, rewritten, rewriteAnswer, rewriteOut}
+use Rattle.tile.specs.Assembly.{assemblyAnswer, assemblyOut}
+use Rattle.tile.specs.declared.rewrite.TileSize.the-variants.{Cut}
+use Rattle.tile.specs.declared.rewrite.Written.the-variants.{Bytes}
+use Rattle.reader.specs.Search.{foundIn}
+use Rattle.reader.specs.Growth.{regionAt, grown}
+use Rattle.reader.specs.declared.search.Found.the-variants.{Codestream}
+use Rattle.reader.proofs.GrowthLaws.{region-pow, whole-suffices, truncated-not, grown-end, grown-on}
+use Rattle.laws.proofs.SampleComputing.{samples, extents, walks, scan-runs, split-runs, tiles, searches, siz-readings}
+use Rattle.laws.specs.Sample.{zeros, header, tlm, sot, part, head, withTlm, A, signature, jp2c}
+use Rattle.header.specs.declared.parse.MainHeader.the-variants as parse
+use Rattle.parts.specs.declared.scan.Scanned.the-variants as scans
+use Rattle.tile.specs.declared.rewrite.Written.the-variants as writes
+use Rattle.reader.specs.declared.search.Found.the-variants as found
+use Rattle.reader.specs.declared.siz.SizRead.the-variants as read
+use Rattle.reader.specs.Siz as siz-reading
+
+-- ---- sample A
+
+pub A-length : length A ≡ 89
+unfolding samples
+A-length = refl
+
+-- its main header: first SOT, decode header and TLM entries
+abbrev accepted : ℕ → ℕ → ℕ → MainHeader
+accepted first long entries = Header (record { «first_sot_offset» = record { 0 = first }; «decode_header_length» = long; «tlm_entries» = entries })
+
+abbrev entry : ℕ → ℕ → ℕ → TilePartEntry
+entry index offset long = record { «tile_index» = index; offset = record { 0 = offset }; length = long }
+
+pub A-header : judged A ≡ accepted 57 45 2
+unfolding walks
+A-header = refl
+
+pub A-decode-header : decodeHeader A (walkFrom A 2 .visits) ≡ head
+unfolding walks
+A-decode-header = refl
+
+pub A-table : tlmTable A ≡ entry 0 57 14 ∷ entry 5 71 16 ∷ []
+unfolding walks
+A-table = refl
+
+-- its tile-parts
+pub A-scan : entriesFrom A 57 ≡ entry 0 57 14 ∷ entry 5 71 16 ∷ []
+unfolding scan-runs
+A-scan = refl
+
+-- ---- * A: extent of 58 bytes Truncated, of 59 Complete(57).
+
+pub extent-58 : extentOf (take 58 A) ≡ Truncated
+unfolding extents
+extent-58 = refl
+
+pub extent-59 : extentOf (take 59 A) ≡ Complete (record { 0 = 57 })
+unfolding extents
+extent-59 = refl
+
+-- ---- * A, tile 5: width 2, height 2; assembled 63 bytes. Tile 0: header unchanged, 61 bytes.
+
+-- the rows of a tile's entries in A
+abbrev lent : ℕ → List ℕ
+lent tile = rowsOf (ofTile tile (entriesFrom A 57))
+
+pub tile-5 : tileSize head 5 ≡ Cut 2 2
+unfolding tiles
+tile-5 = refl
+
+pub tile-5-header : rewritten head 5 ≡ header 2 2 0 0 2 2
+unfolding tiles
+tile-5-header = refl
+
+pub tile-5-assembled : assemblyAnswer head (lent 5) A 63 ≡ Bytes 63
+unfolding scan-runs tiles
+tile-5-assembled = refl
+
+pub tile-5-bytes : assemblyOut head (lent 5) A (replicate 64 1) ≡ header 2 2 0 0 2 2 ++ part 0 16 (0xaa ∷ 0xbb ∷ []) ++ (0xff ∷ 0xd9 ∷ 1 ∷ [])
+unfolding scan-runs tiles
+tile-5-bytes = refl
+
+pub tile-0 : rewritten head 0 ≡ head
+unfolding tiles
+tile-0 = refl
+
+pub tile-0-assembled : assemblyAnswer head (lent 0) A 61 ≡ Bytes 61
+unfolding scan-runs tiles
+tile-0-assembled = refl
+
+-- ---- * A, tile 6: y0 is 8, past 6: refusal 10.
+
+pub tile-6 : rewriteAnswer head 6 45 ≡ writes.Refused (refusal 10 2)
+unfolding tiles
+tile-6 = refl
+
+-- ---- * Ltlm 3: refusal 4. Ltlm 4: no entries.
+
+-- no Stlm
+pub ltlm-3 : judged (withTlm (0xff ∷ 0x55 ∷ 0 ∷ 3 ∷ 0 ∷ [])) ≡ parse.Refused (refusal 4 45)
+unfolding walks
+ltlm-3 = refl
+
+pub ltlm-4 : judged (withTlm (tlm 0x10 [])) ≡ accepted 51 45 0
+unfolding walks
+ltlm-4 = refl
+
+-- ---- * ST 1, SP 0, Ltlm 6: no entries. Ltlm 7: one.
+
+pub ltlm-6 : judged (withTlm (tlm 0x10 (0 ∷ 0 ∷ []))) ≡ accepted 53 45 0
+unfolding walks
+ltlm-6 = refl
+
+pub ltlm-7 : judged (withTlm (tlm 0x10 (0 ∷ 0 ∷ 14 ∷ []))) ≡ accepted 54 45 1
+unfolding walks
+ltlm-7 = refl
+
+-- ---- * Two TLM segments, ST 0, two entries each: indices 0, 1, 0, 1.
+
+abbrev two-segments : List ℕ
+two-segments = withTlm (tlm 0 (0 ∷ 20 ∷ 0 ∷ 30 ∷ []) ++ tlm 0 (0 ∷ 40 ∷ 0 ∷ 50 ∷ []))
+
+pub from-0 : tlmTable two-segments ≡ entry 0 65 20 ∷ entry 1 85 30 ∷ entry 0 115 40 ∷ entry 1 155 50 ∷ []
+unfolding walks
+from-0 = refl
+
+-- ---- * Psot equal to the rest: accepted; one more: 9.
+
+pub psot-rest : scanned (part 0 14 []) 0 1 ≡ Table 1
+unfolding scan-runs
+psot-rest = refl
+
+pub psot-past : scanned (part 0 15 []) 0 1 ≡ scans.Refused (refusal 9 0)
+unfolding scan-runs
+psot-past = refl
+
+-- ---- * SOT, Isot 0, Psot 5, then 10 zero bytes: one entry of 5, accepted. Without the zeros: 7 at 5.
+
+pub psot-5 : scanned (sot 0 5 ++ zeros 10) 0 1 ≡ Table 1
+unfolding scan-runs
+psot-5 = refl
+
+pub psot-5-entry : entriesFrom (sot 0 5 ++ zeros 10) 0 ≡ entry 0 0 5 ∷ []
+unfolding scan-runs
+psot-5-entry = refl
+
+pub psot-5-short : scanned (sot 0 5) 0 1 ≡ scans.Refused (refusal 7 5)
+unfolding scan-runs
+psot-5-short = refl
+
+-- ---- * One byte after the last part: 7. Twelve zero bytes after it: accepted.
+
+pub one-after : scanned (part 0 14 [] ++ zeros 1) 0 1 ≡ scans.Refused (refusal 7 14)
+unfolding scan-runs
+one-after = refl
+
+pub twelve-after : scanned (part 0 14 [] ++ zeros 12) 0 1 ≡ Table 1
+unfolding scan-runs
+twelve-after = refl
+
+-- ---- * Split of a part with Psot 14 and 11 more bytes: one part.
+
+pub eleven-more : partsOf (part 0 14 [] ++ zeros 11) ≡ part 0 14 [] ∷ []
+unfolding split-runs
+eleven-more = refl
+
+-- ---- * JP2 signature only: 14 at 12. Then jp2c of length 8: empty content; 7: refusal 15.
+
+pub signature-only : foundIn signature ≡ found.Refused (refusal 14 12)
+unfolding searches
+signature-only = refl
+
+pub jp2c-8 : foundIn (signature ++ jp2c 8) ≡ Codestream (record { 0 = 20 }) 0
+unfolding searches
+jp2c-8 = refl
+
+pub jp2c-7 : foundIn (signature ++ jp2c 7) ≡ found.Refused (refusal 15 12)
+unfolding searches
+jp2c-7 = refl
+
+-- ---- * A with XOsiz 1, XTsiz 2^32-1, Xsiz 2, tile 0: refusal 10.
+
+pub past-32 : tileSize (header 2 6 1 0 0xffffffff 4) 0 ≡ outside
+unfolding tiles
+past-32 = refl
+
+-- ---- Codestream of 65,536 bytes: no enlargement; of 65,537 with no SOT: one.
+
+pub region-65536 : (s : List ℕ) → length s ≤ 65536 → grown s ≡ record { region = length s; enlargements = 0 }
+unfolding grown
+region-65536 s h =
+    let whole : regionAt (length s) 0 ≡ length s = region-pow (length s) 0 ∙ omega arith in
+    grown-end s 0 (whole-suffices s _ whole) ∙ (λ i. record { region = whole i; enlargements = 0 })
+
+-- no SOT in the first region
+pub region-65537 : (s : List ℕ) → length s ≡ 65537 → extentOf (take 65536 s) ≡ Truncated → grown s ≡ record { region = 65537; enlargements = 1 }
+unfolding grown
+region-65537 s h t =
+    let first : regionAt (length s) 0 ≡ 65536 = region-pow (length s) 0 ∙ omega arith in
+    let second : regionAt (length s) 1 ≡ 65537 = region-pow (length s) 1 ∙ omega arith in
+    grown-on s 0 (rw first (truncated-not s 65536 (λ e. omega arith) t))
+    ∙ grown-end s 1 (whole-suffices s _ (second ∙ sym h))
+    ∙ (λ i. record { region = second i; enlargements = 1 })
+
+-- ---- beside the table: the order of refusals and what is left untouched
+
+-- a table of one row and a byte: the row is written, the byte is not; with no row 18, and nothing
+pub row-written : scannedTable (part 0 14 []) 0 (replicate 19 7) ≡ rowOf (entry 0 0 14) ++ (7 ∷ [])
+unfolding scan-runs
+row-written = refl
+
+pub no-row : scanned (part 0 14 []) 0 0 ≡ scans.Refused (refusal 18 1)
+unfolding scan-runs
+no-row = refl
+
+-- one byte less than the assembly needs: 17
+pub no-room : assemblyAnswer head (lent 5) A 62 ≡ writes.Refused (refusal 17 63)
+unfolding scan-runs tiles
+no-room = refl
+
+-- 10 before 17, and nothing is written
+pub tile-6-short : rewriteOut head 6 (1 ∷ []) ≡ 1 ∷ []
+unfolding tiles
+tile-6-short = refl
+
+-- a range that passes the end chooses no tile, and does not stop the rest
+pub dropped-first : assemblyAnswer head (rowOf (entry 5 73 17) ++ lent 0) A 61 ≡ Bytes 61
+unfolding scan-runs tiles
+dropped-first = refl
+
+-- ---- beside the table: where the SIZ reading stops
+
+pub past-the-end : siz-reading.sizRead (0xff ∷ 0x4f ∷ 0xff ∷ 0x52 ∷ 0xff ∷ 0xff ∷ []) ≡ read.Refused (refusal 21 65539)
+unfolding siz-readings
+past-the-end = refl
+
+pub one-left : siz-reading.sizRead (0xff ∷ 0x4f ∷ 0 ∷ []) ≡ read.Refused (refusal 21 2)
+unfolding siz-readings
+one-left = refl
+
+pub nothing : siz-reading.sizRead [] ≡ read.Refused (refusal 21 2)
+unfolding siz-readings
+nothing = refl

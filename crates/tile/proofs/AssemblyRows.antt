@@ -1,0 +1,51 @@
+-- The rows of records, read back as ranges, are those records.
+use Prim.Native.Nat.{ℕ, _+_, _-_, _/_}
+use native.Mathlib.Nat.{add-zero}
+use native.Mathlib.Omega.{arith}
+use mathlib.Core.Path.{_≡_, refl, sym, ap, ap₂, _∙_}
+use mathlib.Core.List.{List, [], _∷_, _++_, append-assoc}
+use lib.ListN.{length, length-append}
+use lib.Seq.{drop-append-seam}
+use Rattle.numbers.specs.Bytes.{be, put}
+use Rattle.numbers.proofs.BytesLaws.{be-rest, put-start}
+use Rattle.types.specs.Row.{entryAt, rowOf, rowsOf}
+use Rattle.types.proofs.RowLaws.{Fits, length-row, length-rows, entry-put}
+use Rattle.types.specs.declared.TilePartEntry.{TilePartEntry}
+use Rattle.tile.specs.Assembly.{rows, rangesFrom, ranges}
+
+pub data All (P : TilePartEntry → Type 0) : List TilePartEntry → Type 0 where
+  none : All P []
+  more : {e : TilePartEntry} {rest : List TilePartEntry} → P e → All P rest → All P (e ∷ rest)
+
+pub all-map : {P Q : TilePartEntry → Type 0} → ((e : TilePartEntry) → P e → Q e) → {es : List TilePartEntry} → All P es → All Q es
+all-map f none = none
+all-map f (more {e = e} p rest) = more (f e p) (all-map f rest)
+
+row-here : (e : TilePartEntry) (rest : List ℕ) → Fits e → entryAt (rowOf e ++ rest) 0 ≡ e
+row-here e rest f =
+    let whole : List ℕ = rowOf e ++ rest in
+    let same : put whole 0 (rowOf e) ≡ whole = put-start whole (rowOf e) ∙ ap (λ (l : List ℕ). rowOf e ++ l) (drop-append-seam (rowOf e) rest) in
+    ap (λ (l : List ℕ). entryAt l 0) (sym same) ∙ entry-put e whole 0 f (simp length-append (omega (arith, length-row e)))
+
+entry-past : (front s : List ℕ) → entryAt (front ++ s) (length front) ≡ entryAt s 0
+entry-past front s =
+    let first : be 2 (front ++ s) (length front) ≡ be 2 s 0 = ap (be 2 (front ++ s)) (sym (add-zero (length front))) ∙ be-rest 2 front s 0 in
+    λ i. record { «tile_index» = first i; offset = record { 0 = be-rest 8 front s 2 i }; length = be-rest 8 front s 10 i }
+
+row-ends : (front : List ℕ) (e : TilePartEntry) → length front + 18 ≡ length (front ++ rowOf e)
+row-ends front e = simp length-append (omega (arith, length-row e))
+
+rows-back : {es : List TilePartEntry} → All Fits es → (front : List ℕ) → rows (length es) (front ++ rowsOf es) (length front) ≡ es
+unfolding rows rowsOf
+rows-back none front = refl
+rows-back (more {e = e} {rest = rest} f fits) front =
+    ap₂ (λ (x : TilePartEntry) (xs : List TilePartEntry). x ∷ xs)
+    (entry-past front (rowOf e ++ rowsOf rest) ∙ row-here e (rowsOf rest) f)
+    (ap₂ (λ (l : List ℕ) (n : ℕ). rows (length rest) l n) (sym (append-assoc front (rowOf e) (rowsOf rest))) (row-ends front e)
+    ∙ rows-back fits (front ++ rowOf e))
+
+pub ranges-back : {es : List TilePartEntry} → All Fits es → ranges (rowsOf es) ≡ es
+unfolding ranges rangesFrom
+ranges-back {es} fits =
+    let count : (length (rowsOf es) - 0) / 18 ≡ length es = omega (arith, length-rows es) in
+    ap (λ (n : ℕ). rows n (rowsOf es) 0) count ∙ rows-back fits []
