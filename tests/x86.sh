@@ -20,5 +20,6 @@ if [ "$(uname -m)" != x86_64 ]; then
     built=rust/target/x86_64-unknown-linux-gnu
     export CARGO_BUILD_TARGET=x86_64-unknown-linux-gnu
     export CARGO_TARGET_X86_64_UNKNOWN_LINUX_GNU_LINKER=x86_64-linux-gnu-gcc
+    export CC=x86_64-linux-gnu-gcc
     export RUSTC=/usr/bin/rustc RUSTDOC=/usr/bin/rustdoc
 fi

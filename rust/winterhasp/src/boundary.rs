@@ -2,20 +2,31 @@
 //!
 //! One reason serves for every call: each pointer and length are those of one slice, or of one
 //! number; what is read is shared and what is written is borrowed by nobody else; the archive keeps
-//! none of them after it returns.
+//! none of them after it returns. Each function answers 0, or a refusal's number with its place in the
+//! first number lent, unless it says otherwise.
 
 mod archive {
     extern "C" {
+        pub fn winterhasp_in_file(offset: u64, start: u64, value: *mut u64) -> u32;
+
         pub fn winterhasp_main_header_extent(
             prefix: *const u8,
             prefix_len: usize,
             value: *mut u64,
         ) -> u32;
 
-        #[cfg(any(feature = "parts", feature = "tile"))]
-        pub fn winterhasp_in_file(offset: u64, start: u64, value: *mut u64) -> u32;
+        pub fn winterhasp_parse_main_header(
+            codestream: *const u8,
+            codestream_len: usize,
+            table: *mut u8,
+            table_len: usize,
+            out: *mut u8,
+            out_len: usize,
+            first_sot: *mut u64,
+            decode_length: *mut u64,
+            entries: *mut u64,
+        ) -> u32;
 
-        #[cfg(feature = "parts")]
         pub fn winterhasp_scan_sot_markers(
             codestream: *const u8,
             codestream_len: usize,
@@ -25,7 +36,26 @@ mod archive {
             value: *mut u64,
         ) -> u32;
 
-        #[cfg(feature = "tile")]
+        pub fn winterhasp_split_count(tile: *const u8, tile_len: usize) -> u64;
+
+        pub fn winterhasp_split_part(
+            tile: *const u8,
+            tile_len: usize,
+            k: u64,
+            out: *mut u8,
+            out_len: usize,
+            value: *mut u64,
+        ) -> u32;
+
+        pub fn winterhasp_split_at(
+            tile: *const u8,
+            tile_len: usize,
+            at: u64,
+            out: *mut u8,
+            out_len: usize,
+            value: *mut u64,
+        ) -> u32;
+
         pub fn winterhasp_rewrite_siz_for_tile(
             decode_header: *const u8,
             decode_header_len: usize,
@@ -35,7 +65,6 @@ mod archive {
             value: *mut u64,
         ) -> u32;
 
-        #[cfg(feature = "tile")]
         pub fn winterhasp_build_minimal_codestream(
             decode_header: *const u8,
             decode_header_len: usize,
@@ -47,21 +76,74 @@ mod archive {
             out_len: usize,
             value: *mut u64,
         ) -> u32;
+
+        pub fn winterhasp_find_codestream(
+            file: *const u8,
+            file_len: usize,
+            start: *mut u64,
+            length: *mut u64,
+        ) -> u32;
+
+        pub fn winterhasp_parse_siz_marker(
+            codestream: *const u8,
+            codestream_len: usize,
+            width: *mut u64,
+            height: *mut u64,
+            components: *mut u64,
+            bits: *mut u64,
+            signed: *mut u64,
+        ) -> u32;
+
+        pub fn winterhasp_pixel_type(bits: u8, signed: u32) -> u32;
+
+        pub fn winterhasp_grow_header_region(
+            codestream: *const u8,
+            codestream_len: usize,
+            region: *mut u64,
+            enlargements: *mut u64,
+        ) -> u32;
+
+        pub fn winterhasp_next_region(region: u64, length: u64) -> u64;
     }
 }
 
-pub fn main_header_extent(prefix: &[u8], value: &mut u64) -> u32 {
-    // SAFETY: as at the top of this file.
-    unsafe { archive::winterhasp_main_header_extent(prefix.as_ptr(), prefix.len(), value) }
-}
-
-#[cfg(any(feature = "parts", feature = "tile"))]
+/// 1 with the place in `value`, or 0 with `value` as it was where it passes 2^64-1.
 pub fn in_file(offset: u64, start: u64, value: &mut u64) -> u32 {
     // SAFETY: as at the top of this file.
     unsafe { archive::winterhasp_in_file(offset, start, value) }
 }
 
-#[cfg(feature = "parts")]
+/// 1 with the first SOT's offset in `value`, or 0 with `value` as it was.
+pub fn main_header_extent(prefix: &[u8], value: &mut u64) -> u32 {
+    // SAFETY: as at the top of this file.
+    unsafe { archive::winterhasp_main_header_extent(prefix.as_ptr(), prefix.len(), value) }
+}
+
+/// TLM entries go to `table` as rows of 18 bytes, the decode header to `out`. Numbers: first SOT,
+/// the decode header's length, entries.
+pub fn parse_main_header(
+    codestream: &[u8],
+    table: &mut [u8],
+    out: &mut [u8],
+    [first_sot, decode_length, entries]: &mut [u64; 3],
+) -> u32 {
+    // SAFETY: as at the top of this file.
+    unsafe {
+        archive::winterhasp_parse_main_header(
+            codestream.as_ptr(),
+            codestream.len(),
+            table.as_mut_ptr(),
+            table.len(),
+            out.as_mut_ptr(),
+            out.len(),
+            first_sot,
+            decode_length,
+            entries,
+        )
+    }
+}
+
+/// The tile-parts from `first_sot` on go to `table` as rows of 18 bytes, their number to `value`.
 pub fn scan_sot_markers(
     codestream: &[u8],
     first_sot: u64,
@@ -81,7 +163,44 @@ pub fn scan_sot_markers(
     }
 }
 
-#[cfg(feature = "tile")]
+/// How many tile-parts `tile` holds.
+pub fn split_count(tile: &[u8]) -> u64 {
+    // SAFETY: as at the top of this file.
+    unsafe { archive::winterhasp_split_count(tile.as_ptr(), tile.len()) }
+}
+
+/// The part of number `k`, from 0, goes to `out`, its length to `value`; past the last it is empty.
+pub fn split_part(tile: &[u8], k: u64, out: &mut [u8], value: &mut u64) -> u32 {
+    // SAFETY: as at the top of this file.
+    unsafe {
+        archive::winterhasp_split_part(
+            tile.as_ptr(),
+            tile.len(),
+            k,
+            out.as_mut_ptr(),
+            out.len(),
+            value,
+        )
+    }
+}
+
+/// The part that stands at the position `at` goes to `out`, its length to `value`; where none does it
+/// is empty.
+pub fn split_at(tile: &[u8], at: u64, out: &mut [u8], value: &mut u64) -> u32 {
+    // SAFETY: as at the top of this file.
+    unsafe {
+        archive::winterhasp_split_at(
+            tile.as_ptr(),
+            tile.len(),
+            at,
+            out.as_mut_ptr(),
+            out.len(),
+            value,
+        )
+    }
+}
+
+/// The header goes to `out`, its length to `value`.
 pub fn rewrite_siz_for_tile(
     decode_header: &[u8],
     isot: u16,
@@ -101,7 +220,7 @@ pub fn rewrite_siz_for_tile(
     }
 }
 
-#[cfg(feature = "tile")]
+/// The codestream goes to `out`, its length to `value`; `tile_parts` are rows.
 pub fn build_minimal_codestream(
     decode_header: &[u8],
     tile_parts: &[u8],
@@ -123,4 +242,54 @@ pub fn build_minimal_codestream(
             value,
         )
     }
+}
+
+/// Numbers: where the codestream starts in the file, and its length.
+pub fn find_codestream(file: &[u8], [start, length]: &mut [u64; 2]) -> u32 {
+    // SAFETY: as at the top of this file.
+    unsafe { archive::winterhasp_find_codestream(file.as_ptr(), file.len(), start, length) }
+}
+
+/// Numbers: width, height, components, bits of a component, and 1 if it is signed.
+pub fn parse_siz_marker(
+    codestream: &[u8],
+    [width, height, components, bits, signed]: &mut [u64; 5],
+) -> u32 {
+    // SAFETY: as at the top of this file.
+    unsafe {
+        archive::winterhasp_parse_siz_marker(
+            codestream.as_ptr(),
+            codestream.len(),
+            width,
+            height,
+            components,
+            bits,
+            signed,
+        )
+    }
+}
+
+/// UInt8 0, Int8 1, UInt16 2, Int16 3, UInt32 4, Int32 5.
+pub fn pixel_type(bits: u8, signed: bool) -> u32 {
+    // SAFETY: numbers alone.
+    unsafe { archive::winterhasp_pixel_type(bits, u32::from(signed)) }
+}
+
+/// Numbers: the region that was reached, and how often it was enlarged.
+pub fn grow_header_region(codestream: &[u8], [region, enlargements]: &mut [u64; 2]) -> u32 {
+    // SAFETY: as at the top of this file.
+    unsafe {
+        archive::winterhasp_grow_header_region(
+            codestream.as_ptr(),
+            codestream.len(),
+            region,
+            enlargements,
+        )
+    }
+}
+
+/// The region after `region` in a codestream of `length` bytes.
+pub fn next_region(region: u64, length: u64) -> u64 {
+    // SAFETY: numbers alone.
+    unsafe { archive::winterhasp_next_region(region, length) }
 }

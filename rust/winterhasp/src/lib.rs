@@ -1,29 +1,56 @@
-//! Safe Rust over the proved archive `libhost.a`: JPEG 2000 main headers and tile-parts, on byte
-//! slices and numbers.
+//! JPEG 2000 main headers and tile-parts, read by a proved library.
+//!
+//! Safe Rust over the archive `libhost.a`, whose functions are proved to answer as their rules say on
+//! every input. Each takes byte slices, and gives an answer or a [`Refusal`] that says in words what is
+//! wrong and where. Nothing panics on bad bytes.
+//!
+//! From a file to a codestream of one tile:
+//!
+//! ```
+//! use winterhasp::*;
+//!
+//! let file = std::fs::read("sample-a.j2k")?;
+//! let codestream = find_codestream(&file)?;
+//! let header = parse_main_header(codestream.bytes)?;
+//! let parts = scan_sot_markers(codestream.bytes, header.first_sot)?;
+//! let tile = TileParts::of(5, &parts).ok_or("no part of tile 5")?;
+//! let alone = build_minimal_codestream(&header.decode_header, &tile, codestream.bytes)?;
+//! assert_eq!(alone.len(), 63);
+//! # Ok::<(), Box<dyn std::error::Error>>(())
+//! ```
+//!
+//! The archive is linked from the folder that `WINTERHASP_LIB` names, or from the repository's
+//! `target/staticlib`, where `rt staticlib host` writes it. It is for x86-64.
 
 #![deny(unsafe_code)]
+#![warn(missing_docs)]
 
-#[allow(unsafe_code)]
+// The runs beside the original share this file, and call what the safe functions have no use for.
+#[allow(unsafe_code, dead_code)]
 mod boundary;
 mod extent;
-#[cfg(feature = "parts")]
-mod parts;
-#[cfg(any(feature = "parts", feature = "tile"))]
+mod growth;
+mod header;
+mod lent;
+mod offsets;
 mod refusal;
-#[cfg(feature = "tile")]
+mod scan;
+mod search;
+mod siz;
+mod split;
 mod tile;
-#[cfg(any(feature = "parts", feature = "tile"))]
 mod tile_part;
 
-pub use extent::{extent_into, main_header_extent, MainHeaderExtent};
-#[cfg(feature = "parts")]
-pub use parts::{scan_into, scan_sot_markers};
-#[cfg(any(feature = "parts", feature = "tile"))]
-pub use refusal::Refusal;
-#[cfg(feature = "tile")]
+pub use extent::{main_header_extent, MainHeaderExtent};
+pub use growth::{grow_header_region, next_region, HeaderRegion};
+pub use header::{parse_main_header, MainHeader};
+pub use offsets::{CodestreamOffset, FileOffset};
+pub use refusal::{Origin, Refusal};
+pub use scan::scan_sot_markers;
+pub use search::{find_codestream, Codestream};
+pub use siz::{parse_siz_marker, pixel_type_from_siz, SampleType, Siz};
+pub use split::{split_tile_parts, Parts};
 pub use tile::{
-    build_into, build_minimal_codestream, build_minimal_codestream_from_parts, rewrite_into,
-    rewrite_siz_for_tile,
+    build_minimal_codestream, build_minimal_codestream_from_parts, rewrite_siz_for_tile,
 };
-#[cfg(any(feature = "parts", feature = "tile"))]
-pub use tile_part::{TilePart, ROW};
+pub use tile_part::{TilePart, TilePartBytes, TileParts};

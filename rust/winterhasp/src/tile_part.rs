@@ -1,80 +1,193 @@
-//! A tile-part's record, the row of bytes that it is to the archive, and its place in a file.
+//! Tile-parts: one by its record, which is a row of bytes to the archive, and those of one tile.
 
-use crate::boundary;
+use crate::offsets::{CodestreamOffset, FileOffset};
+use crate::scan::scan_sot_markers;
 
 /// Bytes of a row: index 2, offset 8, length 8, big-endian.
 pub const ROW: usize = 18;
 
-const IN_FILE: u32 = 1;
-
-/// Where a tile-part stands in its codestream; `index` is its tile's.
+/// Where a tile-part stands in its codestream.
 #[derive(Debug, Clone, Copy, PartialEq, Eq)]
 pub struct TilePart {
+    /// Its tile's.
     pub index: u16,
-    pub offset: u64,
+    /// Where its SOT marker stands.
+    pub offset: CodestreamOffset,
+    /// In bytes, from the SOT marker on.
     pub length: u64,
 }
 
 impl TilePart {
-    pub fn from_row(row: &[u8; ROW]) -> Self {
-        let number = |bytes: &[u8]| {
-            bytes
-                .iter()
-                .fold(0, |sum, &byte| sum << 8 | u64::from(byte))
-        };
+    /// Where it stands in a file that has its codestream at `start`; nothing past 2^64-1.
+    ///
+    /// ```
+    /// use winterhasp::{CodestreamOffset, FileOffset, TilePart};
+    ///
+    /// let part = TilePart { index: 5, offset: CodestreamOffset(71), length: 16 };
+    /// assert_eq!(part.place_in_file(FileOffset(85)), Some(FileOffset(156)));
+    /// ```
+    pub fn place_in_file(&self, start: FileOffset) -> Option<FileOffset> {
+        self.offset.in_file(start)
+    }
+
+    fn from_row(row: &[u8; ROW]) -> Self {
+        let [i0, i1, o0, o1, o2, o3, o4, o5, o6, o7, l0, l1, l2, l3, l4, l5, l6, l7] = *row;
         TilePart {
-            index: u16::from_be_bytes([row[0], row[1]]),
-            offset: number(&row[2..10]),
-            length: number(&row[10..]),
+            index: u16::from_be_bytes([i0, i1]),
+            offset: CodestreamOffset(u64::from_be_bytes([o0, o1, o2, o3, o4, o5, o6, o7])),
+            length: u64::from_be_bytes([l0, l1, l2, l3, l4, l5, l6, l7]),
         }
     }
 
-    /// Where it stands in a file that has its codestream at `start`; nothing past 2^64-1.
-    pub fn place_in_file(&self, start: u64) -> Option<u64> {
-        let mut place = 0;
-        let answer = boundary::in_file(self.offset, start, &mut place);
-        (answer == IN_FILE).then_some(place)
-    }
-
-    pub fn to_row(&self) -> [u8; ROW] {
+    fn to_row(self) -> [u8; ROW] {
         let mut row = [0; ROW];
         row[..2].copy_from_slice(&self.index.to_be_bytes());
-        row[2..10].copy_from_slice(&self.offset.to_be_bytes());
+        row[2..10].copy_from_slice(&self.offset.0.to_be_bytes());
         row[10..].copy_from_slice(&self.length.to_be_bytes());
         row
     }
 }
 
+/// The records of a table's rows.
+pub fn from_rows(table: &[u8]) -> Vec<TilePart> {
+    table.as_chunks().0.iter().map(TilePart::from_row).collect()
+}
+
+pub fn to_rows(parts: &[TilePart]) -> Vec<u8> {
+    parts.iter().flat_map(|part| part.to_row()).collect()
+}
+
+/// The tile-parts of one tile: at least one, and all of that tile.
+#[derive(Debug, Clone, PartialEq, Eq)]
+pub struct TileParts {
+    index: u16,
+    parts: Vec<TilePart>,
+}
+
+impl TileParts {
+    /// Those of tile `index` among `parts`, in their order; nothing if there is none.
+    ///
+    /// ```
+    /// use winterhasp::{scan_sot_markers, CodestreamOffset, TileParts};
+    ///
+    /// let codestream = std::fs::read("sample-a.j2k")?;
+    /// let parts = scan_sot_markers(&codestream, CodestreamOffset(57))?;
+    /// assert_eq!(TileParts::of(5, &parts).map(|tile| tile.parts().len()), Some(1));
+    /// assert_eq!(TileParts::of(1, &parts), None);
+    /// # Ok::<(), Box<dyn std::error::Error>>(())
+    /// ```
+    pub fn of(index: u16, parts: &[TilePart]) -> Option<Self> {
+        let of_tile = parts.iter().filter(|part| part.index == index);
+        let parts: Vec<_> = of_tile.copied().collect();
+        (!parts.is_empty()).then_some(TileParts { index, parts })
+    }
+
+    /// The tile's.
+    ///
+    /// ```
+    /// # use winterhasp::{CodestreamOffset, TilePart, TileParts};
+    /// let part = TilePart { index: 5, offset: CodestreamOffset(71), length: 16 };
+    /// assert_eq!(TileParts::of(5, &[part]).map(|tile| tile.index()), Some(5));
+    /// ```
+    pub fn index(&self) -> u16 {
+        self.index
+    }
+
+    /// At least one.
+    ///
+    /// ```
+    /// # use winterhasp::{CodestreamOffset, TilePart, TileParts};
+    /// let part = TilePart { index: 5, offset: CodestreamOffset(71), length: 16 };
+    /// let other = TilePart { index: 6, ..part };
+    /// let tile = TileParts::of(5, &[other, part]).unwrap();
+    /// assert_eq!(tile.parts(), [part]);
+    /// ```
+    pub fn parts(&self) -> &[TilePart] {
+        &self.parts
+    }
+}
+
+/// The same by their own bytes, wherever these were fetched from.
+#[derive(Debug, Clone, PartialEq, Eq)]
+pub struct TilePartBytes<'a> {
+    index: u16,
+    parts: Vec<&'a [u8]>,
+}
+
+impl<'a> TilePartBytes<'a> {
+    /// Nothing if there is none, or if one of them is not, from end to end, a single tile-part of tile
+    /// `index`.
+    ///
+    /// ```
+    /// use winterhasp::TilePartBytes;
+    ///
+    /// let codestream = std::fs::read("sample-a.j2k")?;
+    /// let (first, second) = (&codestream[57..71], &codestream[71..87]);
+    /// assert!(TilePartBytes::of(5, [second]).is_some());
+    /// assert!(TilePartBytes::of(5, [second, first]).is_none());
+    /// assert!(TilePartBytes::of(5, []).is_none());
+    /// # Ok::<(), std::io::Error>(())
+    /// ```
+    pub fn of(index: u16, parts: impl IntoIterator<Item = &'a [u8]>) -> Option<Self> {
+        let whole = |part: &'a [u8]| {
+            let found = scan_sot_markers(part, CodestreamOffset(0)).ok()?;
+            let alone = TilePart {
+                index,
+                offset: CodestreamOffset(0),
+                length: part.len() as u64,
+            };
+            (found == [alone]).then_some(part)
+        };
+        let parts: Vec<_> = parts.into_iter().map(whole).collect::<Option<_>>()?;
+        (!parts.is_empty()).then_some(TilePartBytes { index, parts })
+    }
+
+    /// The parts joined, and each one's record there.
+    pub(crate) fn joined(&self) -> (Vec<TilePart>, Vec<u8>) {
+        let mut offset = 0;
+        let record = |part: &&[u8]| {
+            let length = part.len() as u64;
+            offset += length;
+            TilePart {
+                index: self.index,
+                offset: CodestreamOffset(offset - length),
+                length,
+            }
+        };
+        (self.parts.iter().map(record).collect(), self.parts.concat())
+    }
+}
+
 #[cfg(test)]
 mod tests {
-    use super::TilePart;
+    use super::{from_rows, to_rows, CodestreamOffset, TilePart, TilePartBytes};
 
     #[test]
     fn a_row_is_big_endian_and_comes_back() {
         let part = TilePart {
             index: 0x0102,
-            offset: 0x0304_0506_0708_090A,
+            offset: CodestreamOffset(0x0304_0506_0708_090A),
             length: 0x0B0C_0D0E_0F10_1112,
         };
-        let row = part.to_row();
-        assert!(row.iter().copied().eq(1..=18));
-        assert_eq!(TilePart::from_row(&row), part);
+        let rows = to_rows(&[part]);
+        assert!(rows.iter().copied().eq(1..=18));
+        assert_eq!(from_rows(&rows), [part]);
+    }
+
+    /// A tile-part of 14 bytes that says it has `psot`.
+    fn part(psot: u8) -> [u8; 14] {
+        [0xFF, 0x90, 0, 10, 0, 3, 0, 0, 0, psot, 0, 1, 0xFF, 0x93]
     }
 
     #[test]
-    fn a_place_counts_from_the_codestreams_start_up_to_the_largest_number() {
-        let place = |offset, start| {
-            let part = TilePart {
-                index: 0,
-                offset,
-                length: 14,
-            };
-            part.place_in_file(start)
-        };
-        assert_eq!(place(57, 0), Some(57));
-        assert_eq!(place(57, 85), Some(142));
-        assert_eq!(place(u64::MAX - 85, 85), Some(u64::MAX));
-        assert_eq!(place(u64::MAX - 84, 85), None);
-        assert_eq!(place(u64::MAX, u64::MAX), None);
+    fn bytes_are_those_of_whole_tile_parts() {
+        let of = |index, bytes: &[u8]| TilePartBytes::of(index, [bytes]).is_some();
+        assert!(of(3, &part(14)));
+        assert!(of(3, &part(0)));
+        assert!(!of(4, &part(14)));
+        assert!(!of(3, &part(13)));
+        assert!(!of(3, &part(15)));
+        assert!(!of(3, &[part(14), part(14)].concat()));
+        assert!(!of(3, &[]));
     }
 }

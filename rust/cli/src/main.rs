@@ -3,8 +3,6 @@
 #![forbid(unsafe_code)]
 
 mod commands;
-#[cfg(feature = "parts")]
-mod found;
 
 use std::env;
 use std::ffi::OsString;

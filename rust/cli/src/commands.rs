@@ -1,15 +1,15 @@
 //! The commands, each from the words behind its name to the text that is printed.
 
+use std::error::Error;
 use std::ffi::{OsStr, OsString};
+use std::fmt::Display;
 use std::fs;
-#[cfg(all(feature = "parts", feature = "tile"))]
 use std::io::{self, Write};
 
-#[cfg(feature = "parts")]
-use crate::found;
-use winterhasp::{main_header_extent, MainHeaderExtent};
-#[cfg(feature = "parts")]
-use winterhasp::{scan_sot_markers, TilePart};
+use winterhasp::{
+    build_minimal_codestream, find_codestream, main_header_extent, parse_main_header,
+    scan_sot_markers, Codestream, MainHeaderExtent, TilePart, TileParts,
+};
 
 pub struct Command {
     pub name: &'static str,
@@ -27,7 +27,6 @@ pub const COMMANDS: &[Command] = &[
             _ => None,
         },
     },
-    #[cfg(feature = "reader")]
     Command {
         name: "codestream",
         words: "FILE",
@@ -36,7 +35,6 @@ pub const COMMANDS: &[Command] = &[
             _ => None,
         },
     },
-    #[cfg(feature = "parts")]
     Command {
         name: "parts",
         words: "FILE",
@@ -45,7 +43,6 @@ pub const COMMANDS: &[Command] = &[
             _ => None,
         },
     },
-    #[cfg(feature = "parts")]
     Command {
         name: "places",
         words: "FILE",
@@ -54,7 +51,6 @@ pub const COMMANDS: &[Command] = &[
             _ => None,
         },
     },
-    #[cfg(all(feature = "parts", feature = "tile"))]
     Command {
         name: "tile",
         words: "FILE INDEX OUT",
@@ -73,28 +69,26 @@ fn extent(file: &OsStr) -> Result<String, String> {
 }
 
 /// Its offset in the file, and its length.
-#[cfg(feature = "reader")]
 fn codestream(file: &OsStr) -> Result<String, String> {
-    let range = found::codestream(&read(file)?).map_err(|refusal| trouble(file, &refusal))?;
-    Ok(format!("{} {}\n", range.start, range.len()))
+    let bytes = read(file)?;
+    let found = find_codestream(&bytes).map_err(|refusal| trouble(file, &refusal))?;
+    Ok(format!("{} {}\n", found.start, found.bytes.len()))
 }
 
 /// Index, offset in the codestream, and length of each tile-part.
-#[cfg(feature = "parts")]
 fn parts(file: &OsStr) -> Result<String, String> {
-    let (_, codestream) = read_codestream(file)?;
-    let (_, parts) = tile_parts(file, &codestream)?;
+    let bytes = read(file)?;
+    let (_, parts) = tile_parts(&bytes).map_err(|what| trouble(file, &what))?;
     let line = |part: &TilePart| format!("{} {} {}\n", part.index, part.offset, part.length);
     Ok(parts.iter().map(line).collect())
 }
 
 /// Index, offset in the file, and length of each tile-part.
-#[cfg(feature = "parts")]
 fn places(file: &OsStr) -> Result<String, String> {
-    let (start, codestream) = read_codestream(file)?;
-    let (_, parts) = tile_parts(file, &codestream)?;
+    let bytes = read(file)?;
+    let (codestream, parts) = tile_parts(&bytes).map_err(|what| trouble(file, &what))?;
     let line = |part: &TilePart| {
-        let place = part.place_in_file(start)?;
+        let place = part.place_in_file(codestream.start)?;
         Some(format!("{} {place} {}\n", part.index, part.length))
     };
     let lines: Option<String> = parts.iter().map(line).collect();
@@ -102,27 +96,26 @@ fn places(file: &OsStr) -> Result<String, String> {
 }
 
 /// Writes a codestream of tile `index` alone.
-#[cfg(all(feature = "parts", feature = "tile"))]
 fn tile(file: &OsStr, index: &OsStr, out: &OsStr) -> Result<String, String> {
     let index: u16 = index
         .to_str()
         .and_then(|word| word.parse().ok())
         .ok_or("winterhasp: INDEX is a number from 0 to 65535")?;
-    let (_, codestream) = read_codestream(file)?;
-    let (first_sot, mut parts) = tile_parts(file, &codestream)?;
-    parts.retain(|part| part.index == index);
-    if parts.is_empty() {
-        return Err(trouble(file, &format!("no part of tile {index}")));
-    }
-    let built = found::decode_header(&codestream, first_sot as usize)
-        .and_then(|header| winterhasp::build_minimal_codestream(&header, &parts, &codestream))
-        .map_err(|refusal| trouble(file, &refusal))?;
+    let bytes = read(file)?;
+    let built = cut(&bytes, index).map_err(|what| trouble(file, &what))?;
     write(out, &built).map_err(|error| trouble(out, &error))?;
     Ok(String::new())
 }
 
+fn cut(file: &[u8], index: u16) -> Result<Vec<u8>, Box<dyn Error>> {
+    let (codestream, parts) = tile_parts(file)?;
+    let tile = TileParts::of(index, &parts).ok_or(format!("no part of tile {index}"))?;
+    let header = parse_main_header(codestream.bytes)?;
+    let built = build_minimal_codestream(&header.decode_header, &tile, codestream.bytes)?;
+    Ok(built)
+}
+
 /// A file that can't be written whole is not left in part; a device or a link stays.
-#[cfg(all(feature = "parts", feature = "tile"))]
 fn write(out: &OsStr, bytes: &[u8]) -> io::Result<()> {
     fs::File::create(out)?.write_all(bytes).inspect_err(|_| {
         if fs::symlink_metadata(out).is_ok_and(|there| there.is_file()) {
@@ -131,29 +124,20 @@ fn write(out: &OsStr, bytes: &[u8]) -> io::Result<()> {
     })
 }
 
-/// The first SOT, and the tile-parts from there on.
-#[cfg(feature = "parts")]
-fn tile_parts(file: &OsStr, codestream: &[u8]) -> Result<(u64, Vec<TilePart>), String> {
-    let MainHeaderExtent::Complete(first_sot) = main_header_extent(codestream) else {
-        return Err(trouble(file, &"no codestream with a SOT"));
+/// A file's codestream, and its tile-parts.
+fn tile_parts(file: &[u8]) -> Result<(Codestream<'_>, Vec<TilePart>), Box<dyn Error>> {
+    let codestream = find_codestream(file)?;
+    let MainHeaderExtent::Complete(first_sot) = main_header_extent(codestream.bytes) else {
+        return Err("no codestream with a SOT".into());
     };
-    let parts = scan_sot_markers(codestream, first_sot);
-    let parts = parts.map_err(|refusal| trouble(file, &refusal))?;
-    Ok((first_sot, parts))
-}
-
-/// Where it starts in the file, and its bytes.
-#[cfg(feature = "parts")]
-fn read_codestream(file: &OsStr) -> Result<(u64, Vec<u8>), String> {
-    let bytes = read(file)?;
-    let range = found::codestream(&bytes).map_err(|refusal| trouble(file, &refusal))?;
-    Ok((range.start as u64, bytes[range].to_vec()))
+    let parts = scan_sot_markers(codestream.bytes, first_sot)?;
+    Ok((codestream, parts))
 }
 
 fn read(file: &OsStr) -> Result<Vec<u8>, String> {
     fs::read(file).map_err(|error| trouble(file, &error))
 }
 
-fn trouble(file: &OsStr, what: &dyn std::fmt::Display) -> String {
+fn trouble(file: &OsStr, what: &dyn Display) -> String {
     format!("winterhasp: {}: {what}", file.display())
 }

@@ -1,0 +1,152 @@
+/*
+ * Winterhasp: JPEG 2000 main headers and tile-parts, read by a proved library.
+ *
+ * `rt staticlib host` writes target/staticlib/libhost.a, for x86-64: cc program.c target/staticlib/libhost.a
+ *
+ * What is lent. Bytes are lent as a pointer and their number; where that is 0 the pointer may be NULL. What is `const` is
+ * read, the rest is written to. Nothing that is written may overlap anything else that is lent, and nothing is kept after
+ * the call. No function allocates, blocks, calls back or holds state: each may be called from any thread.
+ *
+ * What comes back. 0 where a function accepts, and else a refusal's number. The first number that is lent (`value`,
+ * `first_sot`, `start`, `width`) then holds the refusal's place, or for 17 and 18 what is needed; the other numbers, the
+ * table and the output hold what they held before. On acceptance all beyond the stated count is left as it was. The
+ * functions that never refuse say so. Every input has an answer: none is checked by the caller first.
+ *
+ * docs/RULES.md says exactly what each function answers, under the heading that is named here.
+ */
+#ifndef WINTERHASP_H
+#define WINTERHASP_H
+
+#include <stddef.h>
+#include <stdint.h>
+
+#ifdef __cplusplus
+extern "C" {
+#endif
+
+/* Refusals: docs/RULES.md, "Refusals", with the place of each and what to do. */
+
+#define WINTERHASP_NO_SOC                       1 /* the start marker (SOC) is missing */
+#define WINTERHASP_NO_SIZ                       2 /* the image size segment (SIZ) is missing */
+#define WINTERHASP_SEGMENT_PAST_END             3 /* a header segment runs past the end */
+#define WINTERHASP_TLM_TOO_SHORT                4 /* a tile-part length segment (TLM) is too short */
+#define WINTERHASP_TLM_FORM_UNKNOWN             5 /* a tile-part length segment (TLM) has an unknown form */
+#define WINTERHASP_NO_TILE_PART                 6 /* no tile-part was reached */
+#define WINTERHASP_TILE_PART_CUT_SHORT          7 /* too few bytes are left for a tile-part */
+#define WINTERHASP_SOT_LENGTH_WRONG             8 /* the first segment of a tile-part (SOT) has a wrong length */
+#define WINTERHASP_TILE_PART_PAST_END           9 /* a tile-part runs past the end */
+#define WINTERHASP_TILE_OUTSIDE                10 /* the tile lies outside the image, or a sum on the way to its size is too large */
+#define WINTERHASP_FILE_TOO_SHORT              11 /* the file is too short */
+#define WINTERHASP_NOT_JPEG_2000               12 /* the file is neither a JP2 nor a codestream */
+#define WINTERHASP_BOX_CUT_SHORT               13 /* the header of a JP2 box is cut short */
+#define WINTERHASP_NO_CODESTREAM_BOX           14 /* no codestream box (jp2c) was found */
+#define WINTERHASP_CODESTREAM_BOX_TOO_SHORT    15 /* the codestream box (jp2c) is shorter than its own header */
+#define WINTERHASP_BOX_TOO_LONG                16 /* a JP2 box is longer than any file */
+#define WINTERHASP_OUTPUT_TOO_SMALL            17 /* the output that was lent has too few bytes */
+#define WINTERHASP_TABLE_TOO_SMALL             18 /* the table that was lent has too few rows */
+#define WINTERHASP_HEADER_TOO_LONG             19 /* too many bytes were lent for the main header */
+#define WINTERHASP_SIZ_CUT_SHORT               20 /* the image size segment (SIZ) is cut short */
+#define WINTERHASP_SIZ_NOT_FOUND               21 /* no image size segment (SIZ) was found */
+#define WINTERHASP_IMAGE_ENDS_BEFORE_IT_STARTS 22 /* the image ends before it starts */
+#define WINTERHASP_LISTING_TOO_LONG            23 /* the file is too long for the listing program */
+
+/* A table is lent as bytes, and has a row for each 18: a tile's index (2 bytes), the tile-part's offset in the codestream
+   (8) and its length (8), big-endian. Bytes behind the last whole row are none. */
+
+enum { WINTERHASP_ROW_BYTES = 18 };
+
+static inline uint64_t winterhasp_big_endian(const uint8_t *bytes, size_t count)
+{
+    uint64_t number = 0;
+    for (size_t i = 0; i < count; i++)
+        number = number << 8 | bytes[i];
+    return number;
+}
+
+static inline uint16_t winterhasp_row_index(const uint8_t *row)
+{
+    return (uint16_t)winterhasp_big_endian(row, 2);
+}
+
+static inline uint64_t winterhasp_row_offset(const uint8_t *row)
+{
+    return winterhasp_big_endian(row + 2, 8);
+}
+
+static inline uint64_t winterhasp_row_length(const uint8_t *row)
+{
+    return winterhasp_big_endian(row + 10, 8);
+}
+
+/* "Offsets". Where an offset of the codestream that starts at `start` lies in the file. Never refuses: 1, and `value` is the
+   place; or 0 where that passes 2^64-1, and `value` stays. */
+uint32_t winterhasp_in_file(uint64_t offset, uint64_t start, uint64_t *value);
+
+/* "Codestream search". Where a file, JP2 or bare, holds its codestream: `start` in the file, and `length`.
+   Refusals: 11 to 16. */
+uint32_t winterhasp_find_codestream(const uint8_t *file, size_t file_len, uint64_t *start, uint64_t *length);
+
+/* "Growth". How much of the codestream holds its main header: `region` bytes, after so many `enlargements` of the first
+   65,536. Never refuses: 0. */
+uint32_t winterhasp_grow_header_region(const uint8_t *codestream, size_t codestream_len, uint64_t *region,
+                                       uint64_t *enlargements);
+
+/* "Growth". One step of that, for who fetches a codestream of `length` bytes piece by piece: the region to try after one of
+   `region` bytes. Never refuses. */
+uint64_t winterhasp_next_region(uint64_t region, uint64_t length);
+
+/* "Header extent". Whether the first bytes of a codestream hold its whole main header. Never refuses: 1, and `value` is the
+   first SOT's offset; or 0 where more bytes are needed, and `value` stays. */
+uint32_t winterhasp_main_header_extent(const uint8_t *prefix, size_t prefix_len, uint64_t *value);
+
+/* "Main header". Its TLM entries go to the rows of `table`, the header without TLM segments to `out`: the decode header, which
+   rewrite and assembly take. `first_sot` is where the first tile-part stands, then the decode header's length and the number
+   of rows. Refusals: 19, 1 to 6, 18, 17. */
+uint32_t winterhasp_parse_main_header(const uint8_t *codestream, size_t codestream_len, uint8_t *table, size_t table_len,
+                                      uint8_t *out, size_t out_len, uint64_t *first_sot, uint64_t *decode_length,
+                                      uint64_t *entries);
+
+/* "SIZ reading". The image's width and height, its components, the bits of a sample, and 1 where samples have a sign.
+   Refusals: 20, 21, 22. */
+uint32_t winterhasp_parse_siz_marker(const uint8_t *codestream, size_t codestream_len, uint64_t *width, uint64_t *height,
+                                     uint64_t *components, uint64_t *bits, uint64_t *signed_samples);
+
+/* "SIZ reading". How a sample is held; any `signed_samples` but 0 is a sign. Never refuses: 0 uint8, 1 int8, 2 uint16, 3 int16,
+   4 uint32, 5 int32. */
+uint32_t winterhasp_pixel_type(uint8_t bits, uint32_t signed_samples);
+
+/* "SOT scan". The tile-parts from `first_sot_offset` on go to the rows of `table`, their number to `value`.
+   Refusals: 7, 8, 9, 18. */
+uint32_t winterhasp_scan_sot_markers(const uint8_t *codestream, size_t codestream_len, uint64_t first_sot_offset,
+                                     uint8_t *table, size_t table_len, uint64_t *value);
+
+/* "Split". How many tile-parts one tile's joined bytes hold. Never refuses. */
+uint64_t winterhasp_split_count(const uint8_t *tile, size_t tile_len);
+
+/* "Split". The tile-part of number `k`, from 0, goes to `out`, its length to `value`: 0 past the last, where nothing is
+   written. Refusals: 17, with the part's length. */
+uint32_t winterhasp_split_part(const uint8_t *tile, size_t tile_len, uint64_t k, uint8_t *out, size_t out_len,
+                               uint64_t *value);
+
+/* "Split". The same of the tile-part that stands at the position `at`, as one follows where the one before ends: with this
+   all parts are taken in one pass. With no output lent, `value` tells its length. Refusals: 17. */
+uint32_t winterhasp_split_at(const uint8_t *tile, size_t tile_len, uint64_t at, uint8_t *out, size_t out_len,
+                             uint64_t *value);
+
+/* "SIZ rewrite". The decode header with a SIZ that speaks of tile `isot` alone goes to `out`, its length to `value`. Of a tile of
+   full size it stays the same. Refusals: 10, 17. */
+uint32_t winterhasp_rewrite_siz_for_tile(const uint8_t *decode_header, size_t decode_header_len, uint16_t isot, uint8_t *out,
+                                         size_t out_len, uint64_t *value);
+
+/* "Assembly". A codestream of one tile, as tile 0, goes to `out`, its length to `value`: header, the tile-parts that the rows of
+   `tile_parts` give of `codestream`, EOC. Rows are as the scan writes them, of one tile; their index is not looked at.
+   Refusals: 10, 17. */
+uint32_t winterhasp_build_minimal_codestream(const uint8_t *decode_header, size_t decode_header_len,
+                                             const uint8_t *tile_parts, size_t tile_parts_len, const uint8_t *codestream,
+                                             size_t codestream_len, uint8_t *out, size_t out_len, uint64_t *value);
+
+#ifdef __cplusplus
+}
+#endif
+
+#endif

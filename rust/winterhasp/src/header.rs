@@ -1,0 +1,48 @@
+//! The main header: where it ends, what a decoder needs of it, and its table of tile-parts.
+
+use crate::boundary;
+use crate::lent::lend;
+use crate::offsets::CodestreamOffset;
+use crate::refusal::Refusal;
+use crate::tile_part::{from_rows, TilePart};
+
+/// What a main header says.
+#[derive(Debug, Clone, PartialEq, Eq)]
+pub struct MainHeader {
+    /// Where the header ends and the first tile-part starts.
+    pub first_sot: CodestreamOffset,
+    /// The header without its TLM segments, for tiles that are cut out.
+    pub decode_header: Vec<u8>,
+    /// The tile-parts by the header's own length table, if it has entries. Nothing says that they
+    /// stand there: [`scan_sot_markers`](crate::scan_sot_markers) does.
+    pub tlm: Option<Vec<TilePart>>,
+}
+
+/// Reads the main header of `codestream`, which may be cut behind the first SOT marker. At most
+/// 2^32-1 bytes are taken: of a longer one hand over the region that
+/// [`grow_header_region`](crate::grow_header_region) gives.
+///
+/// ```
+/// use winterhasp::{parse_main_header, CodestreamOffset};
+///
+/// let codestream = std::fs::read("sample-a.j2k")?;
+/// let header = parse_main_header(&codestream)?;
+/// assert_eq!(header.first_sot, CodestreamOffset(57));
+/// assert_eq!(header.decode_header, codestream[..45]);
+/// assert_eq!(header.tlm.map(|parts| parts.len()), Some(2));
+///
+/// let refusal = parse_main_header(&codestream[..50]).unwrap_err();
+/// assert_eq!((refusal.number(), refusal.place()), (3, 45));
+/// # Ok::<(), Box<dyn std::error::Error>>(())
+/// ```
+pub fn parse_main_header(codestream: &[u8]) -> Result<MainHeader, Refusal> {
+    let (lent, numbers) = lend(|lent, numbers| {
+        boundary::parse_main_header(codestream, &mut lent.table, &mut lent.out, numbers)
+    })?;
+    let [first_sot, _, entries] = numbers;
+    Ok(MainHeader {
+        first_sot: CodestreamOffset(first_sot),
+        decode_header: lent.out,
+        tlm: (entries > 0).then(|| from_rows(&lent.table)),
+    })
+}

@@ -1,0 +1,142 @@
+/* Calls every function of winterhasp.h on sample A, with room and without: calls < SAMPLE. Status 1, and a line that says which
+   answer differs, if one does. */
+
+#include <stdio.h>
+#include <stdlib.h>
+#include <string.h>
+
+#include "winterhasp.h"
+
+enum { SAMPLE_BYTES = 89, FIRST_SOT = 57, HELD = 0x5A };
+
+static int differs;
+
+static void check(int holds, const char *what, int line)
+{
+    if (!holds) {
+        printf("calls.c:%d: not so: %s\n", line, what);
+        differs = 1;
+    }
+}
+
+#define CHECK(what) check((what), #what, __LINE__)
+
+static int all_held(const uint8_t *bytes, size_t count)
+{
+    for (size_t i = 0; i < count; i++)
+        if (bytes[i] != HELD)
+            return 0;
+    return 1;
+}
+
+static void places(void)
+{
+    uint64_t value = 7;
+    CHECK(winterhasp_in_file(57, 85, &value) == 1 && value == 142);
+    CHECK(winterhasp_in_file(UINT64_MAX, 1, &value) == 0 && value == 142);
+    CHECK(winterhasp_next_region(65536, 200000) == 131072);
+    CHECK(winterhasp_pixel_type(9, 1) == 3 && winterhasp_pixel_type(17, 0) == 4);
+}
+
+static void headers(const uint8_t *sample)
+{
+    uint64_t start = 7, length = 7, value = 7, region, enlargements;
+    CHECK(winterhasp_find_codestream(sample, SAMPLE_BYTES, &start, &length) == 0 && start == 0 && length == SAMPLE_BYTES);
+    length = 7;
+    CHECK(winterhasp_find_codestream(sample, 1, &start, &length) == WINTERHASP_FILE_TOO_SHORT && start == 0 && length == 7);
+    CHECK(winterhasp_find_codestream(NULL, 0, &start, &length) == WINTERHASP_FILE_TOO_SHORT);
+    CHECK(winterhasp_grow_header_region(sample, SAMPLE_BYTES, &region, &enlargements) == 0);
+    CHECK(region == SAMPLE_BYTES && enlargements == 0);
+    CHECK(winterhasp_main_header_extent(sample, 58, &value) == 0 && value == 7);
+    CHECK(winterhasp_main_header_extent(sample, 59, &value) == 1 && value == FIRST_SOT);
+
+    uint64_t width, height, components, bits, sign;
+    CHECK(winterhasp_parse_siz_marker(sample, SAMPLE_BYTES, &width, &height, &components, &bits, &sign) == 0);
+    CHECK(width == 10 && height == 6 && components == 1 && bits == 8 && sign == 0);
+    CHECK(winterhasp_parse_siz_marker(sample, 42, &width, &height, &components, &bits, &sign) == WINTERHASP_SIZ_CUT_SHORT);
+    CHECK(width == 2 && height == 6 && components == 1 && bits == 8 && sign == 0);
+}
+
+/* The decode header is the sample's first 45 bytes. */
+static void main_header(const uint8_t *sample, uint8_t *decode_header)
+{
+    uint8_t table[3 * WINTERHASP_ROW_BYTES], out[46];
+    uint64_t first, length = 7, entries = 7;
+    memset(table, HELD, sizeof table);
+    memset(out, HELD, sizeof out);
+    CHECK(winterhasp_parse_main_header(sample, SAMPLE_BYTES, NULL, 0, NULL, 0, &first, &length, &entries) ==
+          WINTERHASP_TABLE_TOO_SMALL);
+    CHECK(first == 2 && length == 7 && entries == 7);
+    CHECK(winterhasp_parse_main_header(sample, SAMPLE_BYTES, table, sizeof table, out, 44, &first, &length, &entries) ==
+          WINTERHASP_OUTPUT_TOO_SMALL);
+    CHECK(first == 45 && all_held(table, sizeof table) && all_held(out, sizeof out));
+    CHECK(winterhasp_parse_main_header(sample, SAMPLE_BYTES, table, sizeof table, out, sizeof out, &first, &length,
+                                       &entries) == 0);
+    CHECK(first == FIRST_SOT && length == 45 && entries == 2);
+    CHECK(memcmp(out, sample, 45) == 0 && out[45] == HELD);
+    const uint8_t *second = table + WINTERHASP_ROW_BYTES;
+    CHECK(winterhasp_row_index(second) == 5 && winterhasp_row_offset(second) == 71 && winterhasp_row_length(second) == 16);
+    CHECK(all_held(second + WINTERHASP_ROW_BYTES, WINTERHASP_ROW_BYTES));
+    memcpy(decode_header, out, 45);
+}
+
+static void parts(const uint8_t *sample)
+{
+    uint8_t table[2 * WINTERHASP_ROW_BYTES], out[17];
+    uint64_t value;
+    CHECK(winterhasp_scan_sot_markers(sample, SAMPLE_BYTES, FIRST_SOT, table, sizeof table - 1, &value) ==
+          WINTERHASP_TABLE_TOO_SMALL);
+    CHECK(value == 2);
+    CHECK(winterhasp_scan_sot_markers(sample, SAMPLE_BYTES, FIRST_SOT, table, sizeof table, &value) == 0 && value == 2);
+    CHECK(winterhasp_row_index(table) == 0 && winterhasp_row_offset(table) == FIRST_SOT && winterhasp_row_length(table) == 14);
+    CHECK(winterhasp_scan_sot_markers(sample, 80, FIRST_SOT, table, sizeof table, &value) == WINTERHASP_TILE_PART_CUT_SHORT);
+    CHECK(value == 71);
+
+    const uint8_t *joined = sample + FIRST_SOT;
+    memset(out, HELD, sizeof out);
+    CHECK(winterhasp_split_count(joined, 30) == 2);
+    CHECK(winterhasp_split_part(joined, 30, 1, out, 15, &value) == WINTERHASP_OUTPUT_TOO_SMALL && value == 16);
+    CHECK(all_held(out, sizeof out));
+    CHECK(winterhasp_split_part(joined, 30, 1, out, sizeof out, &value) == 0 && value == 16);
+    CHECK(memcmp(out, sample + 71, 16) == 0 && out[16] == HELD);
+    CHECK(winterhasp_split_part(joined, 30, 2, NULL, 0, &value) == 0 && value == 0);
+    CHECK(winterhasp_split_at(joined, 30, 0, NULL, 0, &value) == WINTERHASP_OUTPUT_TOO_SMALL && value == 14);
+    CHECK(winterhasp_split_at(joined, 30, 14, out, sizeof out, &value) == 0 && value == 16);
+    CHECK(winterhasp_split_at(joined, 30, 30, out, sizeof out, &value) == 0 && value == 0);
+}
+
+/* Tile 5 of the sample is 2 by 2, and its part of 16 bytes is the second. */
+static void tile(const uint8_t *sample, const uint8_t *decode_header)
+{
+    uint8_t table[2 * WINTERHASP_ROW_BYTES], out[64];
+    uint64_t value;
+    memset(out, HELD, sizeof out);
+    CHECK(winterhasp_rewrite_siz_for_tile(decode_header, 45, 6, out, sizeof out, &value) == WINTERHASP_TILE_OUTSIDE);
+    CHECK(value == 2 && all_held(out, sizeof out));
+    CHECK(winterhasp_rewrite_siz_for_tile(decode_header, 45, 5, out, sizeof out, &value) == 0 && value == 45);
+    CHECK(winterhasp_big_endian(out + 8, 4) == 2 && winterhasp_big_endian(out + 12, 4) == 2 && out[45] == HELD);
+
+    CHECK(winterhasp_scan_sot_markers(sample, SAMPLE_BYTES, FIRST_SOT, table, sizeof table, &value) == 0);
+    const uint8_t *row = table + WINTERHASP_ROW_BYTES;
+    memset(out, HELD, sizeof out);
+    CHECK(winterhasp_build_minimal_codestream(decode_header, 45, row, WINTERHASP_ROW_BYTES, sample, SAMPLE_BYTES, out, 62,
+                                              &value) == WINTERHASP_OUTPUT_TOO_SMALL);
+    CHECK(value == 63 && all_held(out, sizeof out));
+    CHECK(winterhasp_build_minimal_codestream(decode_header, 45, row, WINTERHASP_ROW_BYTES, sample, SAMPLE_BYTES, out,
+                                              sizeof out, &value) == 0);
+    CHECK(value == 63 && out[61] == 0xFF && out[62] == 0xD9 && out[63] == HELD);
+    CHECK(winterhasp_big_endian(out + 49, 2) == 0 && memcmp(out + 51, sample + 77, 10) == 0);
+}
+
+int main(void)
+{
+    static uint8_t sample[SAMPLE_BYTES + 1], decode_header[45];
+    if (fread(sample, 1, sizeof sample, stdin) != SAMPLE_BYTES)
+        return EXIT_FAILURE;
+    places();
+    headers(sample);
+    main_header(sample, decode_header);
+    parts(sample);
+    tile(sample, decode_header);
+    return differs ? EXIT_FAILURE : EXIT_SUCCESS;
+}
