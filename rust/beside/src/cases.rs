@@ -13,7 +13,7 @@ pub struct Kind {
     pub minimum: usize,
     pub payloads: fn(&mut Random) -> Vec<Vec<u8>>,
     /// The original's answer, one line without its end. It may panic, and gives nothing where
-    /// document 01 leaves the answer to us.
+    /// docs/RULES.md leaves the answer to us.
     pub answer: fn(&[u8]) -> Option<String>,
 }
 

@@ -3,51 +3,54 @@
 use std::time::{Duration, Instant};
 
 use crate::random::Random;
-use crate::tally::{Answer, Tally};
+use crate::sample::damage::damaged;
+use crate::tally::Tally;
+use crate::wanted::Wanted;
 
 /// A function's comparison, with what it must have seen at least.
 pub struct Comparison<O> {
-    pub name: &'static str,
+    pub wanted: Wanted,
+    /// Of other functions of ours that go through the same cases.
+    pub also: &'static [Wanted],
+    /// Cases of each.
     pub minimum: u64,
-    pub answers: &'static [Answer],
-    pub also: &'static [Also],
     /// The function that is asked beside ours.
     pub original: O,
-    pub run: fn(&mut Run<O>),
-}
-
-/// Another function of ours that goes through the same cases, with answers that it must give; the
-/// minimum is the comparison's.
-pub struct Also {
-    pub name: &'static str,
-    pub answers: &'static [Answer],
+    /// The cases that are always run.
+    pub fixed: fn(&mut Run<O>),
+    /// A few random ones, if the fixed ones aren't all there are.
+    pub random: Option<fn(&mut Run<O>)>,
 }
 
 /// A comparison, whatever its original is.
 pub trait Compared {
     fn names(&self) -> Vec<&'static str>;
 
-    /// The run's fixed cases, then random ones while time is left, or until enough were seen.
+    /// The fixed cases, then random ones while time is left, or until enough were seen.
     fn tallies(&self, seed: u64, time: Duration) -> Vec<Tally>;
 }
 
 impl<O: Copy> Compared for Comparison<O> {
     fn names(&self) -> Vec<&'static str> {
         let also = self.also.iter().map(|also| also.name);
-        [self.name].into_iter().chain(also).collect()
+        [self.wanted.name].into_iter().chain(also).collect()
     }
 
     fn tallies(&self, seed: u64, time: Duration) -> Vec<Tally> {
-        let tally = |name, answers| Tally::new(name, self.minimum, answers);
-        let also = self.also.iter();
+        let tally = |wanted: &Wanted| Tally::new(wanted.name, self.minimum, wanted.answers);
         let mut run = Run {
             random: Random::new(seed),
-            tally: tally(self.name, self.answers),
-            also: also.map(|also| tally(also.name, also.answers)).collect(),
+            tally: tally(&self.wanted),
+            also: self.also.iter().map(tally).collect(),
             original: self.original,
             until: Instant::now() + time,
         };
-        (self.run)(&mut run);
+        (self.fixed)(&mut run);
+        if let Some(random) = self.random {
+            while run.goes_on() {
+                random(&mut run);
+            }
+        }
         run.also.insert(0, run.tally);
         run.also
     }
@@ -64,35 +67,61 @@ pub struct Run<O> {
 }
 
 impl<O> Run<O> {
-    pub fn goes_on(&self) -> bool {
+    fn goes_on(&self) -> bool {
         let enough = self.tally.enough() && self.also.iter().all(Tally::enough);
         !enough || Instant::now() < self.until
+    }
+
+    /// Checks each of what `make` makes of a copy of the random numbers, so that the rest of the run
+    /// doesn't depend on how many it takes.
+    pub fn each<I>(&mut self, make: fn(&mut Random) -> Vec<I>, check: impl Fn(&mut Self, &I)) {
+        for input in make(&mut self.random.clone()) {
+            check(self, &input);
+        }
+    }
+
+    /// Checks `built` cut short anywhere, so many `times`.
+    pub fn cut(&mut self, times: usize, built: &[u8], check: impl Fn(&mut Self, &[u8])) {
+        for _ in 0..times {
+            let end = self.random.below(built.len() + 1);
+            check(self, &built[..end]);
+        }
+    }
+
+    /// Checks `built` damaged, so many `times`.
+    pub fn damaged(&mut self, times: usize, built: &[u8], check: impl Fn(&mut Self, &[u8])) {
+        for _ in 0..times {
+            let damaged = damaged(&mut self.random, built);
+            check(self, &damaged);
+        }
     }
 }
 
 #[cfg(test)]
 mod tests {
-    use super::{Also, Compared, Comparison};
+    use super::{Compared, Comparison};
+    use crate::wanted::Wanted;
     use std::time::Duration;
 
     #[test]
     fn another_function_has_its_own_line_and_minimum() {
         let comparison = Comparison {
-            name: "f",
-            minimum: 4,
-            answers: &[("even", 1), ("odd", 1)],
-            also: &[Also {
+            wanted: Wanted {
+                name: "f",
+                answers: &[("even", 1), ("odd", 1)],
+            },
+            also: &[Wanted {
                 name: "g",
                 answers: &[("even", 1)],
             }],
+            minimum: 4,
             original: (),
-            run: |run| {
-                while run.goes_on() {
-                    run.tally.compare("even", &0, &0, String::new);
-                    run.tally.compare("odd", &1, &1, String::new);
-                    run.also[0].compare("even", &2, &3, String::new);
-                }
-            },
+            fixed: |_| {},
+            random: Some(|run| {
+                run.tally.compare("even", &0, &0, String::new);
+                run.tally.compare("odd", &1, &1, String::new);
+                run.also[0].compare("even", &2, &3, String::new);
+            }),
         };
         assert_eq!(comparison.names(), ["f", "g"]);
         let tallies = comparison.tallies(0, Duration::ZERO);

@@ -1,4 +1,4 @@
-//! Holds our answer to the original's, and both to document 01's.
+//! Holds our answer to the original's, and both to the model's, which is that of docs/RULES.md.
 
 use std::fmt::Debug;
 
@@ -57,6 +57,7 @@ pub struct Case<A, const V: usize, const M: usize> {
     pub before: Lent<V, M>,
     pub ours: Lent<V, M>,
     pub told: Told<A>,
+    /// By docs/RULES.md, as the model has them.
     pub document: Result<A, Refusal>,
 }
 
@@ -75,13 +76,13 @@ impl<A: Leaves<V, M>, const V: usize, const M: usize> Case<A, V, M> {
         second.judge(&mut run.also[0], input);
     }
 
-    /// Counted under document 01's answer; where the original rightly says nothing that document
-    /// alone decides, and elsewhere it too is held to the original.
+    /// Counted under the document's answer; where the original rightly says nothing the document alone
+    /// decides, and elsewhere it too is held to the original.
     pub fn judge(self, tally: &mut Tally, input: impl FnOnce() -> String) {
         self.judge_under(ACCEPTED, tally, input);
     }
 
-    /// The same, with what document 01 accepts counted under this label.
+    /// The same, with what the document accepts counted under this label.
     pub fn judge_under(
         self,
         accepted: &'static str,

@@ -2,7 +2,7 @@
 
 use std::fmt;
 
-use crate::model::Refusal;
+use crate::model::{Refusal, ROW};
 use crate::random::Random;
 use crate::tally::hex;
 
@@ -22,6 +22,14 @@ impl<const V: usize, const M: usize> Lent<V, M> {
             values: [(); V].map(|()| random.number()),
             memory: sizes.map(|size| random.fill(size)),
         }
+    }
+
+    /// As `call` leaves a copy of it.
+    pub fn left_by(&self, call: impl FnOnce([&mut [u8]; M], &mut [u64; V]) -> u32) -> Self {
+        let mut lent = self.clone();
+        let memory = lent.memory.each_mut().map(Vec::as_mut_slice);
+        lent.status = call(memory, &mut lent.values);
+        lent
     }
 
     /// As a refusal leaves it: all but the first number untouched.
@@ -52,6 +60,11 @@ impl<const V: usize, const M: usize> fmt::Debug for Lent<V, M> {
     }
 }
 
+/// Bytes of a table of so many `entries`, and of a part of a row behind them, which is none.
+pub fn table(random: &mut Random, entries: usize) -> usize {
+    ROW * entries + random.below(ROW)
+}
+
 /// Room for `needed` things: mostly as much as that, often one less, and now and then none or more.
 pub fn room(random: &mut Random, needed: usize) -> usize {
     match random.below(8) {
@@ -74,6 +87,12 @@ mod tests {
         let after = before.clone().accepted([1, 2], [&[8, 9]]);
         assert_eq!(after.memory[0][..2], [8, 9]);
         assert_eq!(after.memory[0][2..], before.memory[0][2..]);
+        let left = before.left_by(|[memory], values| {
+            memory[..2].copy_from_slice(&[8, 9]);
+            *values = [1, 2];
+            0
+        });
+        assert_eq!(left, after);
         let refused = before.clone().refused(Refusal::new(3, 7));
         assert_eq!((refused.status, refused.values[0]), (3, 7));
         assert_eq!(refused.values[1], before.values[1]);

@@ -1,5 +1,4 @@
-//! The proved archive beside the original: the same inputs to both, and what came of it.
-//! Each function that is compared is one module, named once in each program's list.
+//! The proved archives beside the original: the same inputs to both, and what came of it.
 
 #![forbid(unsafe_code)]
 
@@ -10,35 +9,20 @@ pub mod compare;
 pub mod judge;
 pub mod lent;
 pub mod model;
+pub mod options;
+pub mod program;
 pub mod random;
 pub mod sample;
-pub mod status;
 pub mod tally;
+pub mod wanted;
 
-#[cfg(all(present, any(feature = "header", feature = "parts")))]
-mod entries;
-#[cfg(all(present, any(feature = "parts", feature = "reader")))]
-mod part;
-#[cfg(all(present, any(feature = "header", feature = "parts")))]
-mod records;
-
-#[cfg(all(present, feature = "tile"))]
-pub mod assembly;
 #[cfg(present)]
-pub mod extent;
-#[cfg(all(present, feature = "reader"))]
-pub mod growth;
-#[cfg(all(present, feature = "header"))]
-pub mod header;
-#[cfg(all(present, feature = "reader"))]
-pub mod pixel;
-#[cfg(all(present, feature = "tile"))]
-pub mod rewrite;
-#[cfg(all(present, feature = "parts"))]
-pub mod scan;
-#[cfg(all(present, feature = "reader"))]
-pub mod search;
-#[cfg(all(present, feature = "reader"))]
-pub mod siz;
-#[cfg(all(present, feature = "parts"))]
-pub mod split;
+pub mod functions;
+
+/// Where the original isn't at hand nothing can be run beside it.
+#[cfg(not(present))]
+pub mod functions {
+    pub const COMPARISONS: &[&dyn crate::compare::Compared] = &[];
+    pub const BENCHMARKS: &[crate::bench::Benchmark] = &[];
+    pub const KINDS: &[crate::cases::Kind] = &[];
+}

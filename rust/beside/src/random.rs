@@ -18,6 +18,11 @@ impl Random {
         mixed ^ (mixed >> 31)
     }
 
+    /// Of any number of bits.
+    pub fn spread(&mut self) -> u64 {
+        self.number() >> self.below(64)
+    }
+
     /// From 0 to `bound - 1`; the slight lean towards small numbers doesn't matter here.
     pub fn below(&mut self, bound: usize) -> usize {
         (self.number() % bound as u64) as usize
@@ -49,6 +54,9 @@ impl Random {
         choices[self.below(choices.len())]
     }
 }
+
+/// Of the programs, unless they are told another.
+pub const SEED: u64 = 15_444;
 
 #[cfg(test)]
 mod tests {

@@ -4,8 +4,7 @@ use std::fmt::{self, Debug, Display};
 
 use crate::caught::PANICKED;
 
-/// A kind of answer, and how many of it have to come of the original itself: 0 where it is none for
-/// the original to give.
+/// A kind of answer, and how many of it have to come of the original itself.
 pub type Answer = (&'static str, u64);
 
 pub struct Tally {
@@ -184,6 +183,12 @@ fn listed(counts: impl IntoIterator<Item = (&'static str, u64)>) -> String {
 
 pub fn hex(bytes: &[u8]) -> String {
     lower_hex(bytes).to_uppercase()
+}
+
+/// Of the front, and how many bytes there are; of gigabytes the rest is mostly zeros.
+pub fn hex_of_front(bytes: &[u8]) -> String {
+    let front = &bytes[..bytes.len().min(100_000)];
+    format!("{}, {} bytes", hex(front), bytes.len())
 }
 
 pub fn lower_hex(bytes: &[u8]) -> String {

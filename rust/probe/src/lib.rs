@@ -1,12 +1,14 @@
-//! Safe Rust over the proved archive `libprobe.a`: the functions that the host has no use for,
-//! exported for the runs beside the original. Statuses and numbers are the archive's own: 0, or a
-//! refusal's number with its place in the first number lent.
+//! The proved archives' functions as C sees them, for the runs beside the original: `host` is the
+//! product's archive, the rest what nobody but the runs calls. Statuses and numbers are the archives'
+//! own: 0, or a refusal's number with its place in the first number lent.
 
 #![deny(unsafe_code)]
 
-#[cfg(any(feature = "header", feature = "parts", feature = "reader"))]
 #[allow(unsafe_code)]
 mod boundary;
+/// The safe crate keeps these to itself; here they are compared.
+#[allow(unsafe_code)]
+#[path = "../../winterhasp/src/boundary.rs"]
+pub mod host;
 
-#[cfg(any(feature = "header", feature = "parts", feature = "reader"))]
-pub use boundary::*;
+pub use boundary::{codestream_of, header_records, scan_records, TilePartEntry};

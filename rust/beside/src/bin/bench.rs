@@ -4,53 +4,26 @@
 
 #![forbid(unsafe_code)]
 
-use std::env;
 use std::process::ExitCode;
 
-use beside::bench::{heading, Benchmark};
-use beside::caught::overflow_panics;
-use beside::status::{MISUSE, NO_ORIGINAL};
-
-const BENCHMARKS: &[Benchmark] = &[
-    #[cfg(present)]
-    beside::extent::BENCHMARK,
-    #[cfg(all(present, feature = "header"))]
-    beside::header::BENCHMARK,
-    #[cfg(all(present, feature = "parts"))]
-    beside::scan::BENCHMARK,
-    #[cfg(all(present, feature = "parts"))]
-    beside::split::BENCHMARK,
-    #[cfg(all(present, feature = "tile"))]
-    beside::rewrite::BENCHMARK,
-    #[cfg(all(present, feature = "tile"))]
-    beside::assembly::BENCHMARK,
-    #[cfg(all(present, feature = "reader"))]
-    beside::search::BENCHMARK,
-    #[cfg(all(present, feature = "reader"))]
-    beside::siz::BENCHMARK,
-    #[cfg(all(present, feature = "reader"))]
-    beside::growth::BENCHMARK,
-];
+use beside::bench::heading;
+use beside::functions::BENCHMARKS;
+use beside::options::Options;
+use beside::program::{asks_the_original, ended, named, Build, Stop};
 
 fn main() -> ExitCode {
-    let names: Vec<String> = env::args().skip(1).collect();
-    if !original::PRESENT {
-        eprintln!("bench: the original is not at hand");
-        return ExitCode::from(NO_ORIGINAL);
-    }
-    if overflow_panics() {
-        eprintln!("bench: built with overflow checks; build with --release");
-        return ExitCode::from(MISUSE);
-    }
-    let wanted = |benchmark: &&Benchmark| names.iter().all(|name| benchmark.name.contains(name));
-    let chosen: Vec<_> = BENCHMARKS.iter().filter(wanted).collect();
-    if names.len() > 1 || chosen.is_empty() {
-        eprintln!("usage: bench [NAME]");
-        return ExitCode::from(MISUSE);
-    }
-    for benchmark in chosen {
+    ended(bench())
+}
+
+fn bench() -> Result<(), Stop> {
+    let mut options = Options::of_the_program("bench [NAME]");
+    let name = options.unnamed().unwrap_or_default();
+    options.end()?;
+    asks_the_original(Build::Released)?;
+    let name = name.to_string_lossy();
+    for benchmark in named(BENCHMARKS, &name, |benchmark| vec![benchmark.name])? {
         heading(benchmark.name);
         (benchmark.rows)();
     }
-    ExitCode::SUCCESS
+    Ok(())
 }

@@ -6,65 +6,30 @@
 
 use std::path::Path;
 use std::process::ExitCode;
-use std::{env, fs, io};
+use std::{fs, io};
 
-use beside::cases::{Kind, List};
-use beside::caught::overflow_panics;
-use beside::status::{FAILED, MISUSE, NO_ORIGINAL};
-
-const KINDS: &[Kind] = &[
-    #[cfg(present)]
-    beside::extent::KIND,
-    #[cfg(all(present, feature = "header"))]
-    beside::header::KIND,
-    #[cfg(all(present, feature = "parts"))]
-    beside::scan::KIND,
-    #[cfg(all(present, feature = "parts"))]
-    beside::split::KIND,
-    #[cfg(all(present, feature = "tile"))]
-    beside::rewrite::KIND,
-    #[cfg(all(present, feature = "tile"))]
-    beside::assembly::KIND,
-    #[cfg(all(present, feature = "reader"))]
-    beside::search::KIND,
-    #[cfg(all(present, feature = "reader"))]
-    beside::siz::KIND,
-    #[cfg(all(present, feature = "reader"))]
-    beside::growth::KIND,
-    #[cfg(all(present, feature = "header"))]
-    beside::header::RECORDS,
-    #[cfg(all(present, feature = "parts"))]
-    beside::scan::RECORDS,
-];
+use beside::cases::List;
+use beside::functions::KINDS;
+use beside::options::Options;
+use beside::program::{asks_the_original, ended, Build, Stop};
+use beside::random::SEED;
 
 const CASES: &str = "crates/replay/data/cases";
 const ANSWERS: &str = "crates/replay/stdout";
-const SEED: u64 = 15444;
 /// In bytes.
 const LONGEST_LIST: usize = 600_000;
 
 fn main() -> ExitCode {
-    let arguments: Vec<_> = env::args_os().skip(1).collect();
-    let [root] = &arguments[..] else {
-        eprintln!("usage: cases ROOT");
-        return ExitCode::from(MISUSE);
-    };
-    if !original::PRESENT {
-        eprintln!("cases: the original is not at hand");
-        return ExitCode::from(NO_ORIGINAL);
-    }
-    if !overflow_panics() {
-        eprintln!("cases: built without overflow checks; build with --profile compare");
-        return ExitCode::from(MISUSE);
-    }
-    let root = Path::new(root);
-    match list().and_then(|list| write(root, &list).map_err(|error| error.to_string())) {
-        Ok(()) => ExitCode::SUCCESS,
-        Err(trouble) => {
-            eprintln!("cases: {trouble}");
-            ExitCode::from(FAILED)
-        }
-    }
+    ended(cases())
+}
+
+fn cases() -> Result<(), Stop> {
+    let mut options = Options::of_the_program("cases ROOT");
+    let root = options.unnamed().ok_or_else(|| options.misuse())?;
+    options.end()?;
+    asks_the_original(Build::Checked)?;
+    let list = list().map_err(Stop::failed)?;
+    write(Path::new(&root), &list).map_err(|error| Stop::failed(error.to_string()))
 }
 
 fn list() -> Result<List, String> {

@@ -1,4 +1,4 @@
-//! Header walk, header extent, TLM, decode header.
+//! "Header walk", "Header extent", "TLM", "Decode header".
 
 use super::{number, read, Entry, Refusal};
 use crate::sample::codestream::{SIZ, SOC, SOT, TLM};
@@ -54,6 +54,14 @@ pub fn parse_main_header(codestream: &[u8]) -> Result<Header, Refusal> {
         decode_header,
         entries: placed(at, listed),
     })
+}
+
+/// Entries of the table and bytes of output; some of each where the header is refused.
+pub fn needed(codestream: &[u8]) -> (usize, usize) {
+    match parse_main_header(codestream) {
+        Ok(header) => (header.entries.len(), header.decode_header.len()),
+        Err(_) => (2, 50),
+    }
 }
 
 /// The first SOT, if the walk comes to it.

@@ -1,5 +1,5 @@
-//! Document 01 in plain Rust: for every input its answer, or its refusal's number and place.
-//! Written from the document, to stand beside the original, which only says that it refuses.
+//! The rules in plain Rust: for every input its answer, or its refusal's number and place. Written
+//! from docs/RULES.md, to stand beside the original, which only says that it refuses.
 
 pub mod header;
 pub mod parts;
@@ -14,33 +14,11 @@ pub struct Refusal {
 
 pub const ACCEPTED: &str = "accepted";
 
-/// By number; 0 is none.
-const LABELS: [&str; 24] = [
-    ACCEPTED,
-    "refused 1",
-    "refused 2",
-    "refused 3",
-    "refused 4",
-    "refused 5",
-    "refused 6",
-    "refused 7",
-    "refused 8",
-    "refused 9",
-    "refused 10",
-    "refused 11",
-    "refused 12",
-    "refused 13",
-    "refused 14",
-    "refused 15",
-    "refused 16",
-    "refused 17",
-    "refused 18",
-    "refused 19",
-    "refused 20",
-    "refused 21",
-    "refused 22",
-    "refused 23",
-];
+macro_rules! labels {
+    ($($number:literal)*) => { &[$(($number, concat!("refused ", $number))),*] };
+}
+
+const LABELS: &[(u32, &str)] = labels![1 2 3 4 5 6 7 8 9 10 11 12 13 14 15 16 17 18 19 20 21 22 23];
 
 impl Refusal {
     pub fn new(number: u32, place: u64) -> Self {
@@ -58,7 +36,8 @@ impl Refusal {
     }
 
     pub fn label(&self) -> &'static str {
-        LABELS[self.number as usize]
+        let known = LABELS.iter().find(|(number, _)| *number == self.number);
+        known.expect("a number of the rules").1
     }
 
     /// 17, for output of `room` bytes.
@@ -84,6 +63,9 @@ pub const ROW: usize = 18;
 /// A tile-part: its tile's index, its offset and its length.
 pub type Entry = (u16, u64, u64);
 
+/// An offset and a length.
+pub type Range = (u64, u64);
+
 pub fn rows(entries: &[Entry]) -> Vec<u8> {
     let row = |(index, offset, length): &Entry| {
         let front = index.to_be_bytes().into_iter();
@@ -106,4 +88,17 @@ pub fn number(bytes: &[u8]) -> u64 {
 pub fn read(bytes: &[u8], at: u64, size: usize) -> Option<u64> {
     let from = bytes.get(usize::try_from(at).ok()?..)?;
     from.get(..size).map(number)
+}
+
+#[cfg(test)]
+mod tests {
+    use super::{Refusal, LABELS};
+
+    #[test]
+    fn a_label_says_its_number() {
+        for (number, _) in LABELS {
+            let label = Refusal::new(*number, 0).label();
+            assert_eq!(label, format!("refused {number}"));
+        }
+    }
 }

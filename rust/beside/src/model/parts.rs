@@ -1,4 +1,4 @@
-//! SOT scan, split.
+//! "SOT scan", "Split".
 
 use super::{read, Entry, Refusal};
 use crate::sample::codestream::{EOC, SOT};
@@ -37,6 +37,11 @@ pub fn scan_sot_markers(codestream: &[u8], start: u64) -> Result<Vec<Entry>, Ref
         at += psot;
     }
     Ok(entries)
+}
+
+/// Entries of the table; some where the scan is refused.
+pub fn needed(codestream: &[u8], start: u64) -> usize {
+    scan_sot_markers(codestream, start).map_or(2, |entries| entries.len())
 }
 
 /// Of a SOT that is whole.

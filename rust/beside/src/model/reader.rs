@@ -1,6 +1,6 @@
-//! SIZ reading, codestream search, growth.
+//! "SIZ reading", "Codestream search", "Growth".
 
-use super::{read, Refusal};
+use super::{read, Range, Refusal};
 use crate::sample::codestream::{SIZ, SOC};
 
 /// Width, height, components, bits of a component, and 1 if it is signed.
@@ -52,7 +52,7 @@ pub const SIGNATURE: [u8; 12] = *b"\0\0\0\x0CjP  \x0D\x0A\x87\x0A";
 pub const JP2C: [u8; 4] = *b"jp2c";
 
 /// Where the codestream starts in the file, and its length.
-pub fn find_codestream(file: &[u8]) -> Result<(u64, u64), Refusal> {
+pub fn find_codestream(file: &[u8]) -> Result<Range, Refusal> {
     let length = file.len() as u64;
     if length < 2 {
         return Err(Refusal::new(11, 0));

@@ -1,6 +1,6 @@
-//! SIZ rewrite, assembly.
+//! "SIZ rewrite", "Assembly".
 
-use super::{number, read, Refusal};
+use super::{number, read, Range, Refusal};
 use crate::sample::codestream::{EOC, SIZ, SOT};
 
 const SHORTEST_HEADER: usize = 40;
@@ -61,10 +61,9 @@ fn extent(size: u64, origin: u64, tile: u64, nth: u64) -> Option<u32> {
     within(end.checked_sub(start)?)
 }
 
-/// `ranges` are offset and length.
 pub fn build_minimal_codestream(
     decode_header: &[u8],
-    ranges: &[(u64, u64)],
+    ranges: &[Range],
     codestream: &[u8],
     room: usize,
 ) -> Result<Vec<u8>, Refusal> {
@@ -72,8 +71,8 @@ pub fn build_minimal_codestream(
 }
 
 /// The parts of ranges; one that passes the end is dropped.
-pub fn kept<'a>(ranges: &[(u64, u64)], codestream: &'a [u8]) -> Vec<&'a [u8]> {
-    let part = |&(offset, length): &(u64, u64)| {
+pub fn kept<'a>(ranges: &[Range], codestream: &'a [u8]) -> Vec<&'a [u8]> {
+    let part = |&(offset, length): &Range| {
         let end = offset.checked_add(length)?;
         codestream.get(offset as usize..usize::try_from(end).ok()?)
     };

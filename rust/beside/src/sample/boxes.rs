@@ -1,6 +1,7 @@
 //! JP2 files: the signature and boxes, sound and not.
 
 use super::codestream::SOC;
+use super::prefixes;
 use crate::model::reader::{JP2C, SIGNATURE};
 use crate::random::Random;
 
@@ -54,7 +55,7 @@ fn any_box(random: &mut Random, kind: [u8; 4]) -> Vec<u8> {
         1 => saying(kind, random.below(30) as u32, &content),
         2 => saying(kind, random.number() as u32 >> random.below(32), &content),
         3 => extended(kind, random.below(40) as u64, &content),
-        4 => extended(kind, random.number() >> random.below(64), &content),
+        4 => extended(kind, random.spread(), &content),
         5 => extended(kind, u64::MAX - random.below(60) as u64, &content),
         6..=11 => extended(kind, 16 + size as u64, &content),
         _ => fitting(kind, &content),
@@ -98,7 +99,7 @@ pub fn edges() -> Vec<Vec<u8>> {
         &fitting(JP2C, &[5; 3]),
     ]
     .concat();
-    files.extend((0..=whole.len()).map(|end| whole[..end].to_vec()));
+    files.extend(prefixes(&whole));
     for front in [
         &[0xFF][..],
         &[0xFF, 0x4F],

@@ -3,6 +3,13 @@
 use super::TELLING;
 use crate::random::Random;
 
+/// A copy with one to four things done to it.
+pub fn damaged(random: &mut Random, bytes: &[u8]) -> Vec<u8> {
+    let mut copy = bytes.to_vec();
+    damage(random, &mut copy);
+    copy
+}
+
 /// Does one to four things to `bytes`.
 pub fn damage(random: &mut Random, bytes: &mut Vec<u8>) {
     for _ in 0..=random.below(4) {

@@ -11,7 +11,7 @@ pub mod tiles;
 pub mod tlms;
 pub mod zeros;
 
-use codestream::{Codestream, Siz, Tlm, SIZ};
+use codestream::{Codestream, Siz, Tlm, SIZ, SOT};
 
 /// Bytes that mean something to the header walk, alone or in pairs.
 pub const TELLING: [u8; 19] = [
@@ -47,6 +47,18 @@ pub fn opened() -> Codestream {
     let mut built = Codestream::default();
     built.soc().segment(SIZ, &[]);
     built
+}
+
+/// SOC, as few segments as will do, and a SOT at `first_sot`.
+pub fn padded(first_sot: usize) -> Vec<u8> {
+    let mut built = Codestream::default();
+    built.soc().pad_to(first_sot).marker(SOT);
+    built.bytes
+}
+
+/// All that `bytes` begin with, from nothing to the whole.
+pub fn prefixes(bytes: &[u8]) -> impl Iterator<Item = Vec<u8>> + '_ {
+    (0..=bytes.len()).map(|end| bytes[..end].to_vec())
 }
 
 /// Where sample A's first SOT stands.

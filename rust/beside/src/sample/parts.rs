@@ -78,7 +78,7 @@ pub fn sot(isot: u16, psot: u32) -> Vec<u8> {
     built.bytes
 }
 
-/// The lines of document 01 about scan and split, with their neighbours: Psot around the rest and
+/// The edges of the scan and the split (docs/RULES.md, "Edges"), with their neighbours: Psot around the rest and
 /// around SOT's own size, each Lsot near 10, and everything short that may follow a part.
 pub fn edges() -> Vec<Vec<u8>> {
     let mut edges = Vec::new();

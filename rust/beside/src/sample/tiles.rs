@@ -4,22 +4,58 @@ use super::codestream::Codestream;
 use super::parts::{sot, tile_parts};
 use super::sizes::{header, header_and_index, SAMPLE_A};
 use super::{sample_a, SAMPLE_A_FIRST_SOT};
+use crate::model::tile::build_minimal_codestream;
+use crate::model::{rows, Range, ROW};
 use crate::random::Random;
 
-/// Ranges are offset and length.
 #[derive(Clone)]
 pub struct Input {
     pub header: Vec<u8>,
-    pub ranges: Vec<(u64, u64)>,
+    pub ranges: Vec<Range>,
     pub codestream: Vec<u8>,
 }
 
 impl Input {
     /// The ranges as rows; the index is `filler`, as nobody is to read it.
     pub fn rows(&self, filler: u16) -> Vec<u8> {
-        let entry = |&(offset, length): &(u64, u64)| (filler, offset, length);
-        crate::model::rows(&self.ranges.iter().map(entry).collect::<Vec<_>>())
+        rows_of(&self.ranges, filler)
     }
+
+    /// The same with any index, and a part of a row behind them, which is none.
+    pub fn rows_and_more(&self, random: &mut Random) -> Vec<u8> {
+        let mut rows = self.rows(random.number() as u16);
+        let partial = random.below(ROW);
+        rows.extend(random.fill(partial));
+        rows
+    }
+
+    /// Bytes of output; some where the assembly is refused.
+    pub fn needed(&self) -> usize {
+        let Input {
+            header,
+            ranges,
+            codestream,
+        } = self;
+        let built = build_minimal_codestream(header, ranges, codestream, usize::MAX);
+        built.map_or(50, |built| built.len())
+    }
+}
+
+pub fn rows_of(ranges: &[Range], index: u16) -> Vec<u8> {
+    let entry = |&(offset, length): &Range| (index, offset, length);
+    rows(&ranges.iter().map(entry).collect::<Vec<_>>())
+}
+
+/// The parts one behind the other, and a row for each.
+pub fn joined(parts: &[&[u8]]) -> (Vec<u8>, Vec<u8>) {
+    let mut end = 0;
+    let place = |part: &&[u8]| {
+        let (offset, length) = (end, part.len() as u64);
+        end += length;
+        (offset, length)
+    };
+    let ranges: Vec<_> = parts.iter().map(place).collect();
+    (parts.concat(), rows_of(&ranges, 0))
 }
 
 pub fn inputs(random: &mut Random) -> Vec<Input> {
@@ -54,7 +90,7 @@ fn on_sample_a() -> Vec<Input> {
         (0, u64::MAX),
         (u64::MAX - 14, 14),
     ];
-    let input = |ranges: &[(u64, u64)]| Input {
+    let input = |ranges: &[Range]| Input {
         header: header(SAMPLE_A),
         ranges: ranges.to_vec(),
         codestream: sample_a(),
@@ -95,7 +131,7 @@ pub fn random_input(random: &mut Random) -> Input {
     }
 }
 
-fn range(random: &mut Random, starts: &[u64], end: u64) -> (u64, u64) {
+fn range(random: &mut Random, starts: &[u64], end: u64) -> Range {
     let start = random.pick(starts);
     let near = random.below(3) as u64;
     match random.below(16) {
@@ -107,10 +143,7 @@ fn range(random: &mut Random, starts: &[u64], end: u64) -> (u64, u64) {
         11 => (u64::MAX - start, start + near),
         12 => (start, u64::MAX - start.saturating_sub(near)),
         13 => (start + (1 << 32), near),
-        14 => (
-            random.number() >> random.below(64),
-            random.number() >> random.below(64),
-        ),
+        14 => (random.spread(), random.spread()),
         _ => (
             random.below(end as usize + 1) as u64,
             random.below(12) as u64,

@@ -77,7 +77,7 @@ impl Calls<'_> {
         &mut self,
         inputs: [Vec<u8>; I],
         sizes: [usize; M],
-        label: fn(u32) -> &'static str,
+        label: impl Fn(u32) -> &'static str,
         call: impl Fn([&[u8]; I], [&mut [u8]; M], &mut [u64; V]) -> u32,
     ) {
         self.with_table(inputs, sizes, 0, label, |inputs, memory, _, values| {
@@ -91,19 +91,17 @@ impl Calls<'_> {
         inputs: [Vec<u8>; I],
         sizes: [usize; M],
         records: usize,
-        label: fn(u32) -> &'static str,
+        label: impl Fn(u32) -> &'static str,
         call: impl Fn([&[u8]; I], [&mut [u8]; M], &mut [TilePartEntry], &mut [u64; V]) -> u32,
     ) {
         let inputs = inputs.map(|bytes| bytes.as_slice().to_vec());
         let random = &mut self.random;
         let before = (Lent::preset(random, sizes), preset_table(random, records));
-        let (mut ordinary, mut table) = before.clone();
-        ordinary.status = call(
-            inputs.each_ref().map(Vec::as_slice),
-            ordinary.memory.each_mut().map(Vec::as_mut_slice),
-            &mut table,
-            &mut ordinary.values,
-        );
+        let mut table = before.1.clone();
+        let ordinary = before.0.left_by(|memory, values| {
+            let inputs = inputs.each_ref().map(Vec::as_slice);
+            call(inputs, memory, &mut table, values)
+        });
         let answer = label(ordinary.status);
         let ordinary = (ordinary, table);
         for side in [Side::Front, Side::Back] {

@@ -1,131 +1,35 @@
 //! Every function of the archives, with inputs that are built as files are, and damaged.
 
-use beside::lent::room;
-use beside::model::{self, Refusal, ROW};
+use beside::lent::{room, table};
+use beside::model::{self, Refusal};
 use beside::random::Random;
-use beside::sample::codestream::{Codestream, SOT};
 use beside::sample::damage::damage;
-use beside::sample::{boxes, headers, parts, sizes, tiles};
+use beside::sample::{boxes, headers, padded, parts, sizes, tiles};
+use beside::wanted::{self, Wanted, COMPLETE, COUNT, TRUNCATED};
+use probe::host;
 
 use super::calls::{Calls, ROOM};
 
-pub struct Function {
-    pub name: &'static str,
-    /// Each has to come.
-    pub answers: &'static [&'static str],
-    /// One input, and a few calls.
-    pub run: fn(&mut Calls),
-}
+/// Each answer has to come; a run is one input, and a few calls.
+pub type Function = (Wanted, fn(&mut Calls));
 
 pub const FUNCTIONS: &[Function] = &[
-    Function {
-        name: "main_header_extent",
-        answers: &["complete", "truncated"],
-        run: extent,
-    },
-    Function {
-        name: "parse_main_header",
-        answers: OF_HEADERS,
-        run: header,
-    },
-    Function {
-        name: "header_records",
-        answers: OF_HEADERS,
-        run: header_records,
-    },
-    Function {
-        name: "scan_sot_markers",
-        answers: OF_SCANS,
-        run: scan,
-    },
-    Function {
-        name: "scan_records",
-        answers: OF_SCANS,
-        run: scan_records,
-    },
-    Function {
-        name: "split_count",
-        answers: &["accepted"],
-        run: split_count,
-    },
-    Function {
-        name: "split_part",
-        answers: &["accepted", "refused 17"],
-        run: split_part,
-    },
-    Function {
-        name: "split_at",
-        answers: &["accepted", "refused 17"],
-        run: split_at,
-    },
-    Function {
-        name: "rewrite_siz_for_tile",
-        answers: &["accepted", "refused 10", "refused 17"],
-        run: rewrite,
-    },
-    Function {
-        name: "build_minimal_codestream",
-        answers: &["accepted", "refused 10", "refused 17"],
-        run: assembly,
-    },
-    Function {
-        name: "find_codestream",
-        answers: &[
-            "accepted",
-            "refused 11",
-            "refused 12",
-            "refused 13",
-            "refused 14",
-            "refused 15",
-            "refused 16",
-        ],
-        run: search,
-    },
-    Function {
-        name: "codestream_of",
-        answers: &["accepted", "refused 17"],
-        run: codestream_of,
-    },
-    Function {
-        name: "parse_siz_marker",
-        answers: &["accepted", "refused 20", "refused 21", "refused 22"],
-        run: siz,
-    },
-    Function {
-        name: "grow_header_region",
-        answers: &["accepted"],
-        run: growth,
-    },
-    Function {
-        name: "pixel_type",
-        answers: &["accepted"],
-        run: pixel_type,
-    },
-    Function {
-        name: "next_region",
-        answers: &["accepted"],
-        run: next_region,
-    },
-];
-
-const OF_HEADERS: &[&str] = &[
-    "accepted",
-    "refused 1",
-    "refused 2",
-    "refused 3",
-    "refused 4",
-    "refused 5",
-    "refused 6",
-    "refused 17",
-    "refused 18",
-];
-
-const OF_SCANS: &[&str] = &[
-    "accepted",
-    "refused 7",
-    "refused 8",
-    "refused 9",
-    "refused 18",
+    (wanted::EXTENT, extent),
+    (wanted::HEADER, header),
+    (wanted::HEADER_RECORDS, header_records),
+    (wanted::SCAN, scan),
+    (wanted::SCAN_RECORDS, scan_records),
+    (wanted::SPLIT_COUNT, split_count),
+    (wanted::SPLIT_PART, split_part),
+    (wanted::SPLIT_AT, split_at),
+    (wanted::REWRITE, rewrite),
+    (wanted::ASSEMBLY, assembly),
+    (wanted::SEARCH, search),
+    (wanted::CODESTREAM, codestream_of),
+    (wanted::SIZ, siz),
+    (wanted::GROWTH, growth),
+    (wanted::PIXEL_TYPE, pixel_type),
+    (wanted::NEXT_REGION, next_region),
 ];
 
 fn usual(status: u32) -> &'static str {
@@ -147,35 +51,31 @@ fn codestream(random: &mut Random) -> Vec<u8> {
 
 fn extent(calls: &mut Calls) {
     let answer = |status| match status {
-        1 => "complete",
-        _ => "truncated",
+        1 => COMPLETE,
+        _ => TRUNCATED,
     };
     let prefix = codestream(&mut calls.random);
     calls.call([prefix], [], answer, |[prefix], [], [value]| {
-        winterhasp::extent_into(prefix, value)
+        host::main_header_extent(prefix, value)
     });
 }
 
 /// A codestream, and room for its entries and its decode header, or about that.
 fn header_input(random: &mut Random) -> (Vec<u8>, usize, usize) {
     let codestream = codestream(random);
-    let (entries, size) = match model::header::parse_main_header(&codestream) {
-        Ok(header) => (header.entries.len(), header.decode_header.len()),
-        Err(_) => (2, 50),
-    };
+    let (entries, size) = model::header::needed(&codestream);
     (codestream, room(random, entries), room(random, size))
 }
 
 fn header(calls: &mut Calls) {
     let (codestream, entries, size) = header_input(&mut calls.random);
-    let table = entries * ROW + calls.random.below(ROW);
+    let table = table(&mut calls.random, entries);
     calls.call(
         [codestream],
         [table, size],
         usual,
-        |[codestream], memory, values| {
-            let [table, out] = memory;
-            probe::parse_main_header(codestream, table, out, values)
+        |[codestream], [table, out], values| {
+            host::parse_main_header(codestream, table, out, values)
         },
     );
 }
@@ -200,22 +100,21 @@ fn scan_input(random: &mut Random) -> (Vec<u8>, u64, usize) {
             let anywhere = random.below(whole.len() + 3) as u64;
             (whole, first_sot.unwrap_or(anywhere))
         }
-        1 => (codestream(random), random.number() >> random.below(64)),
+        1 => (codestream(random), random.spread()),
         _ => (tile_parts(random), 0),
     };
-    let entries =
-        model::parts::scan_sot_markers(&codestream, start).map_or(2, |entries| entries.len());
+    let entries = model::parts::needed(&codestream, start);
     (codestream, start, room(random, entries))
 }
 
 fn scan(calls: &mut Calls) {
     let (codestream, start, entries) = scan_input(&mut calls.random);
-    let table = entries * ROW + calls.random.below(ROW);
+    let table = table(&mut calls.random, entries);
     calls.call(
         [codestream],
         [table],
         usual,
-        |[codestream], [table], [value]| winterhasp::scan_into(codestream, start, table, value),
+        |[codestream], [table], [value]| host::scan_sot_markers(codestream, start, table, value),
     );
 }
 
@@ -237,10 +136,15 @@ fn tile_parts(random: &mut Random) -> Vec<u8> {
 
 fn split_count(calls: &mut Calls) {
     let tile = tile_parts(&mut calls.random);
-    calls.call([tile], [], usual, |[tile], [], [value]| {
-        *value = probe::split_count(tile);
-        0
-    });
+    calls.call(
+        [tile],
+        [],
+        |_| COUNT,
+        |[tile], [], [value]| {
+            *value = host::split_count(tile);
+            0
+        },
+    );
 }
 
 fn split_part(calls: &mut Calls) {
@@ -250,7 +154,7 @@ fn split_part(calls: &mut Calls) {
     let k = random.below(found.len() + 2);
     let size = room(random, found.get(k).map_or(0, |part| part.len()));
     calls.call([tile], [size], usual, |[tile], [out], [value]| {
-        probe::split_part(tile, k as u64, out, value)
+        host::split_part(tile, k as u64, out, value)
     });
 }
 
@@ -266,7 +170,7 @@ fn split_at(calls: &mut Calls) {
     let from = model::parts::split_tile_parts(tile.get(at..).unwrap_or_default());
     let size = room(random, from.first().map_or(0, |part| part.len()));
     calls.call([tile], [size], usual, |[tile], [out], [value]| {
-        probe::split_at(tile, at as u64, out, value)
+        host::split_at(tile, at as u64, out, value)
     });
 }
 
@@ -276,7 +180,7 @@ fn rewrite(calls: &mut Calls) {
     let header = perhaps_damaged(random, header);
     let size = room(random, header.len());
     calls.call([header], [size], usual, |[header], [out], [value]| {
-        winterhasp::rewrite_into(header, isot, out, value)
+        host::rewrite_siz_for_tile(header, isot, out, value)
     });
 }
 
@@ -292,23 +196,15 @@ fn assembly(calls: &mut Calls) {
             .codestream
             .truncate(usize::try_from(end).unwrap_or(usize::MAX));
     }
-    let tiles::Input {
-        header,
-        ranges,
-        codestream,
-    } = &input;
-    let built = model::tile::build_minimal_codestream(header, ranges, codestream, usize::MAX);
-    let size = room(random, built.map_or(50, |built| built.len()));
-    let mut rows = input.rows(random.number() as u16);
-    let partial = random.below(ROW);
-    rows.extend(random.bytes(partial));
+    let size = room(random, input.needed());
+    let rows = input.rows_and_more(random);
     let inputs = [input.header, rows, input.codestream];
     calls.call(
         inputs,
         [size],
         usual,
         |[header, rows, codestream], [out], [value]| {
-            winterhasp::build_into(header, rows, codestream, out, value)
+            host::build_minimal_codestream(header, rows, codestream, out, value)
         },
     );
 }
@@ -321,7 +217,7 @@ fn file(random: &mut Random) -> Vec<u8> {
 fn search(calls: &mut Calls) {
     let file = file(&mut calls.random);
     calls.call([file], [], usual, |[file], [], values| {
-        probe::find_codestream(file, values)
+        host::find_codestream(file, values)
     });
 }
 
@@ -330,7 +226,11 @@ fn codestream_of(calls: &mut Calls) {
     let file = file(random);
     let found = model::reader::find_codestream(&file);
     let size = room(random, found.map_or(0, |(_, length)| length as usize));
-    calls.call([file], [size], usual, |[file], [out], [value]| {
+    let answer = |status| match status {
+        0 => wanted::codestream(found.is_ok()),
+        _ => usual(status),
+    };
+    calls.call([file], [size], answer, |[file], [out], [value]| {
         probe::codestream_of(file, out, value)
     });
 }
@@ -345,7 +245,7 @@ fn siz(calls: &mut Calls) {
         }
     };
     calls.call([codestream], [], usual, |[codestream], [], values| {
-        probe::parse_siz_marker(codestream, values)
+        host::parse_siz_marker(codestream, values)
     });
 }
 
@@ -354,30 +254,31 @@ fn growth(calls: &mut Calls) {
     let random = &mut calls.random;
     let codestream = match random.once_in(32) {
         true => {
-            let mut built = Codestream::default();
-            built.soc().pad_to(6 + random.below(ROOM / 2)).marker(SOT);
-            perhaps_damaged(random, built.bytes)
+            let built = padded(6 + random.below(ROOM / 2));
+            perhaps_damaged(random, built)
         }
         false => codestream(random),
     };
     calls.call([codestream], [], usual, |[codestream], [], values| {
-        probe::grow_header_region(codestream, values)
+        host::grow_header_region(codestream, values)
     });
 }
 
 fn pixel_type(calls: &mut Calls) {
     let (bits, signed) = (calls.random.byte(), calls.random.once_in(2));
-    calls.call([], [], usual, |[], [], [value]| {
-        *value = probe::pixel_type(bits, signed).into();
+    let answer = |_| wanted::pixel_type(signed);
+    calls.call([], [], answer, |[], [], [value]| {
+        *value = host::pixel_type(bits, signed).into();
         0
     });
 }
 
 fn next_region(calls: &mut Calls) {
     let random = &mut calls.random;
-    let [region, length] = [(); 2].map(|()| random.number() >> random.below(64));
-    calls.call([], [], usual, |[], [], [value]| {
-        *value = probe::next_region(region, length);
+    let [region, length] = [(); 2].map(|()| random.spread());
+    let answer = |_| wanted::next_region(model::reader::next_region(region, length) == length);
+    calls.call([], [], answer, |[], [], [value]| {
+        *value = host::next_region(region, length);
         0
     });
 }

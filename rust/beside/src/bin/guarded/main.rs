@@ -9,72 +9,58 @@ mod functions;
 #[allow(unsafe_code)]
 mod pages;
 
-use std::env;
 use std::process::ExitCode;
 
-use beside::random::Random;
-use beside::status::{FAILED, MISUSE};
+use beside::options::Options;
+use beside::program::{ended, Stop};
+use beside::random::{Random, SEED};
 use beside::tally::Tally;
+use beside::wanted::TOO_LONG;
 
 use calls::{Calls, Pools};
 use functions::{Function, FUNCTIONS};
 
-/// `calls` are for all functions, in equal parts.
-struct Options {
-    calls: u64,
-    seed: u64,
-}
+/// For all functions, in equal parts.
+const CALLS: u64 = 100_000;
 
 fn main() -> ExitCode {
-    let Some(options) = options() else {
-        eprintln!("usage: guarded [--calls N] [--seed S]");
-        return ExitCode::from(MISUSE);
-    };
-    println!("seed {}", options.seed);
-    let share = options.calls / FUNCTIONS.len() as u64;
+    ended(guarded())
+}
+
+fn guarded() -> Result<(), Stop> {
+    let mut options = Options::of_the_program("guarded [--calls N] [--seed S]");
+    let calls = options.number("--calls")?.unwrap_or(CALLS);
+    let seed = options.number("--seed")?.unwrap_or(SEED);
+    options.end()?;
+    println!("seed {seed}");
+    let share = calls / FUNCTIONS.len() as u64;
     let mut pools = Pools::new();
     let (mut all, mut hold) = (0, true);
     for function in FUNCTIONS {
-        let tally = called(function, share, options.seed, &mut pools);
+        let tally = called(function, share, seed, &mut pools);
         println!("{tally}");
         all += tally.compared();
         hold &= tally.holds();
     }
     println!("guarded: {all} calls between inaccessible pages");
-    if hold {
-        ExitCode::SUCCESS
-    } else {
-        ExitCode::from(FAILED)
+    match hold {
+        true => Ok(()),
+        false => Err(Stop::failed("an answer was another, or never came")),
     }
 }
 
-fn called(function: &Function, least: u64, seed: u64, pools: &mut Pools) -> Tally {
-    // The original has no part in this.
-    let answers: Vec<_> = function.answers.iter().map(|&answer| (answer, 0)).collect();
+fn called((wanted, run): &Function, least: u64, seed: u64, pools: &mut Pools) -> Tally {
+    let labels = wanted.answers.iter().map(|&(label, _)| label);
+    // So long a loan has no room here, and the original has no part in this.
+    let labels = labels.filter(|&label| label != TOO_LONG);
+    let answers: Vec<_> = labels.map(|label| (label, 0)).collect();
     let mut calls = Calls {
         random: Random::new(seed),
-        tally: Tally::new(function.name, least, &answers),
+        tally: Tally::new(wanted.name, least, &answers),
         pools,
     };
     while !calls.tally.enough() {
-        (function.run)(&mut calls);
+        run(&mut calls);
     }
     calls.tally
-}
-
-fn options() -> Option<Options> {
-    let mut options = Options {
-        calls: 100_000,
-        seed: 15444,
-    };
-    let mut arguments = env::args().skip(1);
-    while let Some(name) = arguments.next() {
-        let word = arguments.next()?;
-        match name.as_str() {
-            "--calls" => options.calls = word.parse().ok()?,
-            "--seed" => options.seed = word.parse().ok()?,
-            _ => return None,
-        }
-    }
-    Some(options)
 }

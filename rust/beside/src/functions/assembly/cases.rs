@@ -1,0 +1,40 @@
+//! The replay list's cases of kind 6; the payload is the header's length in 4 bytes, the header, the
+//! number of rows in 2 bytes, the rows, and the codestream.
+
+use original::markers::build_minimal_codestream;
+
+use crate::cases::Kind;
+use crate::model::{number, ROW};
+use crate::sample::tiles::{inputs, Input};
+use crate::tally::lower_hex;
+use crate::wanted;
+
+pub const KIND: Kind = Kind {
+    number: 6,
+    name: wanted::ASSEMBLY.name,
+    minimum: 300,
+    payloads: |random| inputs(random).iter().map(framed).collect(),
+    answer,
+};
+
+fn framed(input: &Input) -> Vec<u8> {
+    [
+        &(input.header.len() as u32).to_be_bytes()[..],
+        &input.header,
+        &(input.ranges.len() as u16).to_be_bytes(),
+        &input.rows(0xA5A5),
+        &input.codestream,
+    ]
+    .concat()
+}
+
+fn answer(payload: &[u8]) -> Option<String> {
+    let (size, rest) = payload.split_at(4);
+    let (header, rest) = rest.split_at(number(size) as usize);
+    let (count, rest) = rest.split_at(2);
+    let (rows, codestream) = rest.split_at(ROW * number(count) as usize);
+    let range = |row: &[u8]| (number(&row[2..10]), number(&row[10..]));
+    let ranges: Vec<_> = rows.chunks(ROW).map(range).collect();
+    let built = build_minimal_codestream(header, &ranges, codestream);
+    Some(format!("assembly {}", lower_hex(&built)))
+}

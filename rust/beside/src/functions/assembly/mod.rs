@@ -1,0 +1,10 @@
+//! `build_minimal_codestream`, ours beside the original's; and the same of parts in place of ranges.
+
+mod cases;
+mod compare;
+mod from_parts;
+mod rows;
+
+pub use cases::KIND;
+pub use compare::COMPARISON;
+pub use rows::BENCHMARK;

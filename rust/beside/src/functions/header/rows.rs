@@ -1,0 +1,91 @@
+//! The benchmark: headers of one and many TLM segments, the entries into rows of bytes or into
+//! records. The table and the output that ours is lent are not cleared between calls; the original
+//! allocates its own.
+
+use std::cell::RefCell;
+
+use probe::{host, TilePartEntry};
+
+use crate::bench::{row, Benchmark};
+use crate::model::header::{parse_main_header, Header};
+use crate::model::ROW;
+use crate::sample::codestream::{Codestream, SOT};
+use crate::sample::{sample_a, tlms};
+use crate::wanted;
+
+pub const BENCHMARK: Benchmark = Benchmark {
+    name: wanted::HEADER.name,
+    rows,
+};
+
+struct Input {
+    codestream: Vec<u8>,
+    table: RefCell<Vec<u8>>,
+    records: RefCell<Vec<TilePartEntry>>,
+    out: RefCell<Vec<u8>>,
+}
+
+impl Input {
+    fn of(codestream: Vec<u8>) -> Self {
+        let Header {
+            entries,
+            decode_header,
+            ..
+        } = parse_main_header(&codestream).expect("a header to be timed is sound");
+        Input {
+            codestream,
+            table: vec![0; ROW * entries.len()].into(),
+            records: vec![TilePartEntry::default(); entries.len()].into(),
+            out: vec![0; decode_header.len()].into(),
+        }
+    }
+}
+
+/// First SOT, the decode header's length, entries.
+fn ours(input: &Input) -> Option<[u64; 3]> {
+    let mut values = [0; 3];
+    let (mut table, mut out) = (input.table.borrow_mut(), input.out.borrow_mut());
+    let status = host::parse_main_header(&input.codestream, &mut table, &mut out, &mut values);
+    (status == 0).then_some(values)
+}
+
+fn recorded(input: &Input) -> Option<[u64; 3]> {
+    let mut values = [0; 3];
+    let (mut records, mut out) = (input.records.borrow_mut(), input.out.borrow_mut());
+    let status = probe::header_records(&input.codestream, &mut records, &mut out, &mut values);
+    (status == 0).then_some(values)
+}
+
+fn theirs(input: &Input) -> Option<[u64; 3]> {
+    let told = original::markers::parse_main_header(&input.codestream).ok()?;
+    let entries = told.tlm_offset_table.map_or(0, |table| table.len());
+    Some([
+        told.first_sot_offset,
+        told.decode_header.len() as u64,
+        entries as u64,
+    ])
+}
+
+fn rows() {
+    let measure = |name, codestream| row(name, &Input::of(codestream), ours, theirs);
+    measure("sample A", sample_a());
+    measure("no TLM, SOT at 1 MB", padded(1 << 20));
+    measure("10 TLM of 100 entries", tlms::many(10, 100, 0x50));
+    measure("1,000 TLM of 10 entries", tlms::many(1000, 10, 0x60));
+    both("1 TLM of 10,000 entries", tlms::many(1, 10_000, 0x60));
+    measure("1 TLM of 32,765 entries", tlms::many(1, 32_765, 0x00));
+    both("100 TLM of 10,000 entries", tlms::many(100, 10_000, 0x60));
+    measure("no TLM, SOT at 4 MB", padded(1 << 22));
+}
+
+fn both(name: &str, codestream: Vec<u8>) {
+    let input = Input::of(codestream);
+    row(name, &input, ours, theirs);
+    row(&format!("{name}, records"), &input, recorded, theirs);
+}
+
+fn padded(first_sot: usize) -> Vec<u8> {
+    let mut built: Codestream = crate::sample::opened();
+    built.pad_to(first_sot).marker(SOT);
+    built.bytes
+}

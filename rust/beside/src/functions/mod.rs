@@ -1,0 +1,60 @@
+//! Each function that is run beside the original: a module, named once in each program's list.
+
+mod assembly;
+mod entries;
+mod extent;
+mod growth;
+mod header;
+mod part;
+mod pixel;
+mod records;
+mod rewrite;
+mod scan;
+mod search;
+mod siz;
+mod split;
+
+use crate::bench::Benchmark;
+use crate::cases::Kind;
+use crate::compare::Compared;
+
+pub const COMPARISONS: &[&dyn Compared] = &[
+    &extent::COMPARISON,
+    &header::COMPARISON,
+    &scan::COMPARISON,
+    &split::COMPARISON,
+    &rewrite::COMPARISON,
+    &assembly::COMPARISON,
+    &search::COMPARISON,
+    &siz::COMPARISON,
+    &pixel::COMPARISON,
+    &growth::COMPARISON,
+    &growth::STEP,
+];
+
+pub const BENCHMARKS: &[Benchmark] = &[
+    extent::BENCHMARK,
+    header::BENCHMARK,
+    scan::BENCHMARK,
+    split::BENCHMARK,
+    rewrite::BENCHMARK,
+    assembly::BENCHMARK,
+    search::BENCHMARK,
+    siz::BENCHMARK,
+    growth::BENCHMARK,
+];
+
+/// In the order of the replay list.
+pub const KINDS: &[Kind] = &[
+    extent::KIND,
+    header::KIND,
+    scan::KIND,
+    split::KIND,
+    rewrite::KIND,
+    assembly::KIND,
+    search::KIND,
+    siz::KIND,
+    growth::KIND,
+    header::RECORDS,
+    scan::RECORDS,
+];

@@ -1,0 +1,9 @@
+//! `rewrite_siz_for_tile`, ours beside the original's.
+
+mod cases;
+mod compare;
+mod rows;
+
+pub use cases::KIND;
+pub use compare::COMPARISON;
+pub use rows::BENCHMARK;

@@ -1,0 +1,101 @@
+//! The benchmark: few and many tile-parts, side by side and spread over a gigabyte, into rows of bytes
+//! and into records. A table that is lent is not cleared between calls; the original allocates its own
+//! and lets it grow, so ours is timed with a table allocated for each call too.
+
+use std::cell::RefCell;
+
+use original::markers;
+use probe::{host, TilePartEntry};
+
+use crate::bench::{row, Benchmark};
+use crate::model::ROW;
+use crate::sample::parts;
+use crate::sample::zeros::zeros;
+use crate::wanted;
+
+pub const BENCHMARK: Benchmark = Benchmark {
+    name: wanted::SCAN.name,
+    rows,
+};
+
+struct Input {
+    codestream: Vec<u8>,
+    parts: usize,
+    table: RefCell<Vec<u8>>,
+    records: RefCell<Vec<TilePartEntry>>,
+}
+
+impl Input {
+    fn scanned(&self, table: &mut [u8]) -> Option<u64> {
+        let mut entries = 0;
+        let status = host::scan_sot_markers(&self.codestream, 0, table, &mut entries);
+        (status == 0).then_some(entries)
+    }
+
+    fn recorded(&self, table: &mut [TilePartEntry]) -> Option<u64> {
+        let mut entries = 0;
+        let status = probe::scan_records(&self.codestream, 0, table, &mut entries);
+        (status == 0).then_some(entries)
+    }
+}
+
+type Way = fn(&Input) -> Option<u64>;
+
+const WAYS: [(&str, Way); 4] = [
+    ("table lent", |input| {
+        input.scanned(&mut input.table.borrow_mut())
+    }),
+    ("table allocated", |input| {
+        input.scanned(&mut vec![0; ROW * input.parts])
+    }),
+    ("records lent", |input| {
+        input.recorded(&mut input.records.borrow_mut())
+    }),
+    ("records allocated", |input| {
+        input.recorded(&mut vec![TilePartEntry::default(); input.parts])
+    }),
+];
+
+fn theirs(input: &Input) -> Option<u64> {
+    let told = markers::scan_sot_markers(&input.codestream, 0).ok()?;
+    Some(told.len() as u64)
+}
+
+fn rows() {
+    for count in [100, 65_535, 1_000_000] {
+        measure(count, "of 14 bytes", parts::many(count, 14));
+    }
+    for count in [100, 65_535, 1_000_000] {
+        if let Some(codestream) = spread(count, 1 << 30) {
+            measure(count, "over 1 GB", codestream);
+        }
+    }
+}
+
+fn measure(parts: usize, how: &str, codestream: Vec<u8>) {
+    let input = Input {
+        codestream,
+        parts,
+        table: vec![0; ROW * parts].into(),
+        records: vec![TilePartEntry::default(); parts].into(),
+    };
+    for (table, ours) in WAYS {
+        row(
+            &format!("{parts} parts {how}, {table}"),
+            &input,
+            ours,
+            theirs,
+        );
+    }
+}
+
+/// `count` parts of the same size in `length` bytes.
+fn spread(count: usize, length: usize) -> Option<Vec<u8>> {
+    let size = length / count;
+    let mut codestream = zeros(size * count)?;
+    for (isot, part) in codestream.chunks_mut(size).enumerate() {
+        let sot = parts::sot(isot as u16, size as u32);
+        part[..sot.len()].copy_from_slice(&sot);
+    }
+    Some(codestream)
+}

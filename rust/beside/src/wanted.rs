@@ -1,0 +1,155 @@
+//! What each function is called, the answers that it has to give, and how many of each have to come
+//! of the original itself where the function is compared: 0 where it is none for the original to give.
+
+use crate::model::ACCEPTED;
+use crate::tally::Answer;
+
+pub struct Wanted {
+    pub name: &'static str,
+    pub answers: &'static [Answer],
+}
+
+pub const COMPLETE: &str = "complete";
+pub const TRUNCATED: &str = "truncated";
+pub const EXTENT: Wanted = Wanted {
+    name: "main_header_extent",
+    answers: &[(COMPLETE, 90_000), (TRUNCATED, 20_000_000)],
+};
+
+/// Of a loan that is too long, which takes 4 GB.
+pub const TOO_LONG: &str = "refused 19";
+pub const HEADER: Wanted = Wanted {
+    name: "parse_main_header",
+    answers: &[
+        (ACCEPTED, 30_000),
+        ("refused 1", 100_000),
+        ("refused 2", 15_000),
+        ("refused 3", 200_000),
+        ("refused 4", 15_000),
+        ("refused 5", 35_000),
+        ("refused 6", 8_000),
+        ("refused 17", 0),
+        ("refused 18", 0),
+        (TOO_LONG, 0),
+    ],
+};
+pub const HEADER_RECORDS: Wanted = Wanted {
+    name: "header_records",
+    ..HEADER
+};
+
+pub const SCAN: Wanted = Wanted {
+    name: "scan_sot_markers",
+    answers: &[
+        (ACCEPTED, 250_000),
+        ("refused 7", 100_000),
+        ("refused 8", 40_000),
+        ("refused 9", 40_000),
+        ("refused 18", 0),
+    ],
+};
+pub const SCAN_RECORDS: Wanted = Wanted {
+    name: "scan_records",
+    ..SCAN
+};
+
+pub const COUNT: &str = "count";
+pub const SPLIT_COUNT: Wanted = Wanted {
+    name: "split_count",
+    answers: &[(COUNT, 70_000)],
+};
+pub const SPLIT_PART: Wanted = Wanted {
+    name: "split_part",
+    answers: &[(ACCEPTED, 300_000), ("refused 17", 0)],
+};
+/// The count, and each part by its number.
+pub const SPLIT: Wanted = Wanted {
+    name: "split_tile_parts",
+    answers: &[
+        SPLIT_COUNT.answers[0],
+        SPLIT_PART.answers[0],
+        SPLIT_PART.answers[1],
+    ],
+};
+
+pub const SPLIT_AT: Wanted = Wanted {
+    name: "split_at",
+    answers: &[(ACCEPTED, 600_000), ("refused 17", 0)],
+};
+/// Of the calls from part to part.
+pub const WALK: &str = "walk";
+/// The walk, and each part by its position.
+pub const SPLIT_BY_POSITION: Wanted = Wanted {
+    name: SPLIT_AT.name,
+    answers: &[(WALK, 70_000), SPLIT_AT.answers[0], SPLIT_AT.answers[1]],
+};
+
+pub const REWRITE: Wanted = Wanted {
+    name: "rewrite_siz_for_tile",
+    answers: &[(ACCEPTED, 150_000), ("refused 10", 0), ("refused 17", 0)],
+};
+
+pub const ASSEMBLY: Wanted = Wanted {
+    name: "build_minimal_codestream",
+    answers: &[(ACCEPTED, 100_000), ("refused 10", 0), ("refused 17", 0)],
+};
+pub const FROM_PARTS: Wanted = Wanted {
+    name: "build_minimal_codestream_from_parts",
+    answers: &[(ACCEPTED, 200_000), ("refused 10", 0)],
+};
+
+pub const SEARCH: Wanted = Wanted {
+    name: "find_codestream",
+    answers: &[
+        (ACCEPTED, 90_000),
+        ("refused 11", 6_000),
+        ("refused 12", 100_000),
+        ("refused 13", 4_000),
+        ("refused 14", 200_000),
+        ("refused 15", 0),
+        ("refused 16", 0),
+    ],
+};
+
+/// The codestream's bytes; none where the search refuses.
+pub const CODESTREAM: Wanted = Wanted {
+    name: "codestream_of",
+    answers: &[("codestream", 60_000), ("none", 300_000), ("refused 17", 0)],
+};
+
+pub fn codestream(found: bool) -> &'static str {
+    CODESTREAM.answers[usize::from(!found)].0
+}
+
+pub const SIZ: Wanted = Wanted {
+    name: "parse_siz_marker",
+    answers: &[
+        (ACCEPTED, 30_000),
+        ("refused 20", 1_000),
+        ("refused 21", 30_000),
+        ("refused 22", 0),
+    ],
+};
+
+pub const PIXEL_TYPE: Wanted = Wanted {
+    name: "pixel_type_from_siz",
+    answers: &[("unsigned", 256), ("signed", 256)],
+};
+
+pub fn pixel_type(signed: bool) -> &'static str {
+    PIXEL_TYPE.answers[usize::from(signed)].0
+}
+
+pub const GROWTH: Wanted = Wanted {
+    name: "grow_header_region",
+    answers: &[(ACCEPTED, 1_000_000)],
+};
+
+pub const NEXT_REGION: Wanted = Wanted {
+    name: "next_region",
+    answers: &[("doubled", 150_000), ("capped", 300_000)],
+};
+
+pub fn next_region(capped: bool) -> &'static str {
+    NEXT_REGION.answers[usize::from(capped)].0
+}

@@ -1,0 +1,110 @@
+//! "Header walk", "TLM", "Decode header"; and the same with records.
+
+use beside::model::rows;
+use beside::sample::codestream::{Codestream, Tlm, SOT, TLM};
+use beside::sample::{opened, sample_a};
+use probe::{host, TilePartEntry};
+
+/// Status, numbers, table, output; 20 rows and 200 bytes are lent.
+fn parsed(codestream: &[u8]) -> (u32, [u64; 3], Vec<u8>, Vec<u8>) {
+    let (mut table, mut out) = (vec![0xEE; 360], vec![0xEE; 200]);
+    let mut values = [7; 3];
+    let status = host::parse_main_header(codestream, &mut table, &mut out, &mut values);
+    (status, values, table, out)
+}
+
+fn entries(built: &mut Codestream) -> Vec<u8> {
+    built.marker(SOT);
+    let (status, [_, _, entries], mut table, _) = parsed(&built.bytes);
+    assert_eq!(status, 0);
+    table.truncate(18 * entries as usize);
+    table
+}
+
+fn refused(codestream: &[u8]) -> (u32, u64) {
+    let (status, [place, second, third], table, out) = parsed(codestream);
+    assert_eq!([second, third], [7, 7]);
+    assert!(table.into_iter().chain(out).all(|byte| byte == 0xEE));
+    (status, place)
+}
+
+#[test]
+fn sample_a_is_as_listed() {
+    let sample = sample_a();
+    let (status, values, table, out) = parsed(&sample);
+    assert_eq!((status, values), (0, [57, 45, 2]));
+    assert_eq!(table[..36], rows(&[(0, 57, 14), (5, 71, 16)]));
+    assert_eq!(out[..45], sample[..45]);
+    assert!(table[36..]
+        .iter()
+        .chain(&out[45..])
+        .all(|&byte| byte == 0xEE));
+}
+
+#[test]
+fn ltlm_below_4_is_refused() {
+    assert_eq!(refused(&opened().segment(TLM, &[0]).bytes), (4, 6));
+    assert_eq!(entries(opened().segment(TLM, &[0, 0])), []);
+}
+
+#[test]
+fn an_entry_must_be_whole() {
+    assert_eq!(entries(opened().segment(TLM, &[0, 0x10, 5, 0])), []);
+    let one = entries(opened().segment(TLM, &[0, 0x10, 5, 0, 16]));
+    assert_eq!(one, rows(&[(5, 15, 16)]));
+}
+
+#[test]
+fn each_segment_numbers_from_0() {
+    let tlm = Tlm {
+        ztlm: 0,
+        stlm: 0x00,
+        entries: vec![(0, 20), (0, 30)],
+    };
+    let four = entries(opened().tlm(&tlm).tlm(&tlm));
+    let expected = [(0, 26, 20), (1, 46, 30), (0, 76, 20), (1, 96, 30)];
+    assert_eq!(four, rows(&expected));
+}
+
+#[test]
+fn where_the_walk_stops() {
+    assert_eq!(refused(&[]), (1, 0));
+    assert_eq!(refused(&[0xFF, 0x4F]), (2, 2));
+    assert_eq!(refused(&opened().bytes), (6, 6));
+    assert_eq!(refused(&opened().raw(&[0xFF]).bytes), (6, 7));
+    assert_eq!(refused(&opened().raw(&[0xFF, 0x64]).bytes), (3, 6));
+    assert_eq!(refused(&opened().segment(TLM, &[0, 0x30]).bytes), (5, 6));
+}
+
+#[test]
+fn too_little_room() {
+    let sample = sample_a();
+    for (rows, size, expected) in [(2, 45, 0), (2, 44, 17), (1, 45, 18), (1, 44, 18)] {
+        let (mut table, mut out) = (vec![0xEE; 18 * rows], vec![0xEE; size]);
+        let mut values = [7; 3];
+        let status = host::parse_main_header(&sample, &mut table, &mut out, &mut values);
+        assert_eq!(status, expected);
+        match expected {
+            17 => assert_eq!(values[0], 45),
+            18 => assert_eq!(values[0], 2),
+            _ => {}
+        }
+    }
+}
+
+#[test]
+fn sample_a_s_entries_as_records() {
+    let sample = sample_a();
+    let record = TilePartEntry::new;
+    let untouched = record(9, 9, 9);
+    let (mut table, mut out, mut values) = ([untouched; 3], [0xEE; 45], [7; 3]);
+    let status = probe::header_records(&sample, &mut table, &mut out, &mut values);
+    assert_eq!((status, values), (0, [57, 45, 2]));
+    assert_eq!(table, [record(0, 57, 14), record(5, 71, 16), untouched]);
+    assert_eq!(out, sample[..45]);
+
+    let (mut table, mut out, mut values) = ([untouched; 1], [0xEE; 45], [7; 3]);
+    let status = probe::header_records(&sample, &mut table, &mut out, &mut values);
+    assert_eq!((status, values), (18, [2, 7, 7]));
+    assert_eq!((table, out), ([untouched; 1], [0xEE; 45]));
+}
