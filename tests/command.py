@@ -17,6 +17,7 @@ from pathlib import Path
 from typing import NamedTuple
 
 from listing import EOC, ROOT, SIGNATURE, SOC, codestream, part, rows, segment, siz
+from refusals import RULES, refusals
 
 READERS = ["codestream", "parts", "places"]
 OUT = "out.j2k"
@@ -66,6 +67,16 @@ def lines(numbers):
 
 def trouble(file, what):
     return f"winterhasp: {file}: {what}\n"
+
+
+WORDS = {refusal.number: refusal for refusal in refusals((ROOT / RULES).read_text())[0]}
+
+
+def sentence(number, place):
+    """A refusal in words."""
+    words = WORDS[number]
+    where = f": {place} are needed" if words.origin == "needed" else f", at byte {place} of the {words.origin}"
+    return f"{words.wrong}{where} (refusal {number})"
 
 
 # Sample A: tiles of 4 by 4, and of tile 5 the image has 2 by 2
@@ -190,15 +201,15 @@ def accepted():
 def refused():
     for command in [*READERS, "tile"]:
         for file, (number, place) in REFUSED.items():
-            yield Case(asked(command, file), 2, error=trouble(file, f"refused {number} {place}"))
+            yield Case(asked(command, file), 2, error=trouble(file, sentence(number, place)))
     for command in "parts", "places", "tile":
         for file in "soc", "soc.jp2", "header.j2k":
             yield Case(asked(command, file), 2, error=trouble(file, NO_SOT))
         for file, (number, place) in PARTS_REFUSED.items():
-            yield Case(asked(command, file), 2, error=trouble(file, f"refused {number} {place}"))
+            yield Case(asked(command, file), 2, error=trouble(file, sentence(number, place)))
     for file, (tile, first, number, place) in TILE_REFUSED.items():
         yield Case(["parts", file], out=lines([(tile, first, 14)]))
-        yield Case(asked("tile", file, str(tile)), 2, error=trouble(file, f"refused {number} {place}"))
+        yield Case(asked("tile", file, str(tile)), 2, error=trouble(file, sentence(number, place)))
     for file in "a.j2k", "a.jp2":
         for index in "1", "6", "65535":
             yield Case(asked("tile", file, index), 2, error=trouble(file, f"no part of tile {index}"))

@@ -12,31 +12,35 @@ import sys
 from pathlib import Path
 from typing import NamedTuple
 
+from verdict import verdict
+
 ROOT = Path(__file__).resolve().parent.parent
-NUMBERS = range(1, 24)
 # the listing program's own: no comparison meets it, and tests/listing.py has to
 LISTING = 23
+# no refusal's
+UNUSED = 1000
 
 RULES = "docs/RULES.md"
 README = "README.md"
 HEADER = "include/winterhasp.h"
 CRATE = "rust/winterhasp/src/refusal.rs"
 MODEL = "rust/beside/src/model/mod.rs"
-RUNS = ["rust/beside/src/*/compare.rs", "rust/beside/src/bin/guarded/functions.rs"]
+RUNS = ["rust/beside/src/wanted.rs"]
 LISTED = "tests/listing.py"
 CODE = ["crates/*/src/*.rt"]
 
 RULES_HEAD = "| number | name | given exactly when | place | counts from | what is wrong | what to do |"
 README_HEAD = "| number | what is wrong | place | what to do |"
-ORIGINS = ["file", "codestream", "header", "needed"]
+ORIGINS = ["file", "codestream", "needed"]
 
 STRING = r'"((?:[^"\\]|\\.)*)"'
 DEFINE = re.compile(r"^[ \t]*#[ \t]*define[ \t]+WINTERHASP_(\w+)[ \t]+\(?(\d+)[uUlL]*\)?[ \t]*(?:/\*\s*(.*?)\s*\*/)?[ \t]*$", re.M)
 WORDS = re.compile(
-    rf"Words\s*\{{\s*name:\s*{STRING},\s*wrong:\s*{STRING},\s*origin:\s*Origin::(\w+),\s*remedy:\s*{STRING},?\s*\}}", re.S
+    rf"Words\s*\{{\s*number:\s*(\d+),\s*name:\s*{STRING},\s*wrong:\s*{STRING},\s*origin:\s*Origin::(\w+),\s*remedy:\s*{STRING},?\s*\}}", re.S
 )
-TEXTS = re.compile(r"\bREFUSALS:\s*\[Words;\s*(\d+)\]\s*=\s*\[(.*?)\n?\s*\];", re.S)
+TEXTS = re.compile(r"\bREFUSALS:\s*&\[Words\]\s*=\s*&\[(.*?)\n?\s*\];", re.S)
 LABEL = re.compile(r'"refused (\d+)"')
+LABELS = re.compile(r"\blabels!\[([\d\s]*)\]")
 LISTS = re.compile(r"\brefused\(.*?, (\d+), ")
 GIVEN = re.compile(r"\bRefusal\s*\{\s*number:\s*(\d+)|\brefuse\(\s*(\d+),")
 RETURNED = re.compile(r"\breturn (\d+);")
@@ -80,8 +84,9 @@ def refusals(text):
     if said:
         return [], said
     known = [Refusal(int(row[0]), *row[1:]) for row in rows]
-    if [refusal.number for refusal in known] != list(NUMBERS):
-        said.append(f"{RULES}: not one row for each of {NUMBERS[0]} to {NUMBERS[-1]}, in order, below {RULES_HEAD}")
+    numbers = [refusal.number for refusal in known]
+    if numbers != sorted(set(numbers)) or numbers[:1] != [1]:
+        said.append(f"{RULES}: no rows from 1 on, each number once and in order, below {RULES_HEAD}")
     if len({refusal.name for refusal in known}) != len(known):
         said.append(f"{RULES}: a name stands twice")
     for refusal in known:
@@ -149,17 +154,16 @@ def in_crate(known, text):
     found = TEXTS.search(text)
     if not found:
         return [f"{CRATE}: no REFUSALS"]
-    entries = WORDS.findall(found[2])
+    entries = WORDS.findall(found[1])
     said = []
-    if not len(entries) == len(re.findall(r"\bWords\b", found[2])) == int(found[1]):
-        said.append(f"{CRATE}: {len(entries)} entries are read of {found[1]}")
-    saw = {}
-    for number, (name, wrong, origin, remedy) in enumerate(entries, start=NUMBERS[0]):
-        saw[number] = [unquoted(name), unquoted(wrong), origin, unquoted(remedy)]
+    if len(entries) != len(re.findall(r"\bWords\b", found[1])):
+        said.append(f"{CRATE}: only {len(entries)} entries are read")
+    rows = ((int(number), unquoted(name), unquoted(wrong), origin, unquoted(remedy)) for number, name, wrong, origin, remedy in entries)
+    saw, twice = by_number(CRATE, rows)
     wanted = {
         refusal.number: [refusal.name, refusal.wrong, refusal.origin.capitalize(), refusal.remedy] for refusal in known
     }
-    return said + differ(CRATE, saw, wanted)
+    return said + twice + differ(CRATE, saw, wanted)
 
 
 def numbers(pattern, text):
@@ -180,9 +184,10 @@ def unnamed(where, named, wanted):
 
 
 def in_model(known, text):
-    """The labels that the comparisons count under, where they are spelled out."""
-    named = numbers(LABEL, text)
-    return unknown(MODEL, named, known) + (unnamed(MODEL, named, of(known)) if named else [])
+    """The labels that the comparisons count under."""
+    found = LABELS.search(text)
+    named = {int(number) for number in found[1].split()} if found else set()
+    return unknown(MODEL, named, known) + unnamed(MODEL, named, of(known))
 
 
 def in_comparisons(known, text):
@@ -231,7 +236,7 @@ def read(patterns):
 def changed(refusal, field):
     """The same with another cell."""
     if field == "number":
-        return refusal._replace(number=NUMBERS[-1] + 1)
+        return refusal._replace(number=UNUSED)
     if field == "origin":
         return refusal._replace(origin=ORIGINS[ORIGINS.index(refusal.origin) - 1])
     return refusal._replace(**{field: f"{getattr(refusal, field)}s"})
@@ -241,8 +246,6 @@ def blind(held, known, text):
     """Each change that a check does not see, where it has no fault yet: another cell in the table, a number that leaves
     the text, or one that comes to it."""
     name = held.check.__name__
-    if held.check is in_model and not LABEL.search(text):
-        return
     for at, refusal in enumerate(known):
         if held.check is in_listing and refusal.number != LISTING:
             continue
@@ -251,11 +254,10 @@ def blind(held, known, text):
                 yield f"{name} does not see that {field} of {refusal.number} changes"
         if held.check is in_comparisons and refusal.number == LISTING:
             continue
-        # the crate's numbers are the places of its entries
-        word = refusal.name if held.check is in_crate else refusal.number
-        for other in "", NUMBERS[-1] + 1:
-            if not held.check(known, re.sub(rf"\b{word}\b", str(other), text)):
-                yield f"{name} does not see that {word} becomes {other or 'nothing'} in the text"
+        number = refusal.number
+        for other in "", UNUSED:
+            if not held.check(known, re.sub(rf"\b{number}\b", str(other), text)):
+                yield f"{name} does not see that {number} becomes {other or 'nothing'} in the text"
 
 
 def main():
@@ -267,11 +269,7 @@ def main():
     # a check that can't fail is worth nothing
     if not said:
         said = [line for held, text in texts for line in blind(held, known, text)]
-    for line in said:
-        print(f"refusals: {line}")
-    if not said:
-        print(f"refusals: {len(known)} numbers, the same in the rules, README, C header, crate, comparisons and code")
-    return 1 if said else 0
+    return verdict("refusals", said, f"{len(known)} numbers, the same in the rules, README, C header, crate, comparisons and code")
 
 
 if __name__ == "__main__":

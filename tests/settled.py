@@ -10,6 +10,8 @@ import re
 import sys
 from pathlib import Path
 
+from verdict import verdict
+
 ROOT = Path(__file__).resolve().parent.parent
 SETTLED = ROOT / "crates/laws/proofs/Settled.antt"
 
@@ -65,11 +67,7 @@ def main():
         for changed in (whole, mixed) if part else (whole, mixed, less):
             if not said and len(faults(points, changed)) != 1:
                 said.append(f"{path}: this check does not see its theorem change")
-    for line in said:
-        print(f"settled: {line}")
-    if not said:
-        print(f"settled: {len(points)} entry points, a theorem for each")
-    return 1 if said else 0
+    return verdict("settled", said, f"{len(points)} entry points, a theorem for each")
 
 
 if __name__ == "__main__":
