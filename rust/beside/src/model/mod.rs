@@ -15,9 +15,10 @@ pub struct Refusal {
 pub const ACCEPTED: &str = "accepted";
 
 macro_rules! labels {
-    ($($number:literal)*) => { &[$(($number, concat!("refused ", $number))),*] };
+    ($($number:literal)*) => { &[(0, ACCEPTED), $(($number, concat!("refused ", $number))),*] };
 }
 
+/// By number; 0 is none.
 const LABELS: &[(u32, &str)] = labels![1 2 3 4 5 6 7 8 9 10 11 12 13 14 15 16 17 18 19 20 21 22 23];
 
 impl Refusal {
@@ -92,11 +93,12 @@ pub fn read(bytes: &[u8], at: u64, size: usize) -> Option<u64> {
 
 #[cfg(test)]
 mod tests {
-    use super::{Refusal, LABELS};
+    use super::{Refusal, ACCEPTED, LABELS};
 
     #[test]
     fn a_label_says_its_number() {
-        for (number, _) in LABELS {
+        assert_eq!(Refusal::new(0, 0).label(), ACCEPTED);
+        for (number, _) in &LABELS[1..] {
             let label = Refusal::new(*number, 0).label();
             assert_eq!(label, format!("refused {number}"));
         }
