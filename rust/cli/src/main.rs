@@ -1,51 +1,69 @@
-//! The command line: asks the proved functions about a file.
+//! The command `winterhasp`: asks the proved functions about files.
 
-#![forbid(unsafe_code)]
+#![deny(unsafe_code)]
 
-mod commands;
+mod arguments;
+mod contents;
+mod files;
+mod list;
+#[allow(unsafe_code)]
+mod mapped;
+mod names;
+mod output;
+mod picture;
+mod show;
+mod siz;
+mod stages;
+mod svg;
+mod tile;
+mod tiles;
+mod trouble;
 
-use std::env;
-use std::ffi::OsString;
-use std::io::{self, ErrorKind, Write};
 use std::process::ExitCode;
 
-use commands::COMMANDS;
+use clap::{CommandFactory, Parser};
 
-const TROUBLE: u8 = 2;
+use arguments::{Arguments, Command, Completions};
+use output::{not_printed, print, tell};
+use trouble::{Status, Trouble};
 
 fn main() -> ExitCode {
-    let arguments: Vec<OsString> = env::args_os().skip(1).collect();
-    match answer(&arguments).and_then(|text| print(&text)) {
-        Ok(()) => ExitCode::SUCCESS,
-        Err(trouble) => {
-            // Nobody is left to tell if standard error is closed too.
-            let _ = writeln!(io::stderr(), "{trouble}");
-            ExitCode::from(TROUBLE)
-        }
+    let run = match Arguments::try_parse() {
+        Ok(arguments) => run(&arguments.command),
+        Err(words) => answer(&words),
+    };
+    run.unwrap_or_else(|trouble| {
+        trouble.sentence().into_iter().for_each(tell);
+        trouble.status()
+    })
+    .into()
+}
+
+fn run(command: &Command) -> Result<Status, Trouble> {
+    match command {
+        Command::List(arguments) => list::list(arguments),
+        Command::Show(arguments) => show::show(arguments),
+        Command::Tile(arguments) => tile::tile(arguments),
+        Command::Grid(arguments) => picture::grid(arguments),
+        Command::Completions(arguments) => completions(arguments),
     }
 }
 
-fn answer(arguments: &[OsString]) -> Result<String, String> {
-    let (name, rest) = arguments.split_first().ok_or_else(usage)?;
-    let known = COMMANDS.iter().find(|command| name == command.name);
-    let command = known.ok_or_else(usage)?;
-    (command.run)(rest).unwrap_or_else(|| Err(usage()))
-}
-
-fn usage() -> String {
-    let lines = COMMANDS
-        .iter()
-        .map(|command| format!("winterhasp {} {}", command.name, command.words));
-    format!("usage: {}", lines.collect::<Vec<_>>().join("\n       "))
-}
-
-/// A reader that has gone away is no trouble of ours.
-fn print(text: &str) -> Result<(), String> {
-    let mut out = io::stdout().lock();
-    match out.write_all(text.as_bytes()).and_then(|()| out.flush()) {
-        Err(error) if error.kind() != ErrorKind::BrokenPipe => {
-            Err(format!("winterhasp: standard output: {error}"))
-        }
-        _ => Ok(()),
+/// To wrong words, and to those that ask for help.
+fn answer(words: &clap::Error) -> Result<Status, Trouble> {
+    let printed = words.print();
+    if words.use_stderr() {
+        return Ok(Status::Failed);
     }
+    printed.map_err(not_printed)?;
+    Ok(Status::Accepted)
+}
+
+/// Made whole first: what makes them takes no failure of whom it writes to.
+fn completions(arguments: &Completions) -> Result<Status, Trouble> {
+    let mut script = Vec::new();
+    let mut command = Arguments::command();
+    clap_complete::generate(arguments.shell, &mut command, "winterhasp", &mut script);
+    print(&script)?;
+    Ok(Status::Accepted)
 }

@@ -1,0 +1,137 @@
+//! The words of the command line.
+
+use std::path::PathBuf;
+
+use clap::{value_parser, Args, Parser, Subcommand};
+use clap_complete::Shell;
+
+const EXAMPLES: &str = "\
+Examples:
+  winterhasp list flights/            every file of a folder: tile-parts, or what is wrong
+  winterhasp show flight.jp2          what one file holds, and what is missing
+  winterhasp tile flight.jp2 5        tile 5 alone, as flight.tile5.j2k
+  winterhasp grid flight.jp2 -o flight.svg    the tiles as a picture
+
+Status: 0 all accepted, 1 some file refused, 2 wrong words or a file that can't be read or written.";
+
+const LIST: &str = "\
+Examples:
+  winterhasp list flight.jp2
+  winterhasp list flights/ > listing.txt      the troubles stay on the terminal
+  winterhasp list --json -j 8 flights/*.jp2
+
+Lines:
+  file NAME                       before each file, where there may be several
+  codestream OFFSET LENGTH        where it stands in the file
+  header FIRST-TILE-PART LENGTH   the length is that of the header to decode with
+  tlm TILE OFFSET LENGTH          a tile-part by the header's own table
+  part TILE OFFSET LENGTH         a tile-part that stands there
+  end | refused NUMBER PLACE | unread      the last; standard error has the words
+Offsets behind `codestream` count from the codestream's start.";
+
+const SHOW: &str = "\
+Examples:
+  winterhasp show flight.jp2
+  winterhasp show --json flight.jp2";
+
+const TILE: &str = "\
+Examples:
+  winterhasp tile flight.jp2 5                writes flight.tile5.j2k
+  winterhasp tile flight.jp2 5 -o five.j2k
+  winterhasp tile flight.jp2 5 -o - | opj_decompress ..
+
+OUT is written beside and renamed when it is whole; it is never the file that is read.";
+
+const GRID: &str = "\
+Examples:
+  winterhasp grid flight.jp2 -o flight.svg
+
+Each cell is a tile, darker the more bytes it has, with its number of tile-parts; a hatched one has none.";
+
+const COMPLETIONS: &str = "\
+Examples:
+  winterhasp completions bash > ~/.local/share/bash-completion/completions/winterhasp";
+
+/// Lists, shows and cuts the tile-parts of JPEG 2000 files: JP2 and bare codestreams of any size
+#[derive(Parser)]
+#[command(name = "winterhasp", version, after_help = EXAMPLES)]
+pub struct Arguments {
+    #[command(subcommand)]
+    pub command: Command,
+}
+
+#[derive(Subcommand)]
+pub enum Command {
+    /// List the tile-parts of files and folders
+    #[command(after_help = LIST)]
+    List(List),
+    /// Show what one file holds: image, tiles, what is missing, where its tile-parts end
+    #[command(after_help = SHOW)]
+    Show(Show),
+    /// Cut out one tile as a codestream
+    #[command(after_help = TILE)]
+    Tile(Tile),
+    /// Draw the tiles as a picture (SVG)
+    #[command(after_help = GRID)]
+    Grid(Grid),
+    /// Print the completions for a shell
+    #[command(after_help = COMPLETIONS)]
+    Completions(Completions),
+}
+
+#[derive(Args)]
+pub struct List {
+    /// Files, and folders with all that is below them
+    #[arg(value_name = "PATH", required = true)]
+    pub paths: Vec<PathBuf>,
+    /// One JSON object a line for each file
+    #[arg(long)]
+    pub json: bool,
+    /// So many files side by side, 1 to 64; else as many as there are processors
+    #[arg(short, long, value_name = "N", value_parser = value_parser!(u16).range(1..=64))]
+    pub jobs: Option<u16>,
+}
+
+#[derive(Args)]
+pub struct Show {
+    /// A JP2 or a bare codestream
+    pub file: PathBuf,
+    /// One JSON object
+    #[arg(long)]
+    pub json: bool,
+}
+
+#[derive(Args)]
+pub struct Tile {
+    /// A JP2 or a bare codestream
+    pub file: PathBuf,
+    /// The tile's, from 0 to 65535
+    #[arg(value_parser = index)]
+    pub index: u16,
+    /// Where it goes, or - for standard output [default: FILE's name with .tileINDEX.j2k, in the
+    /// current folder]
+    #[arg(short, long, value_name = "OUT")]
+    pub out: Option<PathBuf>,
+}
+
+#[derive(Args)]
+pub struct Grid {
+    /// A JP2 or a bare codestream
+    pub file: PathBuf,
+    /// Where the picture goes, or - for standard output
+    #[arg(short, long, value_name = "OUT.svg")]
+    pub out: PathBuf,
+}
+
+#[derive(Args)]
+pub struct Completions {
+    /// The shell's name
+    pub shell: Shell,
+}
+
+/// Plain digits, with no sign.
+fn index(word: &str) -> Result<u16, String> {
+    let digits = word.bytes().all(|byte| byte.is_ascii_digit());
+    let number = word.parse().ok().filter(|_| digits);
+    number.ok_or_else(|| "a number from 0 to 65535 is needed, in plain digits".to_string())
+}

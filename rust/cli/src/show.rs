@@ -1,0 +1,513 @@
+//! `winterhasp show`: what a person asks first of a file, in words or as JSON.
+
+use std::fmt::Write;
+use std::ops::RangeInclusive;
+use std::path::Path;
+
+use serde::Serialize;
+use winterhasp::{parse_siz_marker, Codestream, CodestreamOffset, FileOffset, Refusal, TilePart};
+
+use crate::arguments;
+use crate::contents::Contents;
+use crate::names::shown;
+use crate::output::{print, tell};
+use crate::siz::{Component, Grid, Pair, Siz};
+use crate::stages::{parts_without_tlm, End, Stages, Stopped};
+use crate::tiles::{ranges_text, Tiles};
+use crate::trouble::{about, sentence, Refused, Status, Trouble};
+
+pub fn show(arguments: &arguments::Show) -> Result<Status, Trouble> {
+    let path = &arguments.file;
+    let contents = Contents::open(path)?;
+    let (report, refusal) = Report::of(path, contents.bytes());
+    contents.unchanged(path)?;
+    let text = if arguments.json {
+        report.json()?
+    } else {
+        report.text()
+    };
+    print(text.as_bytes())?;
+    let Some(refusal) = refusal else {
+        return Ok(Status::Accepted);
+    };
+    let start = report.codestream.map(|place| FileOffset(place.start));
+    tell(&about(path, sentence(refusal, start)));
+    Ok(Status::Refused)
+}
+
+/// What is known of a file; of one that is refused, up to there.
+#[derive(Serialize)]
+struct Report {
+    file: String,
+    bytes: u64,
+    status: &'static str,
+    container: Option<&'static str>,
+    codestream: Option<Place>,
+    image: Option<Box>,
+    tile: Option<Box>,
+    grid: Option<GridReport>,
+    components: Option<Components>,
+    header: Option<Header>,
+    tile_parts: Option<TileParts>,
+    tiles: Option<TilesReport>,
+    scan_ended: Option<Ended>,
+    refused: Option<Refused>,
+}
+
+#[derive(Serialize, Clone, Copy)]
+struct Place {
+    start: u64,
+    length: u64,
+}
+
+#[derive(Serialize)]
+struct Box {
+    width: u64,
+    height: u64,
+    x_origin: u64,
+    y_origin: u64,
+}
+
+#[derive(Serialize)]
+struct GridReport {
+    columns: u64,
+    rows: u64,
+    tiles: u64,
+}
+
+#[derive(Serialize)]
+struct Components {
+    count: u16,
+    described: Vec<ComponentReport>,
+}
+
+#[derive(Serialize, Clone, Copy, PartialEq)]
+struct ComponentReport {
+    bits: u8,
+    signed: bool,
+    dx: u8,
+    dy: u8,
+}
+
+#[derive(Serialize)]
+struct Header {
+    length: u64,
+    /// Without TLM.
+    decode_length: u64,
+    /// None: there is no table.
+    tlm_entries: Option<u64>,
+}
+
+#[derive(Serialize)]
+struct TileParts {
+    count: u64,
+    bytes: u64,
+    first: Offsets,
+}
+
+/// One place, counted from the start of the codestream and of the file.
+#[derive(Serialize, Clone, Copy)]
+struct Offsets {
+    offset: u64,
+    file_offset: Option<u64>,
+}
+
+#[derive(Serialize)]
+struct TilesReport {
+    present: u64,
+    missing: u64,
+    /// First and last of each range; none where there are more tiles than an index can name.
+    missing_ranges: Option<Vec<[usize; 2]>>,
+    outside_ranges: Vec<[usize; 2]>,
+}
+
+#[derive(Serialize)]
+struct Ended {
+    at: &'static str,
+    #[serde(flatten)]
+    place: Offsets,
+    /// What stands there, where it is neither EOC nor a tile-part.
+    bytes: Option<String>,
+    unread: u64,
+}
+
+impl Report {
+    fn of(path: &Path, file: &[u8]) -> (Self, Option<Refusal>) {
+        let stages = Stages::of(file);
+        let (siz, siz_refused) = siz_of(&stages);
+        let refusal = stages.refused.or(siz_refused);
+        let mut report = Report {
+            file: shown(path),
+            bytes: file.len() as u64,
+            status: match refusal {
+                None => "accepted",
+                Some(_) => "refused",
+            },
+            refused: refusal.map(|refusal| Refused::new(refusal, stages.start())),
+            container: stages.codestream.map(container),
+            codestream: stages.codestream.map(place),
+            header: stages.header.as_ref().map(|header| Header {
+                length: header.first_sot.0,
+                decode_length: header.decode_header.len() as u64,
+                tlm_entries: header.tlm.as_ref().map(|entries| entries.len() as u64),
+            }),
+            image: None,
+            tile: None,
+            grid: None,
+            components: None,
+            tile_parts: None,
+            tiles: None,
+            scan_ended: None,
+        };
+        if let Some(siz) = &siz {
+            report.add_siz(siz);
+        }
+        if let Some(codestream) = stages.codestream {
+            let parts = stages
+                .parts
+                .or_else(|| parts_of_refused(refusal, codestream));
+            let grid = siz.as_ref().and_then(Siz::grid);
+            report.add_parts(codestream, parts.as_deref().unwrap_or_default(), grid);
+        }
+        (report, refusal)
+    }
+
+    fn add_siz(&mut self, siz: &Siz) {
+        self.image = siz.image().map(|size| Box::of(size, siz.origin));
+        self.tile = Some(Box::of(siz.tile, siz.tile_origin));
+        self.grid = siz.grid().map(|grid| GridReport {
+            columns: grid.columns,
+            rows: grid.rows,
+            tiles: grid.tiles(),
+        });
+        self.components = Some(Components {
+            count: siz.count,
+            described: siz.components.iter().map(ComponentReport::of).collect(),
+        });
+    }
+
+    fn add_parts(&mut self, codestream: Codestream, parts: &[TilePart], grid: Option<Grid>) {
+        let Some(first) = parts.first() else {
+            return;
+        };
+        self.tile_parts = Some(TileParts {
+            count: parts.len() as u64,
+            bytes: parts.iter().map(|part| part.length).sum(),
+            first: Offsets::of(first.offset, codestream.start),
+        });
+        let end = End::of(codestream.bytes, parts);
+        self.scan_ended = end.map(|end| Ended::of(end, codestream.start));
+        self.tiles = grid.map(|grid| TilesReport::of(&Tiles::of(parts), grid));
+    }
+
+    fn json(&self) -> Result<String, Trouble> {
+        let json = serde_json::to_string(self);
+        let json = json.map_err(|error| Trouble::Failed(format!("winterhasp: {error}")))?;
+        Ok(json + "\n")
+    }
+
+    fn text(&self) -> String {
+        let lines = [
+            ("file", Some(format!("{}, {} bytes", self.file, self.bytes))),
+            ("container", self.container_text()),
+            ("image", self.image.as_ref().map(Box::text)),
+            ("tiles", self.tiles_text()),
+            ("components", self.components.as_ref().map(Components::text)),
+            ("header", self.header.as_ref().map(Header::text)),
+            ("tlm", self.header.as_ref().map(Header::tlm_text)),
+            ("tile-parts", self.tile_parts.as_ref().map(TileParts::text)),
+            ("present", self.present_text()),
+            (
+                "missing",
+                self.tiles.as_ref().map(TilesReport::missing_text),
+            ),
+            (
+                "outside",
+                self.tiles.as_ref().and_then(TilesReport::outside_text),
+            ),
+            ("scan ended", self.scan_ended.as_ref().map(Ended::text)),
+            ("refused", self.refused.as_ref().map(refused_text)),
+        ];
+        let mut text = String::new();
+        for (label, line) in lines {
+            if let Some(line) = line {
+                // A string takes all that is written to it.
+                let _ = writeln!(text, "{label:<12}{line}");
+            }
+        }
+        text
+    }
+
+    fn container_text(&self) -> Option<String> {
+        let Place { start, length } = self.codestream?;
+        Some(match self.container? {
+            JP2 => {
+                format!("JP2, with a codestream of {length} bytes from byte {start} of the file on")
+            }
+            _ => format!("none: a bare codestream of {length} bytes"),
+        })
+    }
+
+    fn tiles_text(&self) -> Option<String> {
+        let tile = self.tile.as_ref()?.text();
+        Some(match &self.grid {
+            Some(GridReport {
+                columns,
+                rows,
+                tiles,
+            }) => format!("{tile}; {tiles} in a grid of {columns} by {rows}"),
+            None => format!("{tile}; they make no grid"),
+        })
+    }
+
+    fn present_text(&self) -> Option<String> {
+        let (tiles, grid) = (self.tiles.as_ref()?, self.grid.as_ref()?);
+        Some(format!("{} of {} tiles", tiles.present, grid.tiles))
+    }
+}
+
+const JP2: &str = "jp2";
+const BARE: &str = "codestream";
+
+fn container(codestream: Codestream) -> &'static str {
+    match codestream.start {
+        FileOffset(0) => BARE,
+        _ => JP2,
+    }
+}
+
+fn place(codestream: Codestream) -> Place {
+    Place {
+        start: codestream.start.0,
+        length: codestream.bytes.len() as u64,
+    }
+}
+
+/// Of a header that was accepted, or that was refused behind SIZ; and whether it is SIZ that is
+/// refused.
+fn siz_of(stages: &Stages) -> (Option<Siz>, Option<Refusal>) {
+    let whole = stages.codestream.map(|codestream| codestream.bytes);
+    let header = match (&stages.header, stages.refused) {
+        (Some(header), _) => Some(header.decode_header.as_slice()),
+        (None, Some(refusal)) if of_tlm(refusal) => whole,
+        _ => None,
+    };
+    let Some(header) = header else {
+        return (None, None);
+    };
+    match parse_siz_marker(header) {
+        Ok(_) => (Siz::of(header), None),
+        Err(refusal) => (None, Some(refusal)),
+    }
+}
+
+/// The walk over the header has passed SIZ, and gave up at TLM.
+fn of_tlm(refusal: Refusal) -> bool {
+    matches!(refusal.number(), 4 | 5)
+}
+
+/// What the scan lists where only TLM is wrong, as the remedy says.
+fn parts_of_refused(refusal: Option<Refusal>, codestream: Codestream) -> Option<Vec<TilePart>> {
+    refusal.filter(|refusal| of_tlm(*refusal))?;
+    parts_without_tlm(codestream.bytes)
+}
+
+impl Box {
+    fn of([width, height]: Pair, [x_origin, y_origin]: Pair) -> Self {
+        Box {
+            width,
+            height,
+            x_origin,
+            y_origin,
+        }
+    }
+
+    fn text(&self) -> String {
+        let Box {
+            width,
+            height,
+            x_origin,
+            y_origin,
+        } = self;
+        format!("{width} by {height}, from {x_origin}, {y_origin} on")
+    }
+}
+
+impl ComponentReport {
+    fn of(component: &Component) -> Self {
+        let [dx, dy] = component.apart;
+        ComponentReport {
+            bits: component.bits,
+            signed: component.signed,
+            dx,
+            dy,
+        }
+    }
+
+    fn text(&self) -> String {
+        let ComponentReport { bits, dx, dy, .. } = self;
+        let sign = if self.signed { "signed" } else { "unsigned" };
+        match (dx, dy) {
+            (1, 1) => format!("{bits} bits, {sign}"),
+            _ => format!("{bits} bits, {sign}, a sample for {dx} by {dy}"),
+        }
+    }
+}
+
+impl Components {
+    /// Equal ones beside each other are told together.
+    fn text(&self) -> String {
+        const MOST: usize = 8;
+        let runs: Vec<_> = self.described.chunk_by(|one, other| one == other).collect();
+        let mut told: Vec<_> = runs
+            .iter()
+            .take(MOST)
+            .filter_map(|run| Some(format!("{} of {}", run.len(), run.first()?.text())))
+            .collect();
+        if runs.len() > MOST {
+            told.push("and more".to_string());
+        }
+        let undescribed = usize::from(self.count) - self.described.len();
+        if undescribed > 0 {
+            told.push(format!("{undescribed} that SIZ has no room for"));
+        }
+        match told.is_empty() {
+            true => "none".to_string(),
+            false => told.join("; "),
+        }
+    }
+}
+
+impl Header {
+    fn text(&self) -> String {
+        let Header {
+            length,
+            decode_length,
+            ..
+        } = self;
+        format!("{length} bytes, {decode_length} without TLM")
+    }
+
+    fn tlm_text(&self) -> String {
+        match self.tlm_entries {
+            Some(entries) => format!("{entries} entries"),
+            None => "none".to_string(),
+        }
+    }
+}
+
+impl TileParts {
+    fn text(&self) -> String {
+        let TileParts {
+            count,
+            bytes,
+            first,
+        } = self;
+        format!("{count}, {bytes} bytes, from {} on", first.text())
+    }
+}
+
+impl Offsets {
+    fn of(offset: CodestreamOffset, start: FileOffset) -> Self {
+        Offsets {
+            offset: offset.0,
+            file_offset: offset.in_file(start).map(|place| place.0),
+        }
+    }
+
+    fn text(&self) -> String {
+        let offset = self.offset;
+        let place = self
+            .file_offset
+            .map(|place| format!(", byte {place} of the file"));
+        format!(
+            "byte {offset} of the codestream{}",
+            place.unwrap_or_default()
+        )
+    }
+}
+
+impl TilesReport {
+    fn of(tiles: &Tiles, grid: Grid) -> Self {
+        let present = tiles.present(grid);
+        TilesReport {
+            present,
+            missing: grid.tiles() - present,
+            missing_ranges: tiles.missing(grid).map(pairs),
+            outside_ranges: pairs(tiles.outside(grid)),
+        }
+    }
+
+    fn missing_text(&self) -> String {
+        match &self.missing_ranges {
+            _ if self.missing == 0 => "none".to_string(),
+            Some(ranges) => format!("{}: {}", self.missing, told(ranges)),
+            None => format!("{}; more tiles than an index can name", self.missing),
+        }
+    }
+
+    fn outside_text(&self) -> Option<String> {
+        let outside = &self.outside_ranges;
+        (!outside.is_empty()).then(|| {
+            format!(
+                "tile-parts of tiles that the grid does not have: {}",
+                told(outside)
+            )
+        })
+    }
+}
+
+fn pairs(ranges: Vec<RangeInclusive<usize>>) -> Vec<[usize; 2]> {
+    let ends = |range: RangeInclusive<usize>| [*range.start(), *range.end()];
+    ranges.into_iter().map(ends).collect()
+}
+
+/// On a terminal's few lines; JSON has them all.
+fn told(pairs: &[[usize; 2]]) -> String {
+    const MOST: usize = 100;
+    let ranges: Vec<_> = pairs.iter().map(|&[first, last]| first..=last).collect();
+    ranges_text(&ranges, MOST)
+}
+
+const OTHER: &str = "other bytes";
+
+impl Ended {
+    fn of(end: End, start: FileOffset) -> Self {
+        let (at, bytes) = match end.what {
+            Stopped::AtEoc => ("EOC", None),
+            Stopped::AtEnd => ("end", None),
+            Stopped::InLastPart => ("end, Psot 0", None),
+            Stopped::AtOther([high, low]) => (OTHER, Some(format!("{high:02X}{low:02X}"))),
+        };
+        Ended {
+            at,
+            place: Offsets::of(end.at, start),
+            bytes,
+            unread: end.unread,
+        }
+    }
+
+    fn text(&self) -> String {
+        let (place, unread) = (self.place.text(), self.unread);
+        match (self.at, &self.bytes) {
+            (OTHER, Some(bytes)) => format!(
+                "AT OTHER BYTES ({bytes}), {place}: {unread} bytes are left unread, and a length before them may be wrong"
+            ),
+            ("EOC", _) if unread == 0 => format!("at EOC, {place}: nothing is left unread"),
+            ("EOC", _) => format!("at EOC, {place}: {unread} bytes behind it are left unread"),
+            ("end", _) => format!("at the codestream's end, without EOC, {place}: nothing is left unread"),
+            _ => format!("at the codestream's end, {place}: the last tile-part (Psot 0) takes all bytes, EOC too"),
+        }
+    }
+}
+
+fn refused_text(refused: &Refused) -> String {
+    let Refused {
+        number,
+        place,
+        wrong,
+        remedy,
+        ..
+    } = refused;
+    format!("{number} {place}: {wrong}; {remedy}")
+}

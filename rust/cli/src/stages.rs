@@ -1,0 +1,168 @@
+//! From a file's bytes to its tile-parts, stage by stage.
+
+use winterhasp::{
+    find_codestream, grow_header_region, main_header_extent, parse_main_header, scan_sot_markers,
+    Codestream, CodestreamOffset, FileOffset, MainHeader, MainHeaderExtent, Refusal, TilePart,
+};
+
+const MARKER: u64 = 2;
+const EOC: [u8; 2] = [0xFF, 0xD9];
+const PSOT_AT: u64 = 6;
+
+/// What each stage gave, up to the first that refused.
+#[derive(Default)]
+pub struct Stages<'a> {
+    pub codestream: Option<Codestream<'a>>,
+    pub header: Option<MainHeader>,
+    pub parts: Option<Vec<TilePart>>,
+    pub refused: Option<Refusal>,
+}
+
+/// A file that every stage accepted.
+#[derive(Debug)]
+pub struct Accepted<'a> {
+    pub codestream: Codestream<'a>,
+    pub header: MainHeader,
+    pub parts: Vec<TilePart>,
+}
+
+impl<'a> Stages<'a> {
+    pub fn of(file: &'a [u8]) -> Self {
+        let mut stages = Stages::default();
+        stages.refused = stages.go(file).err();
+        stages
+    }
+
+    fn go(&mut self, file: &'a [u8]) -> Result<(), Refusal> {
+        let codestream = find_codestream(file)?;
+        self.codestream = Some(codestream);
+        let header = main_header(codestream.bytes)?;
+        let first_sot = header.first_sot;
+        self.header = Some(header);
+        self.parts = Some(scan_sot_markers(codestream.bytes, first_sot)?);
+        Ok(())
+    }
+
+    /// Where the codestream starts in the file, if it was found.
+    pub fn start(&self) -> Option<FileOffset> {
+        Some(self.codestream?.start)
+    }
+}
+
+impl<'a> Accepted<'a> {
+    /// Or the refusal, and where the codestream starts in the file if it was found.
+    pub fn of(file: &'a [u8]) -> Result<Self, (Refusal, Option<FileOffset>)> {
+        let codestream = find_codestream(file).map_err(|refusal| (refusal, None))?;
+        let refused = |refusal| (refusal, Some(codestream.start));
+        let header = main_header(codestream.bytes).map_err(refused)?;
+        let parts = scan_sot_markers(codestream.bytes, header.first_sot).map_err(refused)?;
+        Ok(Accepted {
+            codestream,
+            header,
+            parts,
+        })
+    }
+}
+
+/// Of a long codestream only the first bytes are lent. A header that ends is copied first: its
+/// reading counts in one pass and writes in the next, and a mapped file might change between them.
+fn main_header(codestream: &[u8]) -> Result<MainHeader, Refusal> {
+    let region = first(codestream, grow_header_region(codestream).length);
+    match main_header_extent(region) {
+        MainHeaderExtent::Complete(first_sot) => {
+            let copied = first(region, first_sot.0.saturating_add(MARKER)).to_vec();
+            parse_main_header(&copied)
+        }
+        MainHeaderExtent::Truncated => parse_main_header(region),
+    }
+}
+
+fn first(bytes: &[u8], length: u64) -> &[u8] {
+    let length = usize::try_from(length).unwrap_or(usize::MAX);
+    bytes.get(..length).unwrap_or(bytes)
+}
+
+/// The tile-parts behind a header that was refused for its TLM alone.
+pub fn parts_without_tlm(codestream: &[u8]) -> Option<Vec<TilePart>> {
+    let region = first(codestream, grow_header_region(codestream).length);
+    let MainHeaderExtent::Complete(first_sot) = main_header_extent(region) else {
+        return None;
+    };
+    scan_sot_markers(codestream, first_sot).ok()
+}
+
+/// Where a scan that was accepted stopped.
+#[derive(Debug, Clone, Copy, PartialEq, Eq)]
+pub struct End {
+    pub at: CodestreamOffset,
+    pub what: Stopped,
+    /// Bytes behind that place, and behind EOC, that nobody looked at.
+    pub unread: u64,
+}
+
+#[derive(Debug, Clone, Copy, PartialEq, Eq)]
+pub enum Stopped {
+    AtEoc,
+    /// The last tile-part ends with the codestream.
+    AtEnd,
+    /// The last tile-part has Psot 0: all bytes that are left are its own, EOC too.
+    InLastPart,
+    /// These stand there, and are neither EOC nor the start of a tile-part.
+    AtOther([u8; 2]),
+}
+
+impl End {
+    pub fn of(codestream: &[u8], parts: &[TilePart]) -> Option<Self> {
+        let last = parts.last()?;
+        let at = last.offset.0.checked_add(last.length)?;
+        let left = (codestream.len() as u64).saturating_sub(at);
+        let (what, unread) = match at_place(codestream, at) {
+            Some(EOC) => (Stopped::AtEoc, left - MARKER),
+            Some(other) => (Stopped::AtOther(other), left),
+            None if reaches_to_the_end(codestream, last) => (Stopped::InLastPart, 0),
+            None => (Stopped::AtEnd, left),
+        };
+        Some(End {
+            at: CodestreamOffset(at),
+            what,
+            unread,
+        })
+    }
+}
+
+fn at_place<const N: usize>(bytes: &[u8], at: u64) -> Option<[u8; N]> {
+    let rest = bytes.get(usize::try_from(at).ok()?..)?;
+    rest.first_chunk().copied()
+}
+
+fn reaches_to_the_end(codestream: &[u8], last: &TilePart) -> bool {
+    at_place(codestream, last.offset.0.saturating_add(PSOT_AT)) == Some([0; 4])
+}
+
+#[cfg(test)]
+mod tests {
+    use super::{Accepted, End, Stopped};
+
+    const SAMPLE: &[u8] = include_bytes!("../../../crates/tileparts/stdin");
+
+    fn end(file: &[u8]) -> (u64, Stopped, u64) {
+        let accepted = Accepted::of(file).expect("accepted");
+        let end = End::of(accepted.codestream.bytes, &accepted.parts).expect("a part");
+        (end.at.0, end.what, end.unread)
+    }
+
+    #[test]
+    fn a_scan_says_where_it_stopped() {
+        assert_eq!(end(SAMPLE), (87, Stopped::AtEoc, 0));
+        assert_eq!(end(&SAMPLE[..87]), (87, Stopped::AtEnd, 0));
+        let behind = [SAMPLE, &[0; 5]].concat();
+        assert_eq!(end(&behind), (87, Stopped::AtEoc, 5));
+        let mut short = SAMPLE.to_vec();
+        short[57 + 9] = 13;
+        short.extend([0; 20]);
+        assert_eq!(end(&short), (70, Stopped::AtOther([0x93, 0xFF]), 39));
+        let mut open = SAMPLE.to_vec();
+        open[71 + 9] = 0;
+        assert_eq!(end(&open), (89, Stopped::InLastPart, 0));
+    }
+}
