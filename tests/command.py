@@ -1,39 +1,40 @@
 #!/usr/bin/env python3
-"""The command line, command by command: tests/command.py [--bin DIR]
+"""The command, as the desk runs it: tests/command.py [--bin DIR] [NAME..]
 
-Runs `winterhasp` on small files that are built here, bare and inside a JP2, and holds standard output, standard error, the
-status and the file that is written to what they have to be: for files that are accepted and refused, files that can't be
-read, wrong words, and output that can't be written. Status 1 if a run differs, 2 if there is no program to run.
+Runs `winterhasp` on files that are built here, bare and inside a JP2, on files of OpenJPEG and Grok, and on damaged ones, and
+holds standard output, standard error, the status and the files that are written to what they have to be. What refusals say is
+taken from the table of docs/RULES.md; what `list` prints is held to the listing program too, byte for byte. With names only the
+groups of these names are run. Status 1 if a run differs, 2 if the runs can't be made.
 """
 
 import argparse
+import concurrent.futures
+import json
 import os
 import resource
+import shutil
 import struct
 import subprocess
 import sys
 import tempfile
+import time
+import xml.etree.ElementTree as xml
 from pathlib import Path
 from typing import NamedTuple
 
-from listing import EOC, ROOT, SIGNATURE, SOC, codestream, part, rows, segment, siz
+from listing import EOC, LONGEST, PROGRAM as LISTING, ROOT, SIGNATURE, SOC, codestream, listing, part, rows, segment, siz
 from refusals import RULES, refusals
 
-READERS = ["codestream", "parts", "places"]
+WORKERS = 2
 OUT = "out.j2k"
-USAGE = """\
-usage: winterhasp extent FILE
-       winterhasp codestream FILE
-       winterhasp parts FILE
-       winterhasp places FILE
-       winterhasp tile FILE INDEX OUT
-"""
-NOT_AN_INDEX = "winterhasp: INDEX is a number from 0 to 65535\n"
-NO_SOT = "no codestream with a SOT"
+COMMANDS = ["list", "show", "tile", "grid", "completions"]
 NOT_THERE = "No such file or directory (os error 2)"
 A_DIRECTORY = "Is a directory (os error 21)"
 DEVICE_FULL = "No space left on device (os error 28)"
 TOO_LARGE = "File too large (os error 27)"
+CHANGED = "the file changed while it was read: wait until nobody writes to it, then try again"
+SAME = "this is the file that is read, and it is not written over"
+NOT_AN_INDEX = "a number from 0 to 65535 is needed, in plain digits"
 
 # What was in OUT before, where something was.
 KEPT = b"kept"
@@ -46,6 +47,26 @@ class Case(NamedTuple):
     error: str = ""
     # What OUT holds afterwards; nothing if it is not made.
     made: bytes = None
+
+
+# Words
+
+
+def about(file, what):
+    return f"winterhasp: {file}: {what}\n"
+
+
+WORDS = {refusal.number: refusal for refusal in refusals((ROOT / RULES).read_text())[0]}
+
+
+def sentence(number, place, start=0):
+    """A refusal in words, of a file whose codestream starts there."""
+    words = WORDS[number]
+    in_file = f", byte {start + place} of the file" if words.origin == "codestream" else ""
+    return f"{words.wrong}, at byte {place} of the {words.origin} (refusal {number}){in_file}; {words.remedy}"
+
+
+# Files
 
 
 def box(kind, content):
@@ -61,37 +82,114 @@ def jp2(content):
     return BEFORE + box(b"jp2c", content) + box(b"free", b"\xff\x90")
 
 
-def lines(numbers):
-    return "".join(" ".join(map(str, row)) + "\n" for row in numbers)
+def size_segment(size, tile, origin=(0, 0), tile_origin=(0, 0), components=((7, 1, 1),)):
+    numbers = struct.pack(">H8IH", 0, *size, *origin, *tile, *tile_origin, len(components))
+    return segment(0xFF51, numbers + b"".join(struct.pack("3B", *each) for each in components))
 
 
-def trouble(file, what):
-    return f"winterhasp: {file}: {what}\n"
-
-
-WORDS = {refusal.number: refusal for refusal in refusals((ROOT / RULES).read_text())[0]}
-
-
-def sentence(number, place):
-    """A refusal in words."""
-    words = WORDS[number]
-    where = f": {place} are needed" if words.origin == "needed" else f", at byte {place} of the {words.origin}"
-    return f"{words.wrong}{where} (refusal {number})"
+def with_header(*segments, parts):
+    return SOC + b"".join(segments) + parts + EOC
 
 
 # Sample A: tiles of 4 by 4, and of tile 5 the image has 2 by 2
-
 SAMPLE = (ROOT / "crates/tileparts/stdin").read_bytes()
-FIRST = 57
-LISTED = [(0, 57, 14), (5, 71, 16)]
+SAMPLE_LISTED = [(0, 57, 14), (5, 71, 16)]
+
+HEADER, TWO_PARTS = codestream([], [14, 16])
+SECOND = len(HEADER) + 14
+LONG_LSOT = TWO_PARTS[: SECOND + 3] + b"\x0b" + TWO_PARTS[SECOND + 4 :]
+CUT = TWO_PARTS[: -len(EOC) - 1]
+SHORT_TLM = with_header(siz(), segment(0xFF55, b"\0"), parts=part(0, 14))
+ODD_TLM = with_header(siz(), segment(0xFF55, b"\0\x30\0\0"), parts=part(0, 14))
+NO_SIZ = with_header(segment(0xFF64, b"\0\1"), parts=part(0, 14))
+# the second part says 30 of its 40 bytes
+_, THREE_PARTS = codestream([], [14, 40, 14])
+SHORT_PSOT = THREE_PARTS[: SECOND + 9] + b"\x1e" + THREE_PARTS[SECOND + 10 :]
+# the last part says nothing of its length
+OPEN = TWO_PARTS[: SECOND + 9] + b"\0" + TWO_PARTS[SECOND + 10 :]
+# a grid by which the rules refuse a tile that is there
+FAR = size_segment((2, 6), (2**32 - 1, 4), origin=(1, 0))
+MANY = 12_000
+
+FILES = {
+    "a.j2k": SAMPLE,
+    "a.jp2": jp2(SAMPLE),
+    b"\xff.j2k": SAMPLE,
+    "<a&b>\n.j2k": SAMPLE,
+    "many.j2k": codestream([], [14] * MANY)[1],
+    "whole.j2k": with_header(siz(), parts=b"".join(part(tile, 14) for tile in range(6))),
+    "twice.j2k": with_header(siz(), parts=part(0, 14) + part(5, 20) + part(0, 15)),
+    "short-psot.jp2": jp2(SHORT_PSOT),
+    "open.j2k": OPEN,
+    "no-eoc.j2k": TWO_PARTS[: -len(EOC)],
+    "behind.j2k": TWO_PARTS + bytes(7),
+    "outside.j2k": with_header(siz(), parts=part(6, 14) + part(1, 14)),
+    "far.jp2": jp2(with_header(FAR, parts=part(0, 14))),
+    "odd.j2k": with_header(size_segment((9, 3), (3, 3)), parts=part(1, 14)),
+    "moved.j2k": with_header(size_segment((9, 8), (4, 4), (1, 0), (1, 0)), parts=part(1, 14)),
+    "third.j2k": with_header(size_segment((8, 8), (4, 4), components=((7, 3, 1),)), parts=part(1, 14)),
+    "one.j2k": with_header(size_segment((4, 4), (4, 4)), parts=part(0, 14)),
+    "components.j2k": with_header(
+        size_segment((8, 4), (4, 4), components=((7, 1, 1), (7, 2, 2), (7, 2, 2), (0x8B, 1, 1))), parts=part(0, 14)
+    ),
+    "too-many.j2k": with_header(size_segment((65_536, 1), (1, 1)), parts=part(65_535, 14)),
+    "no-grid.j2k": with_header(size_segment((8, 8), (0, 4)), parts=part(0, 14)),
+    "siz-cut.j2k": with_header(segment(0xFF51, b""), parts=part(0, 14)),
+    "siz-back.j2k": with_header(size_segment((1, 1), (4, 4), (2, 0)), parts=part(0, 14)),
+}
+
+
+class Refused(NamedTuple):
+    content: bytes
+    number: int
+    place: int
+    # The lines before it, and where its codestream starts.
+    before: list = []
+    start: int = 0
+
+
+def lines_of(content, start, header=False):
+    told = [f"codestream {start} {len(content)}"]
+    return told + [f"header {len(HEADER)} {len(HEADER)}"] * header
+
+
+def in_stage(content, number, place, header, inside=False):
+    """A refusal behind the search, in a bare codestream or in a JP2."""
+    start = START if inside else 0
+    file = jp2(content) if inside else content
+    return Refused(file, number, place, lines_of(content, start, header), start)
+
+
+REFUSED = {
+    "none": Refused(b"", 11, 0),
+    "zeros": Refused(bytes(100), 12, 0),
+    "box13.jp2": Refused(SIGNATURE + struct.pack(">I4s", 1, b"free"), 13, 12),
+    "box14.jp2": Refused(SIGNATURE + struct.pack(">I4s", 100, b"free"), 14, 112),
+    "box15.jp2": Refused(SIGNATURE + struct.pack(">I4s", 7, b"jp2c"), 15, 12),
+    "box16.jp2": Refused(SIGNATURE + struct.pack(">I4sQ", 1, b"free", 2**64 - 12), 16, 12),
+    "no-soc.jp2": in_stage(bytes(4), 1, 0, False, True),
+    "soc": in_stage(SOC, 2, 2, False),
+    "soc.jp2": in_stage(SOC, 2, 2, False, True),
+    "no-siz.j2k": in_stage(NO_SIZ, 2, 2, False),
+    "header.j2k": in_stage(HEADER + b"\xff\x64\0\x09", 3, len(HEADER), False),
+    "tlm4.j2k": in_stage(SHORT_TLM, 4, len(HEADER), False),
+    "tlm4.jp2": in_stage(SHORT_TLM, 4, len(HEADER), False, True),
+    "tlm5.j2k": in_stage(ODD_TLM, 5, len(HEADER), False),
+    "no-sot.j2k": in_stage(HEADER, 6, len(HEADER), False),
+    "short.j2k": in_stage(TWO_PARTS[: SECOND + 11], 7, SECOND, True),
+    "lsot.j2k": in_stage(LONG_LSOT, 8, SECOND, True),
+    "cut.j2k": in_stage(CUT, 9, SECOND, True),
+    "cut.jp2": in_stage(CUT, 9, SECOND, True, True),
+}
+FILES |= {name: refused.content for name, refused in REFUSED.items()}
+
+# What is told of them
 
 
 def alone(size, tile, at, length):
     """A codestream of one tile-part: sample A's SIZ with these sizes, no TLM, and Isot 0."""
-    header = SOC + siz()
-    sizes = struct.pack(">8I", *size, 0, 0, *tile, 0, 0)
     moved = SAMPLE[at : at + 4] + bytes(2) + SAMPLE[at + 6 : at + length]
-    return header[:8] + sizes + header[40:] + moved + EOC
+    return SOC + size_segment(size, tile) + moved + EOC
 
 
 TILES = {
@@ -100,145 +198,82 @@ TILES = {
     5: alone((2, 2), (2, 2), 71, 16),
 }
 
-# Files
+
+def canvas(tile, size):
+    return (
+        f"note: tile {tile} has full size and keeps the whole image's canvas of {size[0]} by {size[1]}: "
+        "decode its tile 0 (opj_decompress -t 0)"
+    )
 
 
-def with_header(*segments, parts):
-    """A codestream, and where its first tile-part stands."""
-    header = SOC + b"".join(segments)
-    return header + parts + EOC, len(header)
+def moved(tile, why):
+    return f"note: tile {tile} is moved to the origin and may decode to other pixels than in the whole image, since {why}"
 
 
-MANY = 12_000
-MANY_LISTED = rows(len(codestream([], [])[0]), [14] * MANY)
+def shown_sample(name, size, container, start):
+    return f"""\
+file        {name}, {size} bytes
+container   {container}
+image       10 by 6, from 0, 0 on
+tiles       4 by 4, from 0, 0 on; 6 in a grid of 3 by 2
+components  1 of 8 bits, unsigned
+header      57 bytes, 45 without TLM
+tlm         2 entries
+tile-parts  2, 30 bytes, from byte 57 of the codestream, byte {start + 57} of the file on
+present     2 of 6 tiles
+missing     4: 1-4
+scan ended  at EOC, byte 87 of the codestream, byte {start + 87} of the file: nothing is left unread
+"""
 
-HEADER, TWO_PARTS = codestream([], [14, 16])
-LONG_LSOT = bytearray(TWO_PARTS)
-LONG_LSOT[len(HEADER) + 14 + 3] += 1
-CUT = TWO_PARTS[: -len(EOC) - 1]
 
-SHORT_TLM, SHORT_TLM_FIRST = with_header(siz(), segment(0xFF55, b"\0"), parts=part(0, 14))
-ODD_TLM, ODD_TLM_FIRST = with_header(siz(), segment(0xFF55, b"\0\x30\0\0"), parts=part(0, 14))
-NO_SIZ, NO_SIZ_FIRST = with_header(segment(0xFF64, b"\0\1"), parts=part(0, 14))
-OUTSIDE, OUTSIDE_FIRST = with_header(siz(), parts=part(6, 14))
-
-FILES = {
-    "a.j2k": SAMPLE,
-    "a.jp2": jp2(SAMPLE),
-    b"\xff.j2k": SAMPLE,
-    "many.j2k": codestream([], [14] * MANY)[1],
-    "none": b"",
-    "zeros": bytes(100),
-    "soc": SOC,
-    "soc.jp2": jp2(SOC),
-    "cut.j2k": CUT,
-    "cut.jp2": jp2(CUT),
-    "lsot.j2k": bytes(LONG_LSOT),
-    "short.j2k": TWO_PARTS[: len(HEADER) + 14 + 11],
-    "header.j2k": HEADER + b"\xff\x64\0\x09",
-    "tlm4.j2k": SHORT_TLM,
-    "tlm4.jp2": jp2(SHORT_TLM),
-    "tlm5.j2k": ODD_TLM,
-    "nosiz.j2k": NO_SIZ,
-    "outside.j2k": OUTSIDE,
-    "outside.jp2": jp2(OUTSIDE),
-    "box13.jp2": SIGNATURE + struct.pack(">I4s", 1, b"free"),
-    "box14.jp2": SIGNATURE + struct.pack(">I4s", 100, b"free"),
-    "box15.jp2": SIGNATURE + struct.pack(">I4s", 7, b"jp2c"),
-    "box16.jp2": SIGNATURE + struct.pack(">I4sQ", 1, b"free", 2**64 - 12),
+SHOWN = {
+    "a.j2k": shown_sample("a.j2k", 89, "none: a bare codestream of 89 bytes", 0),
+    "a.jp2": shown_sample(
+        "a.jp2", len(jp2(SAMPLE)), f"JP2, with a codestream of 89 bytes from byte {START} of the file on", START
+    ),
 }
 
-# Number and place, for each command that looks for the codestream
-REFUSED = {
-    "none": (11, 0),
-    "zeros": (12, 0),
-    "box13.jp2": (13, 12),
-    "box14.jp2": (14, 112),
-    "box15.jp2": (15, 12),
-    "box16.jp2": (16, 12),
+# Single lines that `show` has to print
+SHOWS = {
+    "whole.j2k": ["present     6 of 6 tiles", "missing     none", "tlm         none"],
+    "twice.j2k": ["tile-parts  3, 49 bytes, from byte 45 of the codestream, byte 45 of the file on", "present     2 of 6 tiles"],
+    "short-psot.jp2": [
+        f"scan ended  AT OTHER BYTES (0000), byte {SECOND + 30} of the codestream, byte {START + SECOND + 30} of the file: "
+        "26 bytes are left unread, and a length before them may be wrong"
+    ],
+    "open.j2k": [
+        f"scan ended  at the codestream's end, byte {len(OPEN)} of the codestream, byte {len(OPEN)} of the file: "
+        "the last tile-part (Psot 0) takes all bytes, EOC too"
+    ],
+    "no-eoc.j2k": [
+        f"scan ended  at the codestream's end, without EOC, byte {SECOND + 16} of the codestream, "
+        f"byte {SECOND + 16} of the file: nothing is left unread"
+    ],
+    "behind.j2k": [
+        f"scan ended  at EOC, byte {SECOND + 16} of the codestream, byte {SECOND + 16} of the file: "
+        "7 bytes behind it are left unread"
+    ],
+    "outside.j2k": ["missing     5: 0 2-5", "outside     tile-parts of tiles that the grid does not have: 6"],
+    "moved.j2k": ["image       8 by 8, from 1, 0 on", "tiles       4 by 4, from 1, 0 on; 4 in a grid of 2 by 2"],
+    "components.j2k": [
+        "components  1 of 8 bits, unsigned; 2 of 8 bits, unsigned, a sample for 2 by 2; 1 of 12 bits, signed",
+    ],
+    "too-many.j2k": ["present     1 of 65536 tiles", "missing     65535; more tiles than an index can name"],
+    "no-grid.j2k": ["tiles       0 by 4, from 0, 0 on; they make no grid"],
 }
-
-# The same for each command that looks for tile-parts
-PARTS_REFUSED = {
-    "short.j2k": (7, len(HEADER) + 14),
-    "lsot.j2k": (8, len(HEADER) + 14),
-    "cut.j2k": (9, len(HEADER) + 14),
-    "cut.jp2": (9, len(HEADER) + 14),
-}
-
-# The listing is accepted, and the tile that is named is refused
-TILE_REFUSED = {
-    "tlm4.j2k": (0, SHORT_TLM_FIRST, 4, len(SOC + siz())),
-    "tlm4.jp2": (0, SHORT_TLM_FIRST, 4, len(SOC + siz())),
-    "tlm5.j2k": (0, ODD_TLM_FIRST, 5, len(SOC + siz())),
-    "nosiz.j2k": (0, NO_SIZ_FIRST, 2, 2),
-    "outside.j2k": (6, OUTSIDE_FIRST, 10, 2),
-    "outside.jp2": (6, OUTSIDE_FIRST, 10, 2),
-}
-
-
-def asked(command, file, index="0"):
-    return ["tile", file, index, OUT] if command == "tile" else [command, file]
-
-
-def accepted():
-    for file, start in ("a.j2k", 0), ("a.jp2", START), (b"\xff.j2k", 0):
-        yield Case(["codestream", file], out=f"{start} {len(SAMPLE)}\n")
-        yield Case(["parts", file], out=lines(LISTED))
-        yield Case(["places", file], out=lines((tile, start + at, size) for tile, at, size in LISTED))
-        for tile, content in TILES.items():
-            yield Case(["tile", file, str(tile), OUT], made=content)
-    yield Case(["parts", "many.j2k"], out=lines(MANY_LISTED))
-    # the extent is asked of the file's own bytes, as they come in
-    yield Case(["extent", "a.j2k"], out=f"complete {FIRST}\n")
-    for file in "none", "zeros", "soc", "header.j2k", "a.jp2":
-        yield Case(["extent", file], out="truncated\n")
-    # a header that ends is all that the extent needs
-    for file in "cut.j2k", "lsot.j2k", "short.j2k":
-        yield Case(["extent", file], out=f"complete {len(HEADER)}\n")
-
-
-def refused():
-    for command in [*READERS, "tile"]:
-        for file, (number, place) in REFUSED.items():
-            yield Case(asked(command, file), 2, error=trouble(file, sentence(number, place)))
-    for command in "parts", "places", "tile":
-        for file in "soc", "soc.jp2", "header.j2k":
-            yield Case(asked(command, file), 2, error=trouble(file, NO_SOT))
-        for file, (number, place) in PARTS_REFUSED.items():
-            yield Case(asked(command, file), 2, error=trouble(file, sentence(number, place)))
-    for file, (tile, first, number, place) in TILE_REFUSED.items():
-        yield Case(["parts", file], out=lines([(tile, first, 14)]))
-        yield Case(asked("tile", file, str(tile)), 2, error=trouble(file, sentence(number, place)))
-    for file in "a.j2k", "a.jp2":
-        for index in "1", "6", "65535":
-            yield Case(asked("tile", file, index), 2, error=trouble(file, f"no part of tile {index}"))
-
-
-def not_read():
-    for command in ["extent", *READERS, "tile"]:
-        for file, why in ("missing", NOT_THERE), ("missing/a.j2k", NOT_THERE), ("directory", A_DIRECTORY):
-            yield Case(asked(command, file), 2, error=trouble(file, why))
-
-
-def wrong_words():
-    few = [[], *([command] for command in ["extent", *READERS, "tile"])]
-    few += [["tile", "a.j2k"], ["tile", "a.j2k", "0"]]
-    many = [[command, "a.j2k", "a.j2k"] for command in ["extent", *READERS]]
-    many += [["tile", "a.j2k", "0", OUT, OUT]]
-    unknown = [["part", "a.j2k"], ["PARTS", "a.j2k"], ["", "a.j2k"], ["--help"], [b"\xff", "a.j2k"]]
-    for words in few + many + unknown:
-        yield Case(words, 2, error=USAGE)
-    for index in "x", "", "-1", "65536", "5.0", " 5", "5x", b"\xff", "99999999999999999999999":
-        yield Case(["tile", "a.j2k", index, OUT], 2, error=NOT_AN_INDEX)
-
-
-def not_written():
-    for out, why in ("directory", A_DIRECTORY), ("missing/out.j2k", NOT_THERE), ("/dev/full", DEVICE_FULL):
-        yield Case(["tile", "a.j2k", "5", out], 2, error=trouble(out, why))
 
 
 # Runs
+
+# A process counts what it held before it became another program: so a small one starts what is measured.
+MEASURED = """
+import os, sys
+started = os.spawnv(os.P_NOWAIT, sys.argv[1], sys.argv[1:])
+_, status, used = os.wait4(started, 0)
+with open("memory", "w") as memory:
+    print(used.ru_maxrss, file=memory)
+sys.exit(os.waitstatus_to_exitcode(status))
+"""
 
 
 class Runs:
@@ -249,6 +284,14 @@ class Runs:
 
     def start(self, words, **streams):
         return subprocess.Popen([self.program, *words], cwd=self.folder, stdin=subprocess.DEVNULL, **streams)
+
+    def run(self, *words):
+        """Status, standard output and standard error."""
+        ended = subprocess.run([self.program, *words], cwd=self.folder, stdin=subprocess.DEVNULL, capture_output=True)
+        return ended.returncode, ended.stdout.decode(), ended.stderr.decode()
+
+    def listing(self, content):
+        return subprocess.run([LISTING], input=content, capture_output=True).stdout.decode()
 
     def hold(self, name, saw, wanted):
         self.count += 1
@@ -262,79 +305,489 @@ class Runs:
         path.unlink(missing_ok=True)
         if before is not None:
             path.write_bytes(before)
-        program = self.start(case.words, stdout=subprocess.PIPE, stderr=subprocess.PIPE)
-        out, error = (written.decode() for written in program.communicate())
+        saw = self.run(*case.words)
         made = path.read_bytes() if path.exists() else None
         wanted = before if case.made is None else case.made
         name = f"{case.words}" + (", OUT there" if before is not None else "")
-        self.hold(name, (program.returncode, out, error, made), (case.status, case.out, case.error, wanted))
+        self.hold(name, (*saw, made), (case.status, case.out, case.error, wanted))
+        left = [file.name for file in self.folder.glob(".winterhasp*")]
+        self.hold(f"{name}, left beside", left, [])
 
-    def full_device(self, words, status, error):
-        with open("/dev/full", "wb") as full:
-            program = self.start(words, stdout=full, stderr=subprocess.PIPE)
-            _, wrote = program.communicate()
-        self.hold(f"{words}, a full device", (program.returncode, wrote.decode()), (status, error))
+    def cases(self, cases):
+        for case in cases:
+            self.case(case)
+            if case.words[0] == "tile":
+                self.case(case, KEPT)
 
-    def no_reader(self, words):
-        """Standard output is a pipe that nobody reads."""
-        reader, writer = os.pipe()
-        os.close(reader)
-        program = self.start(words, stdout=writer, stderr=subprocess.PIPE)
-        os.close(writer)
-        _, error = program.communicate()
-        self.hold(f"{words}, no reader", (program.returncode, error), (0, b""))
+    # Groups
 
-    def reader_leaves(self, words, first):
-        """After the first bytes of more than a pipe holds."""
-        program = self.start(words, stdout=subprocess.PIPE, stderr=subprocess.PIPE)
-        saw = os.read(program.stdout.fileno(), len(first))
-        program.stdout.close()
-        error = program.stderr.read()
-        self.hold(f"{words}, the reader leaves", (program.wait(), saw, error), (0, first, b""))
+    def accepted(self):
+        sample = listing(0, 89, 57, 45, SAMPLE_LISTED, SAMPLE_LISTED)
+        for file, name, start in ("a.j2k", "a.j2k", 0), ("a.jp2", "a.jp2", START), (b"\xff.j2k", "\\xff.j2k", 0):
+            self.case(Case(["list", file], out=sample.replace("codestream 0 ", f"codestream {start} ")))
+            notes = {0: about(name, canvas(0, (10, 6))), 5: ""}
+            self.cases(Case(["tile", file, str(tile), "-o", OUT], error=notes[tile], made=made) for tile, made in TILES.items())
+        for file, text in SHOWN.items():
+            self.case(Case(["show", file], out=text))
+        for file, lines in SHOWS.items():
+            status, out, _ = self.run("show", file)
+            missing = [line for line in lines if line not in out.splitlines()]
+            self.hold(f"show {file}", (status, missing), (0, []))
+        for file in FILES.keys() - REFUSED.keys():
+            content = FILES[file]
+            if len(content) <= LONGEST:
+                self.hold(f"list {file}", self.run("list", file)[:2], (0, self.listing(content)))
+        many = codestream([], [14] * MANY)
+        told = listing(0, len(many[1]), len(many[0]), len(many[0]), [], rows(len(many[0]), [14] * MANY))
+        self.case(Case(["list", "many.j2k"], out=told))
+        unread = (
+            f"accepted, but the scan ended at bytes that start no tile-part, at byte {SECOND + 30} of the codestream, "
+            f"byte {START + SECOND + 30} of the file, with 26 bytes left unread: a length before them may be wrong"
+        )
+        self.hold("a short Psot", self.run("list", "short-psot.jp2")[2], about("short-psot.jp2", unread))
 
-    def limited(self, words, size, error):
-        """No file may get larger than that: nothing is left in OUT."""
+    def refused(self):
+        for file, refused in REFUSED.items():
+            error = about(file, sentence(refused.number, refused.place, refused.start))
+            told = "".join(f"{line}\n" for line in [*refused.before, f"refused {refused.number} {refused.place}"])
+            self.hold(f"{file}, the listing program", self.listing(refused.content), told)
+            self.case(Case(["list", file], 1, told, error))
+            self.cases([Case(["tile", file, "0", "-o", OUT], 1, error=error), Case(["grid", file, "-o", OUT], 1, error=error)])
+            status, out, said = self.run("show", file)
+            words = WORDS[refused.number]
+            last = f"refused     {refused.number} {refused.place}: {words.wrong}; {words.remedy}"
+            self.hold(f"show {file}", (status, out.splitlines()[-1], said), (1, last, error))
+        # where only TLM is wrong the scan is shown
+        self.hold("show tlm4.jp2", "tile-parts  1, 14 bytes, " in self.run("show", "tlm4.jp2")[1], True)
+        # SIZ is not looked into by the listing, and is by `show`
+        for file, number in ("siz-cut.j2k", 20), ("siz-back.j2k", 22):
+            self.hold(f"list {file}", self.run("list", file)[0], 0)
+            status, _, said = self.run("show", file)
+            self.hold(f"show {file}", (status, said), (1, about(file, sentence(number, 2))))
+
+    def tiles(self):
+        absent = "tile {} has no tile-part; `winterhasp show` lists the tiles that are missing"
+        outside = "tile {} lies outside the grid of 3 by 2 tiles, which are 0 to 5; check the index"
+        for file in "a.j2k", "a.jp2":
+            for index, why in ("1", absent), ("4", absent), ("6", outside), ("65535", outside):
+                self.cases([Case(["tile", file, index, "-o", OUT], 1, error=about(file, why.format(index)))])
+        self.cases([Case(["tile", "outside.j2k", "6", "-o", OUT], 1, error=about("outside.j2k", outside.format(6)))])
+        far = f"tile 0: {sentence(10, 2, START)}"
+        self.cases([Case(["tile", "far.jp2", "0", "-o", OUT], 1, error=about("far.jp2", far))])
+        origin = "the image or its tiles do not start at 0"
+        notes = {
+            "odd.j2k": [moved(1, "the sides of its tiles are not powers of two"), canvas(1, (9, 3))],
+            "moved.j2k": [moved(1, origin), canvas(1, (8, 8))],
+            "third.j2k": [moved(1, "its subsampling is not by powers of two"), canvas(1, (8, 8))],
+            "one.j2k": [],
+        }
+        for file, said in notes.items():
+            index = "0" if file == "one.j2k" else "1"
+            error = "".join(about(file, note) for note in said)
+            self.hold(f"tile {file}", self.run("tile", file, index, "-o", OUT), (0, "", error))
+        # standard output, and a name made of the file's and the index
+        ended = subprocess.run([self.program, "tile", "a.j2k", "5", "-o", "-"], cwd=self.folder, capture_output=True)
+        self.hold("tile a.j2k 5 -o -", (ended.returncode, ended.stdout, ended.stderr), (0, TILES[5], b""))
+        (self.folder / "below").mkdir()
+        ended = subprocess.run([self.program, "tile", "../a.jp2", "5"], cwd=self.folder / "below", capture_output=True)
+        made = {file.name: file.read_bytes() for file in (self.folder / "below").iterdir()}
+        self.hold("tile ../a.jp2 5", (ended.returncode, made), (0, {"a.tile5.j2k": TILES[5]}))
+        # parts in the order of the file, and both made to be tile 0
+        self.run("tile", "twice.j2k", "0", "-o", OUT)
+        joined = HEADER + part(0, 14) + part(0, 15) + EOC
+        self.hold("tile twice.j2k 0", (self.folder / OUT).read_bytes(), joined)
+
+    def never_over_the_input(self):
+        content = FILES["a.j2k"]
+        os.link(self.folder / "a.j2k", self.folder / "hard.j2k")
+        os.symlink("a.j2k", self.folder / "soft.j2k")
+        os.symlink("nowhere/x", self.folder / "dangling.j2k")
+        for out in "a.j2k", "./a.j2k", str(self.folder / "a.j2k"), "hard.j2k", "soft.j2k":
+            for words in ["tile", "a.j2k", "5"], ["grid", "a.j2k"]:
+                self.hold(f"{words} to {out}", self.run(*words, "-o", out), (2, "", about(out, SAME)))
+        with open(self.folder / "a.j2k", "ab") as same:
+            program = self.start(["tile", "a.j2k", "5", "-o", "-"], stdout=same, stderr=subprocess.PIPE)
+            _, error = program.communicate()
+        self.hold("the input as standard output", (program.returncode, error.decode()), (2, about("-", SAME)))
+        self.hold("a.j2k", (self.folder / "a.j2k").read_bytes(), content)
+        dangling = self.run("tile", "a.j2k", "5", "-o", "dangling.j2k")
+        self.hold("a dangling link", dangling, (2, "", about("dangling.j2k", "a link to what is not there")))
+        # of a link to another file that file is replaced, with what it may be used for
+        kept = self.folder / "kept.j2k"
+        kept.write_bytes(KEPT)
+        kept.chmod(0o600)
+        os.symlink("kept.j2k", self.folder / "link.j2k")
+        self.run("tile", "a.j2k", "5", "-o", "link.j2k")
+        saw = (self.folder / "link.j2k").is_symlink(), kept.read_bytes(), kept.stat().st_mode & 0o777
+        self.hold("a link to a file", saw, (True, TILES[5], 0o600))
+        for name in "hard.j2k", "soft.j2k", "dangling.j2k", "link.j2k", "kept.j2k":
+            (self.folder / name).unlink()
+
+    def machines(self):
+        """JSON says what the text says."""
+        status, out, _ = self.run("list", "--json", "a.jp2", "cut.jp2", "missing")
+        found = [json.loads(line) for line in out.splitlines()]
+        row = lambda tile, at, size: {"tile": tile, "offset": at, "length": size}
+        tlm = [row(*each) for each in SAMPLE_LISTED]
+        accepted = {
+            "file": "a.jp2",
+            "status": "accepted",
+            "codestream": {"start": START, "length": 89},
+            "header": {"first_sot": 57, "decode_length": 45, "tlm": tlm},
+            "parts": [each | {"file_offset": START + each["offset"]} for each in tlm],
+            "unread": 0,
+        }
+        words = WORDS[9]
+        refused = {
+            "file": "cut.jp2",
+            "status": "refused",
+            "codestream": {"start": START, "length": len(CUT)},
+            "header": {"first_sot": 45, "decode_length": 45, "tlm": []},
+            "refused": {
+                "number": 9,
+                "name": words.name,
+                "place": SECOND,
+                "counts_from": words.origin,
+                "file_offset": START + SECOND,
+                "wrong": words.wrong,
+                "remedy": words.remedy,
+            },
+        }
+        missing = {"file": "missing", "status": "unread", "error": about("missing", NOT_THERE).strip()}
+        self.hold("list --json", (status, found), (2, [accepted, refused, missing]))
+        _, out, _ = self.run("show", "--json", "a.jp2")
+        found = json.loads(out)
+        self.hold("show --json", found["grid"], {"columns": 3, "rows": 2, "tiles": 6})
+        tiles = {"present": 2, "missing": 4, "missing_ranges": [[1, 4]], "outside_ranges": []}
+        self.hold("show --json", found["tiles"], tiles)
+        ended = {"at": "EOC", "offset": 87, "file_offset": START + 87, "bytes": None, "unread": 0}
+        self.hold("show --json", found["scan_ended"], ended)
+        _, out, _ = self.run("show", "--json", "too-many.j2k")
+        self.hold("show --json", json.loads(out)["tiles"]["missing_ranges"], None)
+
+    def pictures(self):
+        def drawn(file):
+            status, out, error = self.run("grid", file, "-o", "-")
+            root = xml.fromstring(out) if status == 0 else None
+            return status, error, root, len(out)
+
+        texts = lambda root, kind: [each.text for each in root.iter() if kind in each.get("class", "").split()]
+        for file, parts in ("a.j2k", "100001"), ("twice.j2k", "200001"), ("whole.j2k", "111111"), ("outside.j2k", "010000"):
+            status, error, root, _ = drawn(file)
+            holes = len(texts(root, "s0")) - 1  # one in the legend
+            saw = status, error, "".join(texts(root, "parts")), holes
+            self.hold(f"grid {file}", saw, (0, "", parts, int("0" in parts)))
+        name = texts(drawn("<a&b>\n.j2k")[2], "name")
+        self.hold("a name in a picture", name, ["<a&b>\\x0a.j2k"])
+        status, error, root, size = drawn("many.j2k")
+        self.hold("tiles outside the grid", [each for each in texts(root, "warning") if "outside" in each][:1] != [], True)
+        # 255 by 257 tiles, every 100th a hole: no letters in them, and the file stays small
+        sizes = ((tile, 14 + tile % 977) for tile in range(65_535) if tile % 100)
+        parts = b"".join(part(tile, size) for tile, size in sizes)
+        (self.folder / "large.j2k").write_bytes(with_header(size_segment((255, 257), (1, 1)), parts=parts))
+        status, error, root, size = drawn("large.j2k")
+        self.hold("a large grid", (status, error, texts(root, "parts"), size < 4_000_000), (0, "", [], True))
+        (self.folder / "large.j2k").unlink()
+        many = "its grid has 65536 tiles, more than the 65535 that an index can name; nothing is drawn"
+        self.case(Case(["grid", "too-many.j2k", "-o", OUT], 1, error=about("too-many.j2k", many)))
+        none = "its tiles make no grid; nothing is drawn"
+        self.case(Case(["grid", "no-grid.j2k", "-o", OUT], 1, error=about("no-grid.j2k", none)))
+        short = "SIZ ends before its tiles; nothing is drawn"
+        self.case(Case(["grid", "siz-cut.j2k", "-o", OUT], 1, error=about("siz-cut.j2k", short)))
+
+    def not_read(self):
+        asked = {"list": [], "show": [], "tile": ["0", "-o", OUT], "grid": ["-o", OUT]}
+        for command, rest in asked.items():
+            for file in "missing", "missing/a.j2k":
+                out = "unread\n" if command == "list" else ""
+                self.cases([Case([command, file, *rest], 2, out, about(file, NOT_THERE))])
+            if command != "list":
+                self.cases([Case([command, "directory", *rest], 2, error=about("directory", A_DIRECTORY))])
+        endless = "more than 16 MiB come from what is no plain file: save it as a file first"
+        self.case(Case(["show", "/dev/zero"], 2, error=about("/dev/zero", endless)))
+        self.hold("a device that ends", self.run("list", "/dev/null")[:2], (1, "refused 11 0\n"))
+
+    def words(self):
+        few = [[], *([command] for command in COMMANDS), ["tile", "a.j2k"], ["grid", "a.j2k"]]
+        many = [["show", "a.j2k", "a.j2k"], ["tile", "a.j2k", "0", "1"], ["grid", "a.j2k", "a.j2k", "-o", OUT]]
+        unknown = [["part", "a.j2k"], ["LIST", "a.j2k"], [b"\xff", "a.j2k"], ["list", "--what", "a.j2k"]]
+        unknown += [["list", "-j", number, "a.j2k"] for number in ("0", "-1", "x", "65")] + [["completions", "sh"]]
+        for words in few + many + unknown:
+            status, out, error = self.run(*words)
+            self.hold(f"{words}", (status, out, "Usage" in error or "error" in error), (2, "", True))
+        for index in "x", "", "+5", "65536", "5.0", " 5", "5x", b"\xff", "99999999999999999999999", "\u0665":
+            status, out, error = self.run("tile", "a.j2k", index, "-o", OUT)
+            why = NOT_AN_INDEX in error or index in ("", b"\xff")
+            self.hold(f"INDEX {index}", (status, out, why, (self.folder / OUT).exists()), (2, "", True, False))
+        self.hold("--version", self.run("--version"), (0, "winterhasp 0.1.0\n", ""))
+        for words in [], *([command] for command in COMMANDS):
+            status, out, error = self.run(*words, "--help")
+            self.hold(f"{words} --help", (status, f"  winterhasp {words[0] if words else 'list'} " in out, error), (0, True, ""))
+        status, out, _ = self.run("completions", "bash")
+        judged = subprocess.run(["bash", "-n"], input=out.encode(), capture_output=True)
+        self.hold("completions bash", (status, judged.returncode, all(word in out for word in COMMANDS)), (0, 0, True))
+
+    def not_written(self):
+        places = ("directory", A_DIRECTORY), ("missing/out.j2k", NOT_THERE), ("/dev/full", DEVICE_FULL)
+        for words in ["tile", "a.j2k", "5"], ["grid", "a.j2k"]:
+            for out, why in places:
+                self.case(Case([*words, "-o", out], 2, error=about(out, why)))
+            for size in 0, 40, len(TILES[5]) - 1:
+                self.limited([*words, "-o", OUT], size)
+        self.hold("/dev/full is a device still", Path("/dev/full").is_char_device(), True)
+
+    def limited(self, words, size):
+        """No file may get larger than that: nothing is left."""
+        (self.folder / OUT).unlink(missing_ok=True)
         limit = lambda: resource.setrlimit(resource.RLIMIT_FSIZE, (size, size))
         # the signal for a file that gets too large stays ignored, as Python has it
         program = self.start(words, stderr=subprocess.PIPE, preexec_fn=limit, restore_signals=False)
         _, wrote = program.communicate()
-        saw = (program.returncode, wrote.decode(), (self.folder / OUT).exists())
-        self.hold(f"{words}, no file above {size} bytes", saw, (2, error, False))
+        left = [file.name for file in self.folder.iterdir() if file.name in (OUT,) or file.name.startswith(".")]
+        saw = program.returncode, wrote.decode(), left
+        self.hold(f"{words}, no file above {size} bytes", saw, (2, about(OUT, TOO_LARGE), []))
 
-    def closed(self, words, status, streams):
-        """Standard streams that aren't there, as `>&-` of a shell has it."""
-        shell = ["sh", "-c", f'exec "$0" "$@" {streams}', self.program, *words]
-        ended = subprocess.run(shell, cwd=self.folder, stdin=subprocess.DEVNULL)
-        self.hold(f"{words} {streams}", ended.returncode, status)
+    def streams(self):
+        """Standard output that is full, that nobody reads, and that is not there."""
+        full = f"winterhasp: standard output: {DEVICE_FULL}\n"
+        printing = [["list", "a.j2k"], ["list", "many.j2k"], ["list", "a.j2k", "a.jp2"], ["show", "a.j2k"], ["--help"]]
+        printing += [["list", "--json", "many.j2k"], ["tile", "a.j2k", "5", "-o", "-"], ["grid", "a.j2k", "-o", "-"]]
+        printing += [["completions", "bash"]]
+        for words in printing:
+            with open("/dev/full", "wb") as device:
+                program = self.start(words, stdout=device, stderr=subprocess.PIPE)
+                _, wrote = program.communicate()
+            self.hold(f"{words}, a full device", (program.returncode, wrote.decode()), (2, full))
+            reader, writer = os.pipe()
+            os.close(reader)
+            program = self.start(words, stdout=writer, stderr=subprocess.PIPE)
+            os.close(writer)
+            _, error = program.communicate()
+            self.hold(f"{words}, no reader", (program.returncode, error), (0, b""))
+        program = self.start(["list", "many.j2k"], stdout=subprocess.PIPE, stderr=subprocess.PIPE)
+        saw = os.read(program.stdout.fileno(), 7)
+        program.stdout.close()
+        error = program.stderr.read()
+        self.hold("the reader leaves", (program.wait(), saw, error), (0, b"codestr", b""))
+        for words, status, streams in (["list", "a.j2k"], 0, ">&-"), (["list", "missing"], 2, ">&- 2>&-"):
+            shell = ["sh", "-c", f'exec "$0" "$@" {streams}', self.program, *words]
+            ended = subprocess.run(shell, cwd=self.folder, stdin=subprocess.DEVNULL)
+            self.hold(f"{words} {streams}", ended.returncode, status)
 
-    def all(self):
-        for group in accepted, refused, not_read, wrong_words, not_written:
-            for case in group():
-                self.case(case)
-                if case.words[:1] == ["tile"]:
-                    self.case(case, KEPT)
-        error = f"winterhasp: standard output: {DEVICE_FULL}\n"
-        for command in ["extent", *READERS]:
-            for file in "a.j2k", "many.j2k":
-                self.full_device([command, file], 2, error)
-                self.no_reader([command, file])
-            self.closed([command, "a.j2k"], 0, ">&-")
-            self.closed([command, "missing"], 2, ">&- 2>&-")
-        self.reader_leaves(["parts", "many.j2k"], lines(MANY_LISTED)[:7].encode())
-        # nothing is printed there
-        self.full_device(["tile", "a.j2k", "5", OUT], 0, "")
-        self.full_device(["parts", "missing"], 2, trouble("missing", NOT_THERE))
-        self.no_reader(["tile", "a.j2k", "5", OUT])
-        for size in 0, 40, len(TILES[5]) - 1:
-            self.limited(["tile", "a.j2k", "5", OUT], size, trouble(OUT, TOO_LARGE))
+    def damaged(self):
+        """Each byte of sample A, bare and in a JP2, changed in three ways, and each length cut: a status of 0 or 1, the listing
+        program's lines, and no panic, which would be a status of 101."""
+        folder = self.folder / "damaged"
+        folder.mkdir()
+        contents = {}
+        for kind, whole in ("j2k", SAMPLE), ("jp2", jp2(SAMPLE)):
+            for at, byte in enumerate(whole):
+                contents[f"cut{at:03}.{kind}"] = whole[:at]
+                for way, other in ("not", byte ^ 0xFF), ("one", byte ^ 1), ("zero", 0):
+                    contents[f"{way}{at:03}.{kind}"] = whole[:at] + bytes([other]) + whole[at + 1 :]
+        for name, content in contents.items():
+            (folder / name).write_bytes(content)
+        status, out, error = self.run("list", "damaged")
+        blocks = self.blocks(out)
+        self.hold("list damaged", (status, "panicked" in error, list(blocks)), (1, False, [f"damaged/{name}" for name in sorted(contents)]))
+        with concurrent.futures.ThreadPoolExecutor(WORKERS) as workers:
+            told = workers.map(self.listing, contents.values())
+            for name, lines in zip(contents, told):
+                self.hold(f"list {name}", blocks.get(f"damaged/{name}"), lines)
+            asked = [
+                words
+                for name in contents
+                if name.startswith("not")
+                for file in [f"damaged/{name}"]
+                for words in (["show", file], ["tile", file, "5", "-o", "-"], ["grid", file, "-o", "-"])
+            ]
+            quiet = lambda words: subprocess.run([self.program, *words], cwd=self.folder, capture_output=True)
+            for words, ended in zip(asked, workers.map(quiet, asked)):
+                saw = ended.returncode in (0, 1), b"panicked" in ended.stderr
+                self.hold(f"{words}, status {ended.returncode}", saw, (True, False))
+        shutil.rmtree(folder)
+
+    def blocks(self, out):
+        """What is listed below each `file NAME`."""
+        found = {}
+        for line in out.splitlines(keepends=True):
+            if line.startswith("file "):
+                name = line[5:].rstrip("\n")
+                found[name] = ""
+            else:
+                found[name] += line
+        return found
+
+    def folders(self):
+        """1,000 files, some of them in a folder below, and some refused."""
+        folder = self.folder / "flights"
+        (folder / "m").mkdir(parents=True)
+        lines = {}
+        refused = 0
+        for number in range(1_000):
+            name = f"m/{number:04}.jp2" if number % 10 == 3 else f"{number:04}.j2k"
+            sizes = [14 + number % 50] * (1 + number % 7)
+            header, content = codestream([], sizes)
+            told = listing(0, len(content), len(header), len(header), [], rows(len(header), sizes))
+            if number % 100 == 7:
+                content, told = b"\0\0" + content, "refused 12 0\n"
+                refused += 1
+            elif name.endswith("jp2"):
+                told = told.replace("codestream 0 ", f"codestream {START} ")
+                content = jp2(content)
+            (folder / name).write_bytes(content)
+            lines[f"flights/{name}"] = told
+        os.mkfifo(folder / "pipe")
+        os.symlink("..", folder / "loop")
+        wanted = "".join(f"file {name}\n{lines[name]}" for name in sorted(lines))
+        summary = f"winterhasp: 1000 files: {1_000 - refused} accepted, {refused} refused, 0 not read\n"
+        for jobs in [], ["-j", "1"], ["-j", "7"], ["--jobs", "64"]:
+            status, out, error = self.run("list", *jobs, "flights")
+            self.hold(f"list {jobs} flights", (status, out, error.count("\n"), error.endswith(summary)), (1, wanted, refused + 1, True))
+        status, out, _ = self.run("list", "--json", "flights")
+        found = [json.loads(line) for line in out.splitlines()]
+        self.hold("list --json flights", (status, [each["file"] for each in found]), (1, sorted(lines)))
+        # a file that can't be read is a line too, and not the end
+        first = sorted(lines)[0]
+        status, out, error = self.run("list", first, "missing", first)
+        told = f"file {first}\n{lines[first]}file missing\nunread\nfile {first}\n{lines[first]}"
+        said = about("missing", NOT_THERE) + "winterhasp: 3 files: 2 accepted, 0 refused, 1 not read\n"
+        self.hold("list with a missing one", (status, out, error), (2, told, said))
+        (self.folder / "empty").mkdir()
+        empty = "winterhasp: 0 files: 0 accepted, 0 refused, 0 not read\n"
+        self.hold("list empty", self.run("list", "empty"), (0, "", empty))
+        shutil.rmtree(folder)
+
+    def large(self):
+        """Sparse files over 16 MB, 3 GB and 4 GiB, in little memory and time, emulator and all."""
+        giga = 1 << 30
+        for name, sizes in ("16m.j2k", [20 << 20, 14]), ("3g.j2k", [giga * 3 // 2] * 2), ("6g.j2k", [3 * giga, 3 * giga - 1, 40]):
+            path = self.folder / name
+            written = {at: part(tile, 14)[:6] + struct.pack(">I", size) + bytes(2) for tile, at, size in rows(len(HEADER), sizes)}
+            end = len(HEADER) + sum(sizes)
+            with open(path, "wb") as file:
+                for at, piece in ({0: HEADER} | written | {end: EOC}).items():
+                    file.seek(at)
+                    file.write(piece)
+            told = listing(0, end + 2, len(HEADER), len(HEADER), [], rows(len(HEADER), sizes))
+            before = time.monotonic()
+            saw, memory = self.measured(["list", name])
+            took = time.monotonic() - before
+            self.hold(f"list {name}", (saw, memory < 128 << 20, took < 5), ((0, told, ""), True, True))
+            print(f"command: list {name}: {memory >> 20} MiB, {took:.2f} s")
+            last = len(sizes) - 1
+            (_, at, size) = rows(len(HEADER), sizes)[-1]
+            if size < 1 << 20:
+                saw, memory = self.measured(["tile", name, str(last), "-o", OUT])
+                piece = written[at][:4] + bytes(2) + written[at][6:] + bytes(size - 12)
+                # tile 2 lies at the edge
+                header = HEADER if last == 1 else SOC + size_segment((2, 4), (2, 4))
+                self.hold(f"tile {name}", (saw[0], (self.folder / OUT).read_bytes()), (0, header + piece + EOC))
+                self.hold(f"tile {name}, memory", memory < 128 << 20, True)
+            self.hold(f"show {name}", f"tile-parts  {len(sizes)}, {sum(sizes)} bytes" in self.run("show", name)[1], True)
+            path.unlink()
+
+    def measured(self, words):
+        """Status and streams, and the most memory that was held."""
+        measure = [sys.executable, "-c", MEASURED, self.program, *words]
+        ended = subprocess.run(measure, cwd=self.folder, stdin=subprocess.DEVNULL, capture_output=True)
+        memory = self.folder / "memory"
+        kilobytes = int(memory.read_text())
+        memory.unlink()
+        return (ended.returncode, ended.stdout.decode(), ended.stderr.decode()), kilobytes << 10
+
+    def shrinking(self):
+        """A file that is cut while it is mapped: told as such, and the files behind it are listed all the same."""
+        sample = listing(0, 89, 57, 45, SAMPLE_LISTED, SAMPLE_LISTED)
+        count = 6_000_000
+        wanted = {
+            "list": (2, f"file shrinks.j2k\nunread\nfile a.j2k\n{sample}"),
+            "show": (2, ""),
+            "tile": (2, ""),
+        }
+        for words in ["list", "shrinks.j2k", "a.j2k"], ["show", "shrinks.j2k"], ["tile", "shrinks.j2k", "0", "-o", OUT]:
+            path = self.folder / "shrinks.j2k"
+            path.write_bytes(HEADER + part(0, 14) * count + EOC)
+            program = self.start(words, stdout=subprocess.PIPE, stderr=subprocess.PIPE)
+            while program.poll() is None and path.name not in self.maps(program):
+                pass
+            os.truncate(path, 4_096)
+            out, error = (stream.decode() for stream in program.communicate())
+            saw = program.returncode, out, error.startswith(about(path.name, CHANGED))
+            self.hold(f"{words}, the file shrinks", saw, (*wanted[words[0]], True))
+            path.unlink()
+
+    def maps(self, program):
+        try:
+            return Path(f"/proc/{program.pid}/maps").read_text()
+        except OSError:
+            return ""
+
+    def encoders(self):
+        """Files of OpenJPEG and of Grok."""
+        width, height = 130, 100
+        slope = bytes(x * 3 + y * 5 + colour * 40 & 255 for y in range(height) for x in range(width) for colour in range(3))
+        (self.folder / "image.ppm").write_bytes(f"P6\n{width} {height}\n255\n".encode() + slope)
+        ways = [
+            ("opj_compress", "opj.j2k", ["-t", "64,64", "-n", "4"], 6),
+            ("opj_compress", "opj.jp2", ["-t", "32,32", "-n", "3", "-TP", "R", "-TLM"], 20),
+            ("opj_compress", "opj1.jp2", [], 1),
+            ("grk_compress", "grk.j2k", ["-t", "64,64", "-n", "4"], 6),
+            ("grk_compress", "grk.jp2", ["-t", "32,32", "-n", "3", "-u", "R", "-X"], 20),
+            ("grk_compress", "grk1.jp2", ["-n", "5"], 1),
+        ]
+        for tool, name, options, tiles in ways:
+            made = subprocess.run([tool, "-i", "image.ppm", "-o", name, *options], cwd=self.folder, capture_output=True)
+            path = self.folder / name
+            if made.returncode or not path.exists():
+                self.hold(f"{tool} {options}", made.returncode, 0)
+                continue
+            status, out, error = self.run("list", name)
+            self.hold(f"list {name}", (status, out, error), (0, self.listing(path.read_bytes()), ""))
+            found = json.loads(self.run("show", "--json", name)[1])
+            saw = [found["image"]["width"], found["image"]["height"], found["components"]["count"], found["grid"]["tiles"]]
+            self.hold(f"show {name}", saw, [width, height, 3, tiles])
+            whole = found["tiles"]["missing"], found["scan_ended"]["at"], found["scan_ended"]["unread"]
+            self.hold(f"show {name}, its end", whole, (0, "EOC", 0))
+            listed = {int(line.split()[1]) for line in out.splitlines() if line.startswith("part ")}
+            self.hold(f"list {name}, its tiles", listed, set(range(tiles)))
+            status, out, _ = self.run("grid", name, "-o", "-")
+            self.hold(f"grid {name}", (status, xml.fromstring(out).tag.endswith("svg")), (0, True))
+            self.hold(f"tile {name}", self.run("tile", name, str(tiles - 1), "-o", OUT)[0], 0)
+            again = self.run("show", "--json", OUT)[1]
+            self.hold(f"show the tile of {name}", json.loads(again)["scan_ended"]["at"], "EOC")
+            decoded = subprocess.run(["opj_decompress", "-i", OUT, "-o", "tile.ppm", "-t", "0"], cwd=self.folder, capture_output=True)
+            self.hold(f"the tile of {name}, decoded", decoded.returncode, 0)
+
+
+GROUPS = [
+    Runs.accepted, Runs.refused, Runs.tiles, Runs.never_over_the_input, Runs.machines, Runs.pictures, Runs.not_read, Runs.words,
+    Runs.not_written, Runs.streams, Runs.damaged, Runs.folders, Runs.large, Runs.shrinking, Runs.encoders,
+]  # fmt: skip
+
+
+def install():
+    """Whether the encoders are there."""
+    if all(map(shutil.which, ["opj_compress", "grk_compress"])):
+        return True
+    for words in "update -q", "install -y -q --no-install-recommends libopenjp2-tools grokj2k-tools":
+        if subprocess.run(["apt-get", *words.split()]).returncode:
+            return False
+    return True
 
 
 def main():
     arguments = argparse.ArgumentParser(description=__doc__.splitlines()[0])
-    arguments.add_argument("--bin", default=ROOT / "rust/target/release")
-    program = Path(arguments.parse_args().bin).resolve() / "winterhasp"
-    if not program.exists():
-        print(f"{program} is not there: cargo build --release in rust/", file=sys.stderr)
+    arguments.add_argument("--bin", default=ROOT / "rust/cli/target/release")
+    arguments.add_argument("names", nargs="*")
+    chosen = arguments.parse_args()
+    program = Path(chosen.bin).resolve() / "winterhasp"
+    for needed, how in (program, "cargo build --release in rust/cli/"), (LISTING, "rt check tileparts"):
+        if not needed.exists():
+            print(f"{needed} is not there: {how}", file=sys.stderr)
+            return 2
+    if not install():
+        print("command: libopenjp2-tools and grokj2k-tools can't be installed", file=sys.stderr)
         return 2
     with tempfile.TemporaryDirectory() as name:
         folder = Path(name)
@@ -342,8 +795,12 @@ def main():
             (folder / os.fsdecode(file)).write_bytes(content)
         (folder / "directory").mkdir()
         runs = Runs(program, folder)
-        runs.all()
-    print(f"command: {runs.count} runs, {runs.differed} differed")
+        for group in GROUPS:
+            if not chosen.names or group.__name__ in chosen.names:
+                before = time.monotonic()
+                group(runs)
+                print(f"command: {group.__name__}: {time.monotonic() - before:.1f} s")
+    print(f"command: {runs.count} held, {runs.differed} differed")
     return int(runs.differed > 0 or runs.count == 0)
 
 

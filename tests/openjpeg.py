@@ -2,7 +2,7 @@
 """Our tile-parts and tiles beside OpenJPEG's: tests/openjpeg.py [--seconds N] [--bin DIR]
 
 Makes small images, compresses them by opj_compress over a grid of options, and for each file holds
-  the tile-parts that `winterhasp parts` lists to those that OpenJPEG meets as it decodes, and
+  the tile-parts that `winterhasp list` lists to those that OpenJPEG meets as it decodes, and
   each tile that `winterhasp tile` cuts, decoded, to the crop of the whole picture, decoded.
 A tile is moved to the origin as it is cut. Where image and tile origin are 0 and tile sides and
 subsampling are powers of two, a side at least 2^levels times the subsampling, every tile has to be
@@ -23,7 +23,7 @@ import subprocess
 import sys
 import tempfile
 import time
-from collections import Counter
+from collections import Counter, defaultdict
 from concurrent.futures import ThreadPoolExecutor
 from pathlib import Path
 from typing import NamedTuple
@@ -449,8 +449,9 @@ class Run:
             shutil.rmtree(folder)
 
     def compared(self, path, grid, name):
-        (start, length), *_ = [*self.numbers("codestream", path), (0, 0)]
-        parts = [(tile, start + at, size) for tile, at, size in self.numbers("parts", path)]
+        listed = self.listed(path)
+        (start, length), *_ = [*listed["codestream"], (0, 0)]
+        parts = [(tile, start + at, size) for tile, at, size in listed["part"]]
         if self.library.index(path) != (start, parts):
             return Seen.without_tiles(LISTS_DIFFER, name)
         # As a bare codestream, since a JP2's colours may be converted.
@@ -474,13 +475,15 @@ class Run:
                 seen.troubles.append(f"tile {tile} {shown}: {name}")
         return seen
 
-    def numbers(self, command, path):
-        """Those of each line that is printed; no line if it is refused."""
-        lines = (told([self.winterhasp, command, path]) or b"").splitlines()
-        return [tuple(map(int, line.split())) for line in lines]
+    def listed(self, path):
+        """The numbers of each line, under the line's word; no line if the file is refused."""
+        found = defaultdict(list)
+        for word, *numbers in map(bytes.split, (told([self.winterhasp, "list", path]) or b"").splitlines()):
+            found[word.decode()].append(tuple(map(int, numbers)))
+        return found
 
     def outcome(self, path, tile, cut, expected):
-        if told([self.winterhasp, "tile", path, tile, cut]) is None:
+        if told([self.winterhasp, "tile", path, tile, "-o", cut]) is None:
             return "not cut"
         if TLM_MARKER in markers(cut.read_bytes()):
             return "cut with TLM"
@@ -535,10 +538,10 @@ def binary(folder):
     """The command line, if it has all that is asked of it."""
     path = Path(folder).resolve() / "winterhasp"
     if not path.exists():
-        give_up(f"no {path}; build it by cargo build --release in rust/")
-    usage = subprocess.run([path], capture_output=True, text=True).stderr
-    for command in ["codestream", "parts", "tile"]:
-        if f"winterhasp {command} " not in usage:
+        give_up(f"no {path}; build it by cargo build --release in rust/cli/")
+    help_text = subprocess.run([path, "--help"], capture_output=True, text=True).stdout
+    for command in ["list", "tile"]:
+        if f"winterhasp {command} " not in help_text:
             give_up(f"{path} has no command {command}")
     return path
 
@@ -546,7 +549,7 @@ def binary(folder):
 def main():
     arguments = argparse.ArgumentParser(description=__doc__.splitlines()[0])
     arguments.add_argument("--seconds", type=float, default=100)
-    arguments.add_argument("--bin", default=ROOT / "rust/target/release")
+    arguments.add_argument("--bin", default=ROOT / "rust/cli/target/release")
     chosen = arguments.parse_args()
     program = binary(chosen.bin)
     install()
