@@ -13,6 +13,7 @@ mod scan;
 mod search;
 mod siz;
 mod split;
+mod whole;
 
 use crate::bench::Benchmark;
 use crate::cases::Kind;
@@ -42,6 +43,7 @@ pub const BENCHMARKS: &[Benchmark] = &[
     search::BENCHMARK,
     siz::BENCHMARK,
     growth::BENCHMARK,
+    whole::BENCHMARK,
 ];
 
 /// In the order of the replay list.
