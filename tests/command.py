@@ -63,7 +63,7 @@ def sentence(number, place, start=0):
     """A refusal in words, of a file whose codestream starts there."""
     words = WORDS[number]
     in_file = f", byte {start + place} of the file" if words.origin == "codestream" else ""
-    return f"{words.wrong}, at byte {place} of the {words.origin} (refusal {number}){in_file}; {words.remedy}"
+    return f"{words.wrong}, at byte {place} of the {words.origin}{in_file} (refusal {number}); {words.remedy}"
 
 
 # Files

@@ -115,11 +115,12 @@ fn remedy(refusal: Refusal) -> &'static str {
 
 /// What is wrong and where, also in the file, and what to do.
 pub fn sentence(refusal: Refusal, start: Option<FileOffset>) -> String {
-    let place = match refusal.origin() {
-        Origin::Codestream => in_file(refusal, start),
-        Origin::File | Origin::Needed => None,
+    let words = match (refusal.origin(), in_file(refusal, start)) {
+        (Origin::Codestream, Some(in_file)) => {
+            let (wrong, number, place) = (refusal.wrong(), refusal.number(), refusal.place());
+            format!("{wrong}, at byte {place} of the codestream, byte {in_file} of the file (refusal {number})")
+        }
+        _ => refusal.to_string(),
     };
-    let place = place.map(|place| format!(", byte {place} of the file"));
-    let remedy = remedy(refusal);
-    format!("{refusal}{}; {remedy}", place.unwrap_or_default())
+    format!("{words}; {}", remedy(refusal))
 }
