@@ -27,13 +27,10 @@ use Rattle.header.specs.declared.walk.WalkStep.{WalkStep}
 use Rattle.header.specs.declared.walk.WalkStep.the-variants.{Passed}
 use Rattle.numbers.proofs.Choice.{by-test}
 use Rattle.header.proofs.StepLaws.{Told, step-told, step-sot, step-delimiter, step-segment}
-use Rattle.header.proofs.WalkLaws.{walk-segment, walk-delimiter, pass-other}
+use Rattle.header.proofs.WalkLaws.{not-true-false, walk-segment, walk-delimiter, pass-other}
 use Rattle.header.proofs.WalkVisited.{length-visited}
 use Rattle.laws.specs.Demand3.{AllBytes}
 use Rattle.header.specs.declared.tlm.Tlm.the-variants as tlm
-
-pub true-false : true ≡ false → ⊥
-true-false e = let z : _≡_ {A = ℕ} 0 1 = cc in omega arith
 
 -- ---- what the walk has read where it goes on, and where it ends
 
@@ -121,7 +118,7 @@ module _ (s : List ℕ) (at next : ℕ) (a : List ℕ) (to : ℕ) where
   unfolding segmentEnd
   step-again (delimiter d n) other same read inside =
       let here : next - at ≡ 2 = omega arith in
-      let sot : be 2 a to ≡ SOT → ⊥ = λ e. true-false (sym d ∙ ap delimits (sym same ∙ e) ∙ sot-no-delimiter) in
+      let sot : be 2 a to ≡ SOT → ⊥ = λ e. not-true-false (sym d ∙ ap delimits (sym same ∙ e) ∙ sot-no-delimiter) in
       walk-delimiter a to (to + (next - at)) (step-delimiter a to (omega arith) sot (ap delimits same ∙ d) ∙ ap (λ (k : ℕ). Delimiter (to + k)) (sym here))
       ∙ pass-other a to (to + (next - at)) (λ e. other (sym same ∙ e))
   step-again (segment sot d room n) other same read inside =

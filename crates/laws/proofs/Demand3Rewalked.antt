@@ -18,7 +18,7 @@ use Rattle.header.specs.Walk.{walkStepAt, WalkEnd, firstSot, walkAt, walkFrom}
 use Rattle.header.specs.Strip.{kept, decodeHeader}
 use Rattle.header.specs.declared.walk.WalkStep.the-variants.{Passed}
 use Rattle.header.proofs.StepLaws.{step-sot}
-use Rattle.header.proofs.WalkLaws.{walk-sot, walk-found, walk-rises}
+use Rattle.header.proofs.WalkLaws.{not-true-false, walk-sot, walk-found, walk-rises}
 use Rattle.header.proofs.WalkVisited.{stopped-on, ended-on, length-visited}
 use Rattle.tile.specs.Siz.{oneTile}
 use Rattle.tile.specs.Rewrite.{cutTo}
@@ -26,7 +26,7 @@ use Rattle.tile.specs.declared.rewrite.TileSize.{TileSize}
 use Rattle.tile.specs.declared.rewrite.TileSize.the-variants.{Whole, Cut, Refused}
 use Rattle.tile.proofs.RewriteHeader.{length-one}
 use Rattle.laws.specs.Demand3.{AllBytes}
-use Rattle.laws.proofs.Demand3Items.{true-false, Item, delimiter, segment, item, item-long, ends-sot, step-again, kept-tlm, kept-other, by-tlm, piece, field, pass-again}
+use Rattle.laws.proofs.Demand3Items.{Item, delimiter, segment, item, item-long, ends-sot, step-again, kept-tlm, kept-other, by-tlm, piece, field, pass-again}
 
 -- ---- the walk over what is kept
 
@@ -112,7 +112,7 @@ siz-no-delimiter = refl
 -- the SIZ segment ends where Lsiz says
 siz-ends : (s : List ℕ) (next : ℕ) → be 2 s 2 ≡ SIZ → Item s 2 next → next ≡ 4 + be 2 s 4
 unfolding segmentEnd
-siz-ends s next m (delimiter d n) = absurd (true-false (sym d ∙ ap delimits m ∙ siz-no-delimiter))
+siz-ends s next m (delimiter d n) = absurd (not-true-false (sym d ∙ ap delimits m ∙ siz-no-delimiter))
 siz-ends s next m (segment sot d room n) = omega arith
 
 front-is : (s : List ℕ) (next : ℕ) → 2 ≤ next → take 2 s ++ piece s 2 next ≡ take next s
