@@ -25,12 +25,11 @@ pub struct Component {
     pub apart: [u8; 2],
 }
 
+/// It counts from its own two bytes on.
 const LSIZ: usize = 4;
 const SIZES: usize = 8;
 const CSIZ: usize = 40;
 const COMPONENTS: usize = 42;
-/// Lsiz counts from its own two bytes on.
-const LSIZ_AT: usize = 4;
 
 /// Tiles that Isot can name, by the standard.
 pub const MOST_TILES: u64 = 65_535;
@@ -44,7 +43,7 @@ impl Siz {
         }
         let [x, y, x_origin, y_origin, tile_x, tile_y, tile_x_origin, tile_y_origin] = fields;
         let count = u16::from_be_bytes(array(header, CSIZ)?);
-        let end = LSIZ_AT + usize::from(u16::from_be_bytes(array(header, LSIZ)?));
+        let end = LSIZ + usize::from(u16::from_be_bytes(array(header, LSIZ)?));
         let described = header.get(COMPONENTS..end.min(header.len()));
         let (whole, _) = described.unwrap_or_default().as_chunks();
         Some(Siz {

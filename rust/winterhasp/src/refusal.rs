@@ -195,7 +195,7 @@ const REFUSALS: &[Words] = &[
         name: "LISTING_TOO_LONG",
         wrong: "the file is too long for the listing program",
         origin: Origin::File,
-        remedy: "use the command line, which takes longer files",
+        remedy: "use the command winterhasp, which takes longer files",
     },
 ];
 

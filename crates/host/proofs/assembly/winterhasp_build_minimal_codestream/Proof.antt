@@ -1,5 +1,7 @@
 -- What the callees say of answer and lent memory is what is promised.
+use mathlib.Core.Path.{ap, _∙_}
 use borrow.Author.Needs.{needs}
+use Rattle.host.specs.Rewrite.{writtenNumber, writtenValue}
 use Rattle.host.proofs.assembly.winterhasp_build_minimal_codestream.Statement.{statement}
 use Rattle.host.proofs.assembly.winterhasp_build_minimal_codestream.Tie as tie
 
@@ -13,7 +15,10 @@ same-length : tie.Need-same-length
 same-length c = search needs
 
 returns : tie.Need-returns
-returns c = (cc, (cc, cc))
+returns c =
+    let p = c .before .before .before .before .build-minimal-codestream .ensures in
+    let t = c .tell-written .ensures in
+    (t .0 ∙ ap writtenNumber (p .0), (t .1 ∙ ap writtenValue (p .0), p .1))
 
 pub winterhasp-build-minimal-codestream-spec : {M : Type 1} → statement M
 winterhasp-build-minimal-codestream-spec =

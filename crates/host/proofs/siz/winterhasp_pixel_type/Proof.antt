@@ -1,5 +1,7 @@
 -- What the callees say is what is promised.
+use mathlib.Core.Path.{ap, _∙_}
 use borrow.Author.Needs.{needs}
+use Rattle.reader.specs.Siz.{sampleNumber}
 use Rattle.host.proofs.siz.winterhasp_pixel_type.Statement.{statement}
 use Rattle.host.proofs.siz.winterhasp_pixel_type.Tie as tie
 
@@ -10,7 +12,7 @@ type-number-requires : tie.Need-type-number-requires
 type-number-requires c κs = search needs
 
 returns : tie.Need-returns
-returns c = cc
+returns c = c .type-number .ensures ∙ ap sampleNumber (c .before .pixel-type-from-siz .ensures)
 
 pub winterhasp-pixel-type-spec : {M : Type 1} → statement M
 winterhasp-pixel-type-spec =

@@ -1,5 +1,9 @@
 -- What the callees say of part, answer and lent memory is what is promised.
+use mathlib.Core.Path.{ap, _∙_}
 use borrow.Author.Needs.{needs}
+use lib.ListN.{length}
+use denote.Ref.{now}
+use Rattle.parts.specs.Split.{partNumber, partOut}
 use Rattle.host.proofs.split.winterhasp_split_at.Statement.{statement}
 use Rattle.host.proofs.split.winterhasp_split_at.Tie as tie
 
@@ -13,7 +17,11 @@ same-length : tie.Need-same-length
 same-length c = search needs
 
 returns : tie.Need-returns
-returns c = (cc, (cc, cc))
+returns c =
+    let p = c .before .before .before .before .before .split-at .ensures in
+    let t = c .before .before .tell .ensures in
+    let out = now (c .before .before .before .before .before .before .before .before .args .out) in
+    (t .0 ∙ ap (λ x. partNumber x (length out)) p, (t .1 .0 ∙ ap length p, t .1 .1 ∙ ap (λ x. partOut x out) p))
 
 pub winterhasp-split-at-spec : {M : Type 1} → statement M
 winterhasp-split-at-spec =
