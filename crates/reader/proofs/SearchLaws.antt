@@ -1,17 +1,15 @@
 -- The codestream search's definitions, opened once: a law for each case, that its step goes forward, that what is found lies in the file,
 -- and the answer by what the step finds.
-use Prim.Native.Nat.{ℕ, suc, _+_, _-_, _^_, _≤_, _<_, min}
-use native.Mathlib.Nat.{add-zero, add-suc}
+use Prim.Native.Nat.{ℕ, _+_, _-_, _^_, _≤_, _<_, min}
 use native.Mathlib.Omega.{arith}
-use mathlib.Core.Path.{_≡_, refl, sym, ap, _∙_}
+use mathlib.Core.Path.{_≡_, refl, ap, _∙_}
 use mathlib.Core.Bool.{Bool, true, false}
-use mathlib.Core.List.{List, [], _∷_}
+use mathlib.Core.List.{List, []}
 use lib.ListN.{length, getD, take, drop}
-use lib.Seq.{drop-cons}
 use lib.Dec.{leb, ltb, eqb}
 use borrow.Author.Tests.{le-leb, lt-leb, lt-ltb, le-ltb, eq-eqb, ne-eqb, leb-true, eqb-true, eqb-false}
 use Rattle.numbers.specs.Bytes.{be}
-use Rattle.numbers.proofs.BytesLaws.{be-join, be-bound, be-part}
+use Rattle.numbers.proofs.BytesLaws.{be-join, be-bound}
 use Rattle.types.specs.Markers.{SOC}
 use Rattle.types.specs.Refusals.{refusal}
 use Rattle.types.specs.declared.Refusal.{Refusal}
@@ -213,24 +211,3 @@ module _ (s : List ℕ) where
   pub content-none : (why : Refusal) → foundIn s ≡ Refused why → contentOf s ≡ []
   unfolding contentOf partOf
   content-none why e = ap (partOf s) e
-
--- ---- bytes one after the other
-
-one-of : (s : List ℕ) (at n k : ℕ) → at + k < length s → getD s (at + k) 0 ∷ take n (drop (at + suc k) s) ≡ take (suc n) (drop (at + k) s)
-one-of s at n k h = rw (add-suc at k, drop-cons s (at + k) 0 h)
-
-pub eight-of : (s : List ℕ) (at : ℕ) → at + 8 ≤ length s
-    → _≡_ {A = List ℕ}
-    (getD s at 0 ∷ getD s (at + 1) 0 ∷ getD s (at + 2) 0 ∷ getD s (at + 3) 0 ∷ getD s (at + 4) 0 ∷ getD s (at + 5) 0 ∷ getD s (at + 6) 0 ∷ getD s (at + 7) 0 ∷ [])
-    (take 8 (drop at s))
-eight-of s at h =
-    let one : (n k : ℕ) → k < 8 → take (suc n) (drop (at + k) s) ≡ getD s (at + k) 0 ∷ take n (drop (at + suc k) s) = λ n k m. sym (one-of s at n k (omega arith)) in
-    sym (ap (λ (i : ℕ). take 8 (drop i s)) (sym (add-zero at))
-    ∙ rw (one 7 0 (omega arith), one 6 1 (omega arith), one 5 2 (omega arith), one 4 3 (omega arith), one 3 4 (omega arith), one 2 5 (omega arith), one 1 6 (omega arith), one 0 7 (omega arith), add-zero))
-
--- what is read of eight bytes that were copied out
-pub copied : (k : ℕ) (s out : List ℕ) (from i : ℕ) → out ≡ take 8 (drop from s) → i + k ≤ 8 → be k out i ≡ be k s (from + i)
-copied k s out from i e h = rw e (be-part k s from 8 i h)
-
-pub copied-first : (k : ℕ) (s out : List ℕ) (from : ℕ) → out ≡ take 8 (drop from s) → k ≤ 8 → be k out 0 ≡ be k s from
-copied-first k s out from e h = copied k s out from 0 e (omega arith) ∙ ap (be k s) (add-zero from)

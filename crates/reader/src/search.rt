@@ -1,8 +1,6 @@
 // Where a file holds its codestream: in the first jp2c box, or from the start on (docs/RULES.md, "Codestream search").
 // Boxes are those of ISO/IEC 15444-1, annex I.4.
 ghost use mathlib.Core.Path.{_≡_};
-ghost use Prim.Native.Nat.{_+_, _≤_};
-ghost use lib.ListN.{length, take, drop};
 ghost use Rattle.types.specs.Refusals.{refusal};
 ghost use Rattle.reader.specs.Search.{boxAt, isJp2, content, passed, moveOf, moveAt, foundFrom, foundIn, contentOf};
 use types::CodestreamOffset;
@@ -48,23 +46,6 @@ fn refuse(number: u32, place: u64) -> Found
     Found::Refused(Refusal { number, place })
 }
 
-// Eight bytes of a file, copied out.
-fn copy_out(file: &[u8], at: usize) -> [u8; 8]
-    requires { ⌜ at + 8 ≤ length (now file) ⌝ }
-    ensures { λ r. ⌜ r ≡ take 8 (drop at (now (file .entry))) ⌝ }
-{
-    [
-        file[at],
-        file[at + 1],
-        file[at + 2],
-        file[at + 3],
-        file[at + 4],
-        file[at + 5],
-        file[at + 6],
-        file[at + 7],
-    ]
-}
-
 pub fn box_at(file: &[u8], at: usize) -> BoxRead
     ensures { λ r. ⌜ r ≡ boxAt (now (file .entry)) at ⌝ }
 {
@@ -72,15 +53,13 @@ pub fn box_at(file: &[u8], at: usize) -> BoxRead
     if left < 8 {
         return BoxRead::End;
     }
-    let front = copy_out(file, at);
-    let length = numbers::read_u32(&front, 0);
-    let kind = numbers::read_u32(&front, 4);
+    let length = numbers::read_u32(file, at);
+    let kind = numbers::read_u32(file, at + 4);
     if length == 1 {
         if left < 16 {
             return BoxRead::CutShort;
         }
-        let extended = copy_out(file, at + 8);
-        let length = numbers::read_u64(&extended, 0);
+        let length = numbers::read_u64(file, at + 8);
         return BoxRead::Box(BoxHeader {
             kind,
             header: 16,
