@@ -13,7 +13,8 @@ use Rattle.parts.specs.Scan.{eocAt, sotStepAt, scanStepAt, scanFrom, entriesFro
 use Rattle.parts.specs.Split.{partEnd, splitStepAt, splitFrom, partsFrom, partsOf}
 use Rattle.parts.specs.Tiles.{ofTile}
 use Rattle.tile.specs.Siz.{pair, oneTile}
-use Rattle.tile.specs.Rewrite.{fitting, less, axisOf, columnsOf, sized, bothAxes, inGrid, sizeIn, tileSize, cutTo, rewritten, over, rewriteAnswer, rewriteOut}
+use Rattle.tile.specs.Rules.{fitting, reaching, axisOf, columnsOf, bothAxes, inGrid, tileArea}
+use Rattle.tile.specs.Rewrite.{sized, sizeOf, sizeIn, tileSize, cutTo, rewritten, over, rewriteAnswer, rewriteOut}
 use Rattle.tile.specs.Assembly.{rows, rangesFrom, ranges, rangeOf, andPart, partsIn, isSot, patched, partSize, sizeFor, joined, assembled, answerFor, assemblyAnswer, assemblyOut}
 use Rattle.reader.specs.Search.{boxAt, content, passed, onBox, foundFrom, isJp2, foundIn}
 use Rattle.laws.specs.Sample.{two, four, siz, header, tlm, sot, part, head, withTlm, A, signature, jp2c}
@@ -44,7 +45,7 @@ unfolding samples partEnd splitStepAt split.moveOf split.moveAt splitFrom partsF
 split-runs = tt
 
 unfoldable pub tiles : Unit {0}
-unfolding samples pair oneTile ceilDiv fitting less axisOf columnsOf sized bothAxes inGrid sizeIn tileSize cutTo rewritten rewrite.withRoom rewrite.judged over rewriteAnswer rewriteOut rows rangesFrom ranges rangeOf andPart partsIn isSot patched partSize sizeFor joined assembled answerFor assemblyAnswer assemblyOut
+unfolding samples pair oneTile ceilDiv fitting reaching axisOf columnsOf bothAxes inGrid tileArea sized sizeOf sizeIn tileSize cutTo rewritten rewrite.withRoom rewrite.judged over rewriteAnswer rewriteOut rows rangesFrom ranges rangeOf andPart partsIn isSot patched partSize sizeFor joined assembled answerFor assemblyAnswer assemblyOut
 tiles = tt
 
 unfoldable pub searches : Unit {0}

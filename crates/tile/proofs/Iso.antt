@@ -1,10 +1,10 @@
--- Where tile origin and image origin are one, and a tile's sums fit 32 bits, our rewrite of a SIZ by the standard gives a tile of the
--- grid its size by B-11. The fields are read where its rows have them (types, proofs/Iso.antt); a cell below the count of cells starts before the
+-- Where tile origin and image origin are one, and a tile's sums fit 32 bits, a tile of the grid lies where B-7 to B-10 have it, and our rewrite of
+-- a SIZ by the standard gives it its size by B-11. The fields are read where its rows have them (types, proofs/Iso.antt); a cell below the count of cells starts before the
 -- image ends, so that no step of the rewrite fails; and the eight fields that it writes are rows again.
 use Prim.Native.Nat.{ℕ, _+_, _-_, _*_, _^_, _≤_, _<_}
 use native.Mathlib.Nat.{add-mul, one-mul, mul-comm, zero-mul, mod-lt, le-div-iff-mul-le, div-lt-iff-lt-mul, pos-of-ne-zero}
 use native.Mathlib.Omega.{arith}
-use mathlib.Core.Path.{_≡_, refl, sym, ap, _∙_}
+use mathlib.Core.Path.{_≡_, refl, sym, ap, ap₂, _∙_}
 use mathlib.Core.Bool.{_&&_}
 use mathlib.Core.List.{List, [], _∷_, _++_, append-assoc, append-nil}
 use lib.ListN.{length, take, drop, length-append}
@@ -19,12 +19,15 @@ use Rattle.types.specs.Siz.{XSIZ, xsiz, xosiz, xtsiz}
 use Rattle.types.specs.IsoSiz.{Size, componentRows, sizRows, Ranges, TileRanges}
 use Rattle.types.proofs.IsoSiz.{Fields, TileFields, fields-standard, tile-fields-standard}
 use Rattle.tile.specs.Siz.{marker, pair, oneTile}
-use Rattle.tile.specs.Rewrite.{axisOf, columnsOf, sized, inGrid, sizeIn, tileSize, cutTo, judged, rewritten, over, rewriteAnswer, rewriteOut}
-use Rattle.tile.specs.Iso.{numXtiles, numYtiles, columnOf, rowOf, startOf, endOf, widthOf, heightOf, headerOf, cutSize, forTile}
-use Rattle.tile.specs.declared.rewrite.Axis.the-variants.{Extent}
+use Rattle.tile.specs.Rules.{axisOf, columnsOf, inGrid, tileArea}
+use Rattle.tile.specs.Rewrite.{sized, tileSize, cutTo, judged, rewritten, over, rewriteAnswer, rewriteOut}
+use Rattle.tile.specs.Iso.{numXtiles, numYtiles, columnOf, rowOf, startOf, endOf, areaOf, widthOf, heightOf, headerOf, cutSize, forTile}
+use Rattle.tile.specs.declared.rules.Axis.the-variants.{Span}
+use Rattle.tile.specs.declared.rules.TileArea.the-variants.{Tile}
 use Rattle.tile.specs.declared.rewrite.TileSize.{TileSize}
 use Rattle.tile.specs.declared.rewrite.Written.the-variants.{Bytes}
-use Rattle.tile.proofs.RewriteLaws.{axis-inside, columns-some, grid-both, size-siz, room-enough}
+use Rattle.tile.proofs.RulesLaws.{axis-inside, columns-some, grid-both}
+use Rattle.tile.proofs.RewriteLaws.{size-inside, size-siz, room-enough}
 
 -- ---- one axis
 
@@ -42,10 +45,10 @@ module _ (end origin tileOrigin size cell : ℕ) (some : 1 ≤ size) (inside : c
   extent-some a b = omega (arith, starts-inside, next)
 
   axis-standard : tileOrigin ≡ origin → tileOrigin + (cell + 1) * size < 2 ^ 32
-      → axisOf end origin size cell ≡ Extent (endOf end tileOrigin size cell - startOf origin tileOrigin size cell)
+      → axisOf end origin size cell ≡ Span (startOf origin tileOrigin size cell) (endOf end tileOrigin size cell)
   unfolding startOf endOf
   axis-standard same fits =
-      axis-inside end origin size cell (omega (arith, next)) (omega (arith, starts-inside)) ∙ ap Extent (omega (arith, starts-inside, next))
+      axis-inside end origin size cell (omega (arith, next)) (omega (arith, starts-inside)) ∙ ap₂ Span (omega arith) (omega (arith, next))
 
 -- ---- the grid
 
@@ -63,11 +66,11 @@ module _ (z : Size) (tile : ℕ) (inside : tile < numXtiles z * numYtiles z) whe
 
   -- No tile of the grid is empty.
   pub width-some : Ranges z → TileRanges z → 1 ≤ widthOf z tile
-  unfolding widthOf numXtiles
+  unfolding widthOf areaOf numXtiles
   width-some g t = extent-some (z .Xsiz) (z .XOsiz) (z .XTOsiz) (z .XTsiz) (columnOf z tile) (t .XTsiz .0) column-inside (g .XOsiz) (t .XTOsiz .1)
 
   pub height-some : Ranges z → TileRanges z → 1 ≤ heightOf z tile
-  unfolding heightOf numYtiles
+  unfolding heightOf areaOf numYtiles
   height-some g t = extent-some (z .Ysiz) (z .YOsiz) (z .YTOsiz) (z .YTsiz) (rowOf z tile) (t .YTsiz .0) row-inside (g .YOsiz) (t .YTOsiz .1)
 
 -- ---- the header after the rewrite
@@ -113,7 +116,7 @@ cut-ranges z width height g a b c d = (
 
 -- What a tile of the grid is rewritten to has the standard's ranges.
 pub tile-ranges : (z : Size) (tile : ℕ) → tile < numXtiles z * numYtiles z → Ranges z → TileRanges z → Ranges (forTile z tile) × TileRanges (forTile z tile)
-unfolding forTile widthOf heightOf endOf
+unfolding forTile widthOf heightOf areaOf endOf
 tile-ranges z tile inside g t =
     by-test (λ (s : Size). Ranges s × TileRanges s) (eqb (widthOf z tile) (z .XTsiz) && eqb (heightOf z tile) (z .YTsiz)) (λ _. (g, t))
     (λ _. cut-ranges z (widthOf z tile) (heightOf z tile) g (width-some z tile inside g t) (height-some z tile inside g t) (omega arith) (omega arith))
@@ -123,10 +126,10 @@ tile-ranges z tile inside g t =
 module _ (z : Size) (rest : List ℕ) (tile : ℕ) (g : Ranges z) (t : TileRanges z) (x : z .XTOsiz ≡ z .XOsiz) (y : z .YTOsiz ≡ z .YOsiz)
     (inside : tile < numXtiles z * numYtiles z) (fitsX : z .XTOsiz + (columnOf z tile + 1) * z .XTsiz < 2 ^ 32)
     (fitsY : z .YTOsiz + (rowOf z tile + 1) * z .YTsiz < 2 ^ 32) where
-  -- The tile has the standard's size: none of the steps is refused.
-  pub tile-standard : tileSize (headerOf z rest) tile ≡ sized (widthOf z tile) (heightOf z tile) (z .XTsiz) (z .YTsiz)
-  unfolding sizeIn numXtiles numYtiles columnOf rowOf widthOf heightOf
-  tile-standard =
+  -- The tile lies where the standard has it: none of the steps is refused.
+  pub area-standard : tileArea (headerOf z rest) tile ≡ Tile (areaOf z tile)
+  unfolding tileArea numXtiles numYtiles columnOf rowOf areaOf
+  area-standard =
       let h : List ℕ = headerOf z rest in
       let f : Fields z h = fields-standard z rest g in
       let k : TileFields z h = tile-fields-standard z rest g t in
@@ -134,13 +137,22 @@ module _ (z : Size) (rest : List ℕ) (tile : ℕ) (g : Ranges z) (t : TileRange
       (λ i. columnsOf (f .Xsiz i) (f .XOsiz i) (k .XTsiz i))
       ∙ columns-some (z .Xsiz) (z .XOsiz) (z .XTsiz) (omega arith) (λ e. omega arith)
       ∙ ap (λ (o : ℕ). ceilDiv (z .Xsiz - o) (z .XTsiz)) (sym x) in
-      size-siz h tile (omega (arith, f .long)) (f .marker)
-      ∙ ap (λ (n : ℕ). inGrid h n tile) columns
-      ∙ grid-both h (numXtiles z) tile (λ e. omega (arith, columns-positive z tile inside)) (widthOf z tile) (heightOf z tile)
+      ap (λ (n : ℕ). inGrid h n tile) columns
+      ∙ grid-both h (numXtiles z) tile (λ e. omega (arith, columns-positive z tile inside)) _ _ _ _
       ((λ i. axisOf (f .Xsiz i) (f .XOsiz i) (k .XTsiz i) (columnOf z tile))
       ∙ axis-standard (z .Xsiz) (z .XOsiz) (z .XTOsiz) (z .XTsiz) (columnOf z tile) (t .XTsiz .0) (column-inside z tile inside) x fitsX)
       ((λ i. axisOf (f .Ysiz i) (f .YOsiz i) (k .YTsiz i) (rowOf z tile))
       ∙ axis-standard (z .Ysiz) (z .YOsiz) (z .YTOsiz) (z .YTsiz) (rowOf z tile) (t .YTsiz .0) (row-inside z tile inside) y fitsY)
+
+  -- So it has the standard's size.
+  pub tile-standard : tileSize (headerOf z rest) tile ≡ sized (widthOf z tile) (heightOf z tile) (z .XTsiz) (z .YTsiz)
+  unfolding widthOf heightOf areaOf
+  tile-standard =
+      let h : List ℕ = headerOf z rest in
+      let f : Fields z h = fields-standard z rest g in
+      let k : TileFields z h = tile-fields-standard z rest g t in
+      size-siz h tile (omega (arith, f .long)) (f .marker)
+      ∙ size-inside h tile (areaOf z tile) area-standard
       ∙ (λ i. sized (widthOf z tile) (heightOf z tile) (k .XTsiz i) (k .YTsiz i))
 
   -- With room for the header the rewrite is not refused.

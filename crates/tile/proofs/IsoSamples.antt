@@ -9,8 +9,9 @@ use Rattle.numbers.specs.Ceiling.{ceilDiv}
 use Rattle.numbers.specs.Rows.{bytesOfRows}
 use Rattle.types.specs.Refusals.{refusal}
 use Rattle.types.specs.IsoSiz.{Size, componentRows, sizRows, Ranges, TileRanges}
-use Rattle.tile.specs.Rewrite.{fitting, less, axisOf, columnsOf, sized, bothAxes, inGrid, sizeIn, tileSize}
-use Rattle.tile.specs.Iso.{numXtiles, numYtiles, columnOf, rowOf, startOf, endOf, widthOf, heightOf, headerOf}
+use Rattle.tile.specs.Rules.{fitting, reaching, axisOf, columnsOf, bothAxes, inGrid, tileArea}
+use Rattle.tile.specs.Rewrite.{sized, sizeOf, sizeIn, tileSize}
+use Rattle.tile.specs.Iso.{numXtiles, numYtiles, columnOf, rowOf, startOf, endOf, areaOf, widthOf, heightOf, headerOf}
 use Rattle.tile.specs.declared.rewrite.TileSize.the-variants.{Whole, Cut, Refused}
 use Rattle.tile.proofs.Iso.{tile-standard}
 
@@ -32,11 +33,11 @@ image from to height xt yt =
     }
 
 unfoldable by-standard : Unit {0}
-unfolding numXtiles numYtiles columnOf rowOf startOf endOf widthOf heightOf ceilDiv
+unfolding numXtiles numYtiles columnOf rowOf startOf endOf areaOf widthOf heightOf ceilDiv
 by-standard = tt
 
 unfoldable by-document : Unit {0}
-unfolding tileSize sizeIn inGrid columnsOf axisOf fitting less bothAxes sized ceilDiv be bytesOf bytesOfRows sizRows componentRows
+unfolding tileSize sizeIn sizeOf tileArea inGrid columnsOf axisOf fitting reaching bothAxes sized ceilDiv be bytesOf bytesOfRows sizRows componentRows
 by-document = tt
 
 -- 10 by 6 in tiles of 4 by 4: the last of six tiles is 2 by 2

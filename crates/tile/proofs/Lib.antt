@@ -1,3 +1,4 @@
+pub mod RulesLaws
 pub mod RewriteLaws
 pub mod RewriteHeader
 pub mod AssemblyRanges

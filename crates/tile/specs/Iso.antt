@@ -7,6 +7,7 @@ use lib.Dec.{eqb}
 use Rattle.numbers.specs.Rows.{bytesOfRows}
 use Rattle.numbers.specs.Ceiling.{ceilDiv}
 use Rattle.types.specs.IsoSiz.{Size, sizRows}
+use Rattle.types.specs.declared.Area.{Area}
 
 -- B-5
 unfoldable pub numXtiles : Size → ℕ
@@ -29,12 +30,21 @@ startOf origin tileOrigin size cell = max (tileOrigin + cell * size) origin
 unfoldable pub endOf : ℕ → ℕ → ℕ → ℕ → ℕ
 endOf end tileOrigin size cell = min (tileOrigin + (cell + 1) * size) end
 
+unfoldable pub areaOf : Size → ℕ → Area
+areaOf z tile =
+    record {
+      x0 = startOf (z .XOsiz) (z .XTOsiz) (z .XTsiz) (columnOf z tile);
+      y0 = startOf (z .YOsiz) (z .YTOsiz) (z .YTsiz) (rowOf z tile);
+      x1 = endOf (z .Xsiz) (z .XTOsiz) (z .XTsiz) (columnOf z tile);
+      y1 = endOf (z .Ysiz) (z .YTOsiz) (z .YTsiz) (rowOf z tile);
+    }
+
 -- its width and height, B-11
 unfoldable pub widthOf : Size → ℕ → ℕ
-widthOf z tile = endOf (z .Xsiz) (z .XTOsiz) (z .XTsiz) (columnOf z tile) - startOf (z .XOsiz) (z .XTOsiz) (z .XTsiz) (columnOf z tile)
+widthOf z tile = areaOf z tile .x1 - areaOf z tile .x0
 
 unfoldable pub heightOf : Size → ℕ → ℕ
-heightOf z tile = endOf (z .Ysiz) (z .YTOsiz) (z .YTsiz) (rowOf z tile) - startOf (z .YOsiz) (z .YTOsiz) (z .YTsiz) (rowOf z tile)
+heightOf z tile = areaOf z tile .y1 - areaOf z tile .y0
 
 -- ---- the rewrite
 

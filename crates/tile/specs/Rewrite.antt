@@ -1,40 +1,21 @@
--- The SIZ rewrite (docs/RULES.md, "SIZ rewrite"): a tile's size on numbers of 32 bits, and the header, the answer and the output after it.
-use Prim.Native.Nat.{ℕ, _+_, _-_, _*_, _/_, _%_, _^_, _≤_, min}
+-- The SIZ rewrite (docs/RULES.md, "SIZ rewrite"): a tile's size, and the header, the answer and the output after it.
+use Prim.Native.Nat.{ℕ, _+_, _-_, _^_, _≤_, min}
 use mathlib.Core.Bool.{cond, _&&_}
 use mathlib.Core.List.{List, _++_}
 use lib.ListN.{length, drop}
-use lib.Dec.{leb, ltb, eqb}
+use lib.Dec.{leb, eqb}
 use Rattle.numbers.specs.Bytes.{be, put}
-use Rattle.numbers.specs.Ceiling.{ceilDiv}
 use Rattle.types.specs.Refusals.{refusal}
 use Rattle.types.specs.Markers.{SIZ}
-use Rattle.types.specs.Siz.{XSIZ, xsiz, ysiz, xosiz, yosiz, xtsiz, ytsiz}
+use Rattle.types.specs.Siz.{XSIZ, xtsiz, ytsiz}
 use Rattle.tile.specs.Siz.{marker, oneTile}
-use Rattle.tile.specs.declared.rewrite.Axis.{Axis}
-use Rattle.tile.specs.declared.rewrite.Axis.the-variants.{Extent, Outside}
+use Rattle.tile.specs.Rules.{tileArea}
+use Rattle.tile.specs.declared.rules.TileArea.{TileArea}
+use Rattle.tile.specs.declared.rules.TileArea.the-variants as area
 use Rattle.tile.specs.declared.rewrite.TileSize.{TileSize}
 use Rattle.tile.specs.declared.rewrite.TileSize.the-variants as size
 use Rattle.tile.specs.declared.rewrite.Written.{Written}
 use Rattle.tile.specs.declared.rewrite.Written.the-variants as answer
-
--- ---- one axis
-
--- a step that must not pass 2^32-1, and what goes on from its result
-unfoldable pub fitting : ℕ → (ℕ → Axis) → Axis
-fitting n rest = cond (ltb n (2 ^ 32)) (rest n) Outside
-
--- a difference that must not fall below 0
-unfoldable pub less : ℕ → ℕ → Axis
-less a b = cond (leb b a) (Extent (a - b)) Outside
-
--- x0 is the origin plus so many tile sizes; the tile ends one size further or with the image
-unfoldable pub axisOf : ℕ → ℕ → ℕ → ℕ → Axis
-unfolding fitting less
-axisOf end origin size cell = fitting (cell * size) (λ along. fitting (origin + along) (λ x0. fitting (x0 + size) (λ x1. less (min x1 end) x0)))
-
--- how many columns: ceil((Xsiz - XOsiz) / XTsiz), 0 where a step fails
-unfoldable pub columnsOf : ℕ → ℕ → ℕ → ℕ
-columnsOf end origin size = cond (leb origin end) (cond (eqb size 0) 0 (ceilDiv (end - origin) size)) 0
 
 -- ---- a tile's size
 
@@ -45,25 +26,15 @@ sized width height xt yt = cond (eqb width xt && eqb height yt) size.Whole (size
 abbrev pub outside : TileSize
 outside = size.Refused (refusal 10 marker)
 
-unfoldable pub bothAxes : Axis → Axis → ℕ → ℕ → TileSize
+-- width and height are where the tile ends less where it starts
+unfoldable pub sizeOf : TileArea → ℕ → ℕ → TileSize
 unfolding sized
-bothAxes (Extent width) (Extent height) xt yt = sized width height xt yt
-bothAxes (Extent width) Outside xt yt = outside
-bothAxes Outside down xt yt = outside
-
--- column and row are remainder and quotient of the index by the columns
-unfoldable pub inGrid : List ℕ → ℕ → ℕ → TileSize
-unfolding bothAxes
-inGrid h columns tile =
-    cond (eqb columns 0) outside
-    (bothAxes
-    (axisOf (xsiz h marker) (xosiz h marker) (xtsiz h marker) (tile % columns))
-    (axisOf (ysiz h marker) (yosiz h marker) (ytsiz h marker) (tile / columns))
-    (xtsiz h marker)
-    (ytsiz h marker))
+sizeOf (area.Tile a) xt yt = sized (a .x1 - a .x0) (a .y1 - a .y0) xt yt
+sizeOf area.Outside xt yt = outside
 
 unfoldable pub sizeIn : List ℕ → ℕ → TileSize
-sizeIn h tile = inGrid h (columnsOf (xsiz h marker) (xosiz h marker) (xtsiz h marker)) tile
+unfolding sizeOf
+sizeIn h tile = sizeOf (tileArea h tile) (xtsiz h marker) (ytsiz h marker)
 
 -- a header under 40 bytes, or no SIZ at 2: the header stays
 unfoldable pub tileSize : List ℕ → ℕ → TileSize

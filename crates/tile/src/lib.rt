@@ -1,3 +1,4 @@
-// One tile as a codestream of its own: the header rewritten for it, and header, tile-parts and EOC put together.
+// One tile as a codestream of its own: where it lies, the header rewritten for it, and header, tile-parts and EOC put together.
 pub mod assembly;
 pub mod rewrite;
+pub mod rules;

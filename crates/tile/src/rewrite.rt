@@ -3,23 +3,15 @@
 ghost use mathlib.Core.Path.{_≡_};
 ghost use Prim.Native.Nat.{_+_, _≤_};
 ghost use lib.ListN.{length};
-ghost use Rattle.numbers.specs.Bytes.{be, put};
+ghost use Rattle.numbers.specs.Bytes.{put};
 ghost use Rattle.types.specs.Siz.{XSIZ};
 ghost use Rattle.tile.specs.Siz.{marker, pair, oneTile};
-ghost use Rattle.tile.specs.Rewrite.{axisOf, columnsOf, sized, sizeIn, tileSize, cutTo, Room, judged, rewriteAnswer, rewriteOut};
+ghost use Rattle.tile.specs.Rewrite.{sized, sizeIn, tileSize, cutTo, Room, judged, rewriteAnswer, rewriteOut};
+use crate::rules::MARKER;
+use crate::rules::TileArea;
 use types::Refusal;
 use types::markers::SIZ;
 use types::siz;
-
-// Where the SIZ marker stands in a header: directly behind SOC.
-const MARKER: usize = 2;
-
-// A tile along one axis.
-pub enum Axis {
-    Extent(u32),
-    // A step falls below 0 or passes 2^32-1.
-    Outside,
-}
 
 pub enum TileSize {
     // The header stays as it is: the tile has full size, or there is no SIZ to go by.
@@ -35,35 +27,6 @@ pub enum Written {
     Refused(Refusal),
 }
 
-// The tile's size in the cell so many tiles from the origin, cut where the image ends.
-fn extent(end: u32, origin: u32, size: u32, cell: u32) -> Axis
-    ensures { λ r. ⌜ r ≡ axisOf end origin size cell ⌝ }
-{
-    let from = (origin as u64) + (cell as u64) * (size as u64);
-    let to = from + (size as u64);
-    if 0xffff_ffff < to {
-        return Axis::Outside;
-    }
-    let stop = numbers::minimum(to, end as u64);
-    if stop < from {
-        return Axis::Outside;
-    }
-    Axis::Extent((stop - from) as u32)
-}
-
-// How many columns of tiles; 0 where a step fails too.
-fn columns(end: u32, origin: u32, size: u32) -> u32
-    ensures { λ r. ⌜ r ≡ columnsOf end origin size ⌝ }
-{
-    if end < origin {
-        return 0;
-    }
-    if size == 0 {
-        return 0;
-    }
-    numbers::ceil_div((end - origin) as u64, size as u64) as u32
-}
-
 fn full_or_cut(width: u32, height: u32, xtsiz: u32, ytsiz: u32) -> TileSize
     ensures { λ r. ⌜ r ≡ sized width height xtsiz ytsiz ⌝ }
 {
@@ -76,44 +39,20 @@ fn full_or_cut(width: u32, height: u32, xtsiz: u32, ytsiz: u32) -> TileSize
     TileSize::Whole
 }
 
-// A field of SIZ, by its place counted from the marker.
-fn field(header: &[u8], place: usize) -> u32
-    requires { ⌜ marker + place + 4 ≤ length (now header) ⌝ }
-    ensures { λ r. ⌜ r ≡ be 4 (now (header .entry)) (marker + place) ⌝ }
-{
-    numbers::read_u32(header, MARKER + place)
-}
-
 fn size_in(header: &[u8], isot: u16) -> TileSize
     requires { ⌜ 40 ≤ length (now header) ⌝ }
     ensures { λ r. ⌜ r ≡ sizeIn (now (header .entry)) isot ⌝ }
 {
-    let outside = TileSize::Refused(Refusal {
-        number: 10,
-        place: MARKER as u64,
-    });
-    let xsiz = field(header, siz::XSIZ);
-    let ysiz = field(header, siz::YSIZ);
-    let xosiz = field(header, siz::XOSIZ);
-    let yosiz = field(header, siz::YOSIZ);
-    let xtsiz = field(header, siz::XTSIZ);
-    let ytsiz = field(header, siz::YTSIZ);
-    let tile = isot as u32;
-    let columns = columns(xsiz, xosiz, xtsiz);
-    if columns == 0 {
-        return outside;
-    }
-    let column = tile % columns;
-    let row = tile / columns;
-    let across = extent(xsiz, xosiz, xtsiz, column);
-    let Axis::Extent(width) = across else {
-        return outside;
+    let area = crate::rules::tile_area(header, isot);
+    let TileArea::Tile(tile) = area else {
+        return TileSize::Refused(Refusal {
+            number: 10,
+            place: MARKER as u64,
+        });
     };
-    let down = extent(ysiz, yosiz, ytsiz, row);
-    let Axis::Extent(height) = down else {
-        return outside;
-    };
-    full_or_cut(width, height, xtsiz, ytsiz)
+    let xtsiz = crate::rules::field(header, siz::XTSIZ);
+    let ytsiz = crate::rules::field(header, siz::YTSIZ);
+    full_or_cut(tile.x1 - tile.x0, tile.y1 - tile.y0, xtsiz, ytsiz)
 }
 
 pub fn tile_size(header: &[u8], isot: u16) -> TileSize

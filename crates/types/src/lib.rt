@@ -1,5 +1,5 @@
-// What passes between the crates: refusals, the two kinds of offset, tile-part records, and a record's 18 bytes; and the
-// standard's marker codes and places of fields.
+// What passes between the crates: refusals, the two kinds of offset, areas, tile-part records, and a record's 18 bytes; and
+// the standard's marker codes and places of fields.
 pub mod markers;
 pub mod siz;
 
@@ -84,6 +84,14 @@ impl FileOffset {
             InCodestream::Before
         }
     }
+}
+
+// An area of the reference grid (ISO/IEC 15444-1, B.2): from x0, y0 on, to x1, y1, which no longer belong to it.
+pub struct Area {
+    pub x0: u32,
+    pub y0: u32,
+    pub x1: u32,
+    pub y1: u32,
 }
 
 // One tile-part: its tile (Isot), where it starts in the codestream, and its length from the SOT marker on.

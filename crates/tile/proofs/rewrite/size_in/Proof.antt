@@ -1,29 +1,33 @@
--- The fields read are the definition's, so each answer taken apart is one of its axes.
-use Prim.Native.Nat.{ℕ}
-use mathlib.Core.Path.{_≡_, sym, ap, _∙_}
+-- The tile's area is the definition's, and within the image, so that neither difference falls below 0.
+use Prim.Native.Nat.{_-_}
+use mathlib.Core.Path.{_≡_, sym, _∙_}
 use borrow.Author.Needs.{needs}
-use Rattle.tile.proofs.RewriteLaws.{across, down, grid-none, grid-across, grid-down, grid-both}
-use Rattle.tile.specs.Rewrite.{inGrid, sizeIn}
+use Rattle.tile.specs.Rules.{tileArea}
+use Rattle.tile.specs.Rewrite.{sized}
+use Rattle.tile.specs.declared.rules.TileArea.the-variants.{Tile}
+use Rattle.tile.proofs.RulesLaws.{Within, tile-within}
+use Rattle.tile.proofs.RewriteLaws.{size-outside, size-inside}
 use Rattle.tile.proofs.rewrite.size_in.Statement.{statement}
 use Rattle.tile.proofs.rewrite.size_in.Tie as tie
 
-abbrev start : tie.After-columns → tie.Start
-start c = c .before .before .before .before .before .before .before .before
+-- the area that was found
+found : (c : tie.After-area) → let a = c .before .before .before .before .args in tileArea (a .header .now) (a .isot) ≡ Tile (c .area .given .0 .0)
+found c = sym (c .before .before .tile-area .ensures) ∙ c .area .given .1
 
-grid : (c : tie.After-columns) → sizeIn (start c .args .header .now) (start c .args .isot) ≡ inGrid (start c .args .header .now) (c .columns .result) (start c .args .isot)
-unfolding sizeIn
-grid c = ap (λ (n : ℕ). inGrid (start c .args .header .now) n (start c .args .isot)) (cc)
+within : (c : tie.After-area) → Within (c .before .before .before .before .args .header .now) (c .area .given .0 .0)
+within c = tile-within _ _ _ (found c)
 
-across-known : (c : tie.After-extent)
-    → across (start (c .before .before) .args .header .now) (c .before .before .columns .result) (start (c .before .before) .args .isot) ≡ c .extent .result
-across-known c = cc
+tile-area-requires : tie.Need-tile-area-requires
+tile-area-requires c κs = search needs
 
--- the place before the second axis where the columns were counted
-abbrev counted : tie.After-extent2 → tie.After-columns
-counted c = c .before .before .before .before .before .before
+enum-known-area : tie.Need-enum-known-area
+enum-known-area c = search needs
 
-down-known : (c : tie.After-extent2) → down (start (counted c) .args .header .now) (counted c .columns .result) (start (counted c) .args .isot) ≡ c .extent2 .result
-down-known c = cc
+enum-told : tie.Need-enum-told
+enum-told c = search needs
+
+returns : tie.Need-returns
+returns c = sym (size-outside _ _ (sym (c .before .before .tile-area .ensures) ∙ c .enum-told .given .1))
 
 field-requires : tie.Need-field-requires
 field-requires c κs = search needs
@@ -31,90 +35,35 @@ field-requires c κs = search needs
 field-requires-2 : tie.Need-field-requires-2
 field-requires-2 c κs = search needs
 
-field-requires-3 : tie.Need-field-requires-3
-field-requires-3 c κs = search needs
+sub-full-or-cut : tie.Need-sub-full-or-cut
+sub-full-or-cut c = within (c .before .before .before .before) .wide
 
-field-requires-4 : tie.Need-field-requires-4
-field-requires-4 c κs = search needs
-
-field-requires-5 : tie.Need-field-requires-5
-field-requires-5 c κs = search needs
-
-field-requires-6 : tie.Need-field-requires-6
-field-requires-6 c κs = search needs
-
-columns-requires : tie.Need-columns-requires
-columns-requires c κs = search needs
-
-returns : tie.Need-returns
-returns c = sym (grid (c .before) ∙ grid-none _ _ _ (c .if1 .taken))
-
-rem-column : tie.Need-rem-column
-rem-column c = search needs
-
-div-row : tie.Need-div-row
-div-row c = search needs
-
-extent-requires : tie.Need-extent-requires
-extent-requires c κs = search needs
-
-enum-known-across : tie.Need-enum-known-across
-enum-known-across c = search needs
-
-enum-told : tie.Need-enum-told
-enum-told c = search needs
-
-returns-2 : tie.Need-returns-2
-returns-2 c =
-    let e = c .before .before in
-    sym (grid (e .before .before) ∙ grid-across _ _ _ (e .before .if1 .left) (across-known e ∙ c .enum-told .given .1))
-
-extent-requires-2 : tie.Need-extent-requires-2
-extent-requires-2 c κs = search needs
-
-enum-known-down : tie.Need-enum-known-down
-enum-known-down c = search needs
-
-enum-told-2 : tie.Need-enum-told-2
-enum-told-2 c = search needs
-
-returns-3 : tie.Need-returns-3
-returns-3 c =
-    let f = c .before .before in
-    let e = f .before .before .before .before in
-    sym (grid (e .before .before) ∙ grid-down _ _ _ (e .before .if1 .left) _ (across-known e ∙ f .before .before .across .given .1) (down-known f ∙ c .enum-told2 .given .1))
+sub-full-or-cut-2 : tie.Need-sub-full-or-cut-2
+sub-full-or-cut-2 c = within (c .before .before .before .before .before) .high
 
 full-or-cut-requires : tie.Need-full-or-cut-requires
 full-or-cut-requires c κs = search needs
 
-returns-4 : tie.Need-returns-4
-returns-4 c =
-    let f = c .before .before .before .before in
-    let e = f .before .before .before .before in
-    let g = grid (e .before .before) ∙ grid-both _ _ _ (e .before .if1 .left) _ _ (across-known e ∙ f .before .before .across .given .1) (down-known f ∙ c .before .before .down .given .1) in
-    cc
+returns-2 : tie.Need-returns-2
+returns-2 c =
+    let s = c .before .before in
+    let e = s .before .before .before .before in
+    let a = e .area .given .0 .0 in
+    c .full-or-cut .ensures
+    ∙ (λ i. sized (a .x1 - a .x0) (a .y1 - a .y0) (s .before .before .field .ensures i) (s .before .field2 .ensures i))
+    ∙ sym (size-inside _ _ _ (found e))
 
 pub size-in-spec : {M : Type 1} → statement M
 size-in-spec =
     tie.close
     (tie.spec
+    tile-area-requires
+    enum-known-area
+    enum-told
+    returns
     field-requires
     field-requires-2
-    field-requires-3
-    field-requires-4
-    field-requires-5
-    field-requires-6
-    columns-requires
-    returns
-    rem-column
-    div-row
-    extent-requires
-    enum-known-across
-    enum-told
-    returns-2
-    extent-requires-2
-    enum-known-down
-    enum-told-2
-    returns-3
+    sub-full-or-cut
+    sub-full-or-cut-2
     full-or-cut-requires
-    returns-4)
+    returns-2)

@@ -4,10 +4,10 @@ use native.Mathlib.Omega.{arith}
 use native.Mathlib.Nat.{mul-le-mul}
 use mathlib.Core.Path.{sym, ap, _∙_}
 use borrow.Author.Needs.{needs}
-use Rattle.tile.proofs.RewriteLaws.{axis-inside, axis-below, axis-passes}
-use Rattle.tile.specs.declared.rewrite.Axis.the-variants.{Extent}
-use Rattle.tile.proofs.rewrite.extent.Statement.{statement}
-use Rattle.tile.proofs.rewrite.extent.Tie as tie
+use Rattle.tile.proofs.RulesLaws.{axis-inside, axis-below, axis-passes}
+use Rattle.tile.specs.declared.rules.Axis.the-variants.{Span}
+use Rattle.tile.proofs.rules.span.Statement.{statement}
+use Rattle.tile.proofs.rules.span.Tie as tie
 
 product : (a b : ℕ) → a < 2 ^ 32 → b < 2 ^ 32 → a * b ≤ 0xffffffff * 0xffffffff
 product a b h k = mul-le-mul {n₁ = a} {m₁ = b} {n₂ = 0xffffffff} {m₂ = 0xffffffff} (omega arith) (omega arith)
@@ -31,15 +31,18 @@ returns-2 : tie.Need-returns-2
 returns-2 c = sym (axis-below _ _ _ _ (omega (arith, c .before .before .if1 .left)) (omega (arith, c .before .minimum .ensures, c .if2 .taken)))
 
 cast-t13 : tie.Need-cast-t13
-cast-t13 c = search needs
+cast-t13 c = omega (arith, c .before .before .if1 .left)
+
+cast-t14 : tie.Need-cast-t14
+cast-t14 c = omega (arith, c .before .before .if1 .left, c .before .minimum .ensures)
 
 returns-3 : tie.Need-returns-3
 returns-3 c =
     let a = c .before .before .before .args in
-    ap (λ (n : ℕ). Extent (n - (a .origin + a .cell * a .size))) (c .before .minimum .ensures)
+    ap (Span (a .origin + a .cell * a .size)) (c .before .minimum .ensures)
     ∙ sym (axis-inside _ _ _ _ (omega (arith, c .before .before .if1 .left)) (omega (arith, c .before .minimum .ensures, c .if2 .left)))
 
-pub extent-spec : {M : Type 1} → statement M
-extent-spec =
+pub span-spec : {M : Type 1} → statement M
+span-spec =
     tie.close
-    (tie.spec mul-from add-from add-to returns minimum-requires returns-2 cast-t13 returns-3)
+    (tie.spec mul-from add-from add-to returns minimum-requires returns-2 cast-t13 cast-t14 returns-3)
