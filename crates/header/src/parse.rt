@@ -56,7 +56,7 @@ fn walk(codestream: &[u8]) -> MainHeader
     }
 }
 
-fn marker_stands(codestream: &[u8], at: usize, marker: u16) -> bool
+pub fn marker_stands(codestream: &[u8], at: usize, marker: u16) -> bool
     requires { ⌜ at ≤ 2 ⌝ }
     ensures { λ r. ⌜ r ≡ stands (now (codestream .entry)) at marker ⌝ }
 {

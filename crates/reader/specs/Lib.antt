@@ -1,4 +1,5 @@
 pub mod Siz
+pub mod Components
 pub mod Search
 pub mod Growth
 pub mod Iso

@@ -1,5 +1,5 @@
 -- The fields of SIZ (ISO/IEC 15444-1, table A.9) in bytes where its marker stands at a position: each pair across, then down.
-use Prim.Native.Nat.{ℕ, _+_}
+use Prim.Native.Nat.{ℕ, _+_, _*_}
 use mathlib.Core.List.{List}
 use lib.ListN.{getD}
 use Rattle.numbers.specs.Bytes.{be}
@@ -7,6 +7,10 @@ use Rattle.numbers.specs.Bytes.{be}
 -- where the first of them stands, counted from the marker: eight of 4 bytes each follow one another from there on
 abbrev pub XSIZ : ℕ
 XSIZ = 6
+
+-- how many bytes the segment has behind its marker
+abbrev pub lsiz : List ℕ → ℕ → ℕ
+lsiz s at = be 2 s (at + 2)
 
 -- where the image ends on the reference grid
 abbrev pub xsiz : List ℕ → ℕ → ℕ
@@ -39,6 +43,10 @@ ytosiz s at = be 4 s (at + 34)
 -- how many components
 abbrev pub csiz : List ℕ → ℕ → ℕ
 csiz s at = be 2 s (at + 38)
+
+-- where a component's three bytes stand, by its number from 0
+abbrev pub component : ℕ → ℕ → ℕ
+component at k = at + 40 + 3 * k
 
 -- the first component's bit depth and sign, in one byte
 abbrev pub ssiz : List ℕ → ℕ → ℕ

@@ -1,5 +1,7 @@
 // Where the fields of SIZ stand (ISO/IEC 15444-1, table A.9), counted from its marker.
 
+// How many bytes the segment has behind its marker.
+pub const LSIZ: usize = 2;
 // Where the image ends on the reference grid: across,
 pub const XSIZ: usize = 6;
 // and down.
@@ -16,5 +18,7 @@ pub const YTSIZ: usize = 26;
 pub const XTOSIZ: usize = 30;
 // How many components.
 pub const CSIZ: usize = 38;
-// The first component's bit depth and sign, in one byte.
+// The first component: its bit depth and sign, in one byte, and how far its samples lie apart, across and down.
 pub const SSIZ: usize = 40;
+// A component's bytes; one follows the other.
+pub const COMPONENT: usize = 3;
