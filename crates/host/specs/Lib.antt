@@ -1,3 +1,4 @@
+pub mod Components
 pub mod Extent
 pub mod Offsets
 pub mod Rewrite

@@ -7,7 +7,7 @@ ghost use Rattle.host.specs.Siz.{sizNumber, sizWidth, sizHeight, sizComp
 use reader::siz::SampleType;
 use reader::siz::SizRead;
 
-fn sign(signed: bool) -> u64
+pub fn sign(signed: bool) -> u64
     ensures { λ r. ⌜ r ≡ cond signed 1 0 ⌝ }
 {
     if signed { 1 } else { 0 }
