@@ -8,9 +8,9 @@
  * the call. No function allocates, blocks, calls back or holds state: each may be called from any thread.
  *
  * What comes back. 0 where a function accepts, and else a refusal's number. The first number that is lent (`value`,
- * `first_sot`, `start`, `width`) then holds the refusal's place, or for 17 and 18 what is needed; the other numbers, the
- * table and the output hold what they held before. On acceptance all beyond the stated count is left as it was. The
- * functions that never refuse say so. Every input has an answer: none is checked by the caller first.
+ * `first_sot`, `start`, `width`, `components`, `bits`) then holds the refusal's place, or for 17 and 18 what is needed; the
+ * other numbers, the table and the output hold what they held before. On acceptance all beyond the stated count is left as it
+ * was. The functions that never refuse say so. Every input has an answer: none is checked by the caller first.
  *
  * docs/RULES.md says exactly what each function answers, under the heading that is named here.
  */
@@ -49,6 +49,12 @@ extern "C" {
 #define WINTERHASP_SIZ_NOT_FOUND               21 /* no image size segment (SIZ) was found */
 #define WINTERHASP_IMAGE_ENDS_BEFORE_IT_STARTS 22 /* the image ends before it starts */
 #define WINTERHASP_LISTING_TOO_LONG            23 /* the file is too long for the listing program */
+#define WINTERHASP_COMPONENTS_NOT_HELD         24 /* the image size segment (SIZ) does not hold the components that it counts */
+#define WINTERHASP_SUBSAMPLING_OF_0            25 /* a component's samples lie 0 apart */
+
+/* No refusal: what is returned where there is no component of the number that was asked for. */
+
+enum { WINTERHASP_NO_SUCH_COMPONENT = 256 };
 
 /* A table is lent as bytes, and has a row for each 18: a tile's index (2 bytes), the tile-part's offset in the codestream
    (8) and its length (8), big-endian. Bytes behind the last whole row are none. */
@@ -114,6 +120,37 @@ uint32_t winterhasp_parse_siz_marker(const uint8_t *codestream, size_t codestrea
 /* "SIZ reading". How a sample is held; any `signed_samples` but 0 is a sign. Never refuses: 0 uint8, 1 int8, 2 uint16, 3 int16,
    4 uint32, 5 int32. */
 uint32_t winterhasp_pixel_type(uint8_t bits, uint32_t signed_samples);
+
+/* "Components". How many there are, and the image's area on the reference grid: from `x0`, `y0` on, to `x1`, `y1`, which no longer
+   belong to it. Of the codestream only SIZ is read, and all of its components are checked.
+   Refusals: 1, 2, 3, 24, 25, 22. */
+uint32_t winterhasp_read_components(const uint8_t *codestream, size_t codestream_len, uint64_t *components, uint64_t *x0,
+                                    uint64_t *y0, uint64_t *x1, uint64_t *y1);
+
+/* "Components". The same with the area of a tile. Refusals: 1, 2, 3, 24, 25, 22, 10. */
+uint32_t winterhasp_read_components_in_tile(const uint8_t *codestream, size_t codestream_len, uint16_t tile,
+                                            uint64_t *components, uint64_t *x0, uint64_t *y0, uint64_t *x1, uint64_t *y1);
+
+/* "Components". The component of number `number`, from 0: the bits of a sample, 1 where samples have a sign, how many columns and
+   rows of the grid lie from sample to sample, and the area of its samples, on their own grid: `x1` - `x0` in a row, and
+   `y1` - `y0` rows. Each call checks all of SIZ: for all components call winterhasp_component_within instead.
+   Refusals: 1, 2, 3, 24, 25, 22. WINTERHASP_NO_SUCH_COMPONENT past the last component, and all numbers stay. */
+uint32_t winterhasp_component(const uint8_t *codestream, size_t codestream_len, uint64_t number, uint64_t *bits,
+                              uint64_t *signed_samples, uint64_t *xrsiz, uint64_t *yrsiz, uint64_t *x0, uint64_t *y0,
+                              uint64_t *x1, uint64_t *y1);
+
+/* "Components". The same in a tile. Refusals: 1, 2, 3, 24, 25, 22, 10. WINTERHASP_NO_SUCH_COMPONENT, as above. */
+uint32_t winterhasp_component_in_tile(const uint8_t *codestream, size_t codestream_len, uint16_t tile, uint64_t number,
+                                      uint64_t *bits, uint64_t *signed_samples, uint64_t *xrsiz, uint64_t *yrsiz,
+                                      uint64_t *x0, uint64_t *y0, uint64_t *x1, uint64_t *y1);
+
+/* "Components". The same in any area, in constant time, for who takes all components one by one: winterhasp_read_components or
+   winterhasp_read_components_in_tile tells how many and the area, and has checked them. Never refuses: 0, or
+   WINTERHASP_NO_SUCH_COMPONENT, and all numbers stay. */
+uint32_t winterhasp_component_within(const uint8_t *codestream, size_t codestream_len, uint32_t area_x0, uint32_t area_y0,
+                                     uint32_t area_x1, uint32_t area_y1, uint64_t number, uint64_t *bits,
+                                     uint64_t *signed_samples, uint64_t *xrsiz, uint64_t *yrsiz, uint64_t *x0, uint64_t *y0,
+                                     uint64_t *x1, uint64_t *y1);
 
 /* "SOT scan". The tile-parts from `first_sot_offset` on go to the rows of `table`, their number to `value`.
    Refusals: 7, 8, 9, 18. */

@@ -96,6 +96,74 @@ mod archive {
 
         pub fn winterhasp_pixel_type(bits: u8, signed: u32) -> u32;
 
+        pub fn winterhasp_read_components(
+            codestream: *const u8,
+            codestream_len: usize,
+            components: *mut u64,
+            x0: *mut u64,
+            y0: *mut u64,
+            x1: *mut u64,
+            y1: *mut u64,
+        ) -> u32;
+
+        pub fn winterhasp_read_components_in_tile(
+            codestream: *const u8,
+            codestream_len: usize,
+            tile: u16,
+            components: *mut u64,
+            x0: *mut u64,
+            y0: *mut u64,
+            x1: *mut u64,
+            y1: *mut u64,
+        ) -> u32;
+
+        pub fn winterhasp_component(
+            codestream: *const u8,
+            codestream_len: usize,
+            number: u64,
+            bits: *mut u64,
+            signed: *mut u64,
+            xrsiz: *mut u64,
+            yrsiz: *mut u64,
+            x0: *mut u64,
+            y0: *mut u64,
+            x1: *mut u64,
+            y1: *mut u64,
+        ) -> u32;
+
+        pub fn winterhasp_component_in_tile(
+            codestream: *const u8,
+            codestream_len: usize,
+            tile: u16,
+            number: u64,
+            bits: *mut u64,
+            signed: *mut u64,
+            xrsiz: *mut u64,
+            yrsiz: *mut u64,
+            x0: *mut u64,
+            y0: *mut u64,
+            x1: *mut u64,
+            y1: *mut u64,
+        ) -> u32;
+
+        pub fn winterhasp_component_within(
+            codestream: *const u8,
+            codestream_len: usize,
+            area_x0: u32,
+            area_y0: u32,
+            area_x1: u32,
+            area_y1: u32,
+            number: u64,
+            bits: *mut u64,
+            signed: *mut u64,
+            xrsiz: *mut u64,
+            yrsiz: *mut u64,
+            x0: *mut u64,
+            y0: *mut u64,
+            x1: *mut u64,
+            y1: *mut u64,
+        ) -> u32;
+
         pub fn winterhasp_grow_header_region(
             codestream: *const u8,
             codestream_len: usize,
@@ -273,6 +341,126 @@ pub fn parse_siz_marker(
 pub fn pixel_type(bits: u8, signed: bool) -> u32 {
     // SAFETY: numbers alone.
     unsafe { archive::winterhasp_pixel_type(bits, u32::from(signed)) }
+}
+
+/// Numbers: how many components, and the image's area: x0, y0, x1, y1.
+pub fn read_components(codestream: &[u8], [components, x0, y0, x1, y1]: &mut [u64; 5]) -> u32 {
+    // SAFETY: as at the top of this file.
+    unsafe {
+        archive::winterhasp_read_components(
+            codestream.as_ptr(),
+            codestream.len(),
+            components,
+            x0,
+            y0,
+            x1,
+            y1,
+        )
+    }
+}
+
+/// Numbers: how many components, and the tile's area: x0, y0, x1, y1.
+pub fn read_components_in_tile(
+    codestream: &[u8],
+    tile: u16,
+    [components, x0, y0, x1, y1]: &mut [u64; 5],
+) -> u32 {
+    // SAFETY: as at the top of this file.
+    unsafe {
+        archive::winterhasp_read_components_in_tile(
+            codestream.as_ptr(),
+            codestream.len(),
+            tile,
+            components,
+            x0,
+            y0,
+            x1,
+            y1,
+        )
+    }
+}
+
+/// What the three functions below answer where there is no component of that number; the numbers lent
+/// are then as they were.
+pub const NO_SUCH_COMPONENT: u32 = 256;
+
+/// Numbers: bits, 1 if signed, XRsiz, YRsiz, and the component's area: x0, y0, x1, y1.
+pub fn component(
+    codestream: &[u8],
+    number: u64,
+    [bits, signed, xrsiz, yrsiz, x0, y0, x1, y1]: &mut [u64; 8],
+) -> u32 {
+    // SAFETY: as at the top of this file.
+    unsafe {
+        archive::winterhasp_component(
+            codestream.as_ptr(),
+            codestream.len(),
+            number,
+            bits,
+            signed,
+            xrsiz,
+            yrsiz,
+            x0,
+            y0,
+            x1,
+            y1,
+        )
+    }
+}
+
+/// The same numbers, of the component in a tile.
+pub fn component_in_tile(
+    codestream: &[u8],
+    tile: u16,
+    number: u64,
+    [bits, signed, xrsiz, yrsiz, x0, y0, x1, y1]: &mut [u64; 8],
+) -> u32 {
+    // SAFETY: as at the top of this file.
+    unsafe {
+        archive::winterhasp_component_in_tile(
+            codestream.as_ptr(),
+            codestream.len(),
+            tile,
+            number,
+            bits,
+            signed,
+            xrsiz,
+            yrsiz,
+            x0,
+            y0,
+            x1,
+            y1,
+        )
+    }
+}
+
+/// The same numbers, of the component in an area: x0, y0, x1, y1. It never refuses.
+pub fn component_within(
+    codestream: &[u8],
+    [area_x0, area_y0, area_x1, area_y1]: [u32; 4],
+    number: u64,
+    [bits, signed, xrsiz, yrsiz, x0, y0, x1, y1]: &mut [u64; 8],
+) -> u32 {
+    // SAFETY: as at the top of this file.
+    unsafe {
+        archive::winterhasp_component_within(
+            codestream.as_ptr(),
+            codestream.len(),
+            area_x0,
+            area_y0,
+            area_x1,
+            area_y1,
+            number,
+            bits,
+            signed,
+            xrsiz,
+            yrsiz,
+            x0,
+            y0,
+            x1,
+            y1,
+        )
+    }
 }
 
 /// Numbers: the region that was reached, and how often it was enlarged.

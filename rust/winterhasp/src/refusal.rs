@@ -197,6 +197,20 @@ const REFUSALS: &[Words] = &[
         origin: Origin::File,
         remedy: "use the command winterhasp, which takes longer files",
     },
+    Words {
+        number: 24,
+        name: "COMPONENTS_NOT_HELD",
+        wrong: "the image size segment (SIZ) does not hold the components that it counts",
+        origin: Origin::Codestream,
+        remedy: "ask for the file again: its size segment is damaged",
+    },
+    Words {
+        number: 25,
+        name: "SUBSAMPLING_OF_0",
+        wrong: "a component's samples lie 0 apart",
+        origin: Origin::Codestream,
+        remedy: "ask for the file again: its size segment is damaged",
+    },
 ];
 
 /// What an archive newer than this crate may give.
