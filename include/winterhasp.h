@@ -121,9 +121,8 @@ uint32_t winterhasp_parse_siz_marker(const uint8_t *codestream, size_t codestrea
    4 uint32, 5 int32. */
 uint32_t winterhasp_pixel_type(uint8_t bits, uint32_t signed_samples);
 
-/* "Components". How many there are, and the image's area on the reference grid: from `x0`, `y0` on, to `x1`, `y1`, which no longer
-   belong to it. Of the codestream only SIZ is read, and all of its components are checked.
-   Refusals: 1, 2, 3, 24, 25, 22. */
+/* "Components". How many there are, and the image's area on the reference grid: from `x0`, `y0` on, to `x1`, `y1`, which no
+   longer belong to it. Of the header SIZ alone is read, with all of its components. Refusals: 1, 2, 3, 24, 25, 22. */
 uint32_t winterhasp_read_components(const uint8_t *codestream, size_t codestream_len, uint64_t *components, uint64_t *x0,
                                     uint64_t *y0, uint64_t *x1, uint64_t *y1);
 
@@ -131,22 +130,21 @@ uint32_t winterhasp_read_components(const uint8_t *codestream, size_t codestream
 uint32_t winterhasp_read_components_in_tile(const uint8_t *codestream, size_t codestream_len, uint16_t tile,
                                             uint64_t *components, uint64_t *x0, uint64_t *y0, uint64_t *x1, uint64_t *y1);
 
-/* "Components". The component of number `number`, from 0: the bits of a sample, 1 where samples have a sign, how many columns and
-   rows of the grid lie from sample to sample, and the area of its samples, on their own grid: `x1` - `x0` in a row, and
-   `y1` - `y0` rows. Each call checks all of SIZ: for all components call winterhasp_component_within instead.
-   Refusals: 1, 2, 3, 24, 25, 22. WINTERHASP_NO_SUCH_COMPONENT past the last component, and all numbers stay. */
+/* "Components". The component of a number, from 0: the bits of a sample, 1 where samples have a sign, how many columns and rows
+   of the reference grid lie from sample to sample, and the component's area: `x1` - `x0` samples in each of `y1` - `y0` rows.
+   Refusals: 1, 2, 3, 24, 25, 22. WINTERHASP_NO_SUCH_COMPONENT past the last one, and all numbers stay. */
 uint32_t winterhasp_component(const uint8_t *codestream, size_t codestream_len, uint64_t number, uint64_t *bits,
                               uint64_t *signed_samples, uint64_t *xrsiz, uint64_t *yrsiz, uint64_t *x0, uint64_t *y0,
                               uint64_t *x1, uint64_t *y1);
 
-/* "Components". The same in a tile. Refusals: 1, 2, 3, 24, 25, 22, 10. WINTERHASP_NO_SUCH_COMPONENT, as above. */
+/* "Components". The same in a tile. Refusals: 1, 2, 3, 24, 25, 22, 10. WINTERHASP_NO_SUCH_COMPONENT as above. */
 uint32_t winterhasp_component_in_tile(const uint8_t *codestream, size_t codestream_len, uint16_t tile, uint64_t number,
                                       uint64_t *bits, uint64_t *signed_samples, uint64_t *xrsiz, uint64_t *yrsiz,
                                       uint64_t *x0, uint64_t *y0, uint64_t *x1, uint64_t *y1);
 
-/* "Components". The same in any area, in constant time, for who takes all components one by one: winterhasp_read_components or
-   winterhasp_read_components_in_tile tells how many and the area, and has checked them. Never refuses: 0, or
-   WINTERHASP_NO_SUCH_COMPONENT, and all numbers stay. */
+/* "Components". The same in any area, in constant time, for who takes all components, one by one: the two functions that read
+   components have checked them, and tell how many there are and the area. The two above read all of SIZ in each call.
+   Never refuses: 0, or WINTERHASP_NO_SUCH_COMPONENT, and all numbers stay. */
 uint32_t winterhasp_component_within(const uint8_t *codestream, size_t codestream_len, uint32_t area_x0, uint32_t area_y0,
                                      uint32_t area_x1, uint32_t area_y1, uint64_t number, uint64_t *bits,
                                      uint64_t *signed_samples, uint64_t *xrsiz, uint64_t *yrsiz, uint64_t *x0, uint64_t *y0,

@@ -17,7 +17,8 @@ from verdict import verdict
 ROOT = Path(__file__).resolve().parent.parent
 # the listing program's own: no comparison meets it, and tests/listing.py has to
 LISTING = 23
-# no refusal's
+# no refusals': a call accepts, or there is no answer; and there is no such component
+NOT_REFUSED = {0, 256}
 UNUSED = 1000
 
 RULES = "docs/RULES.md"
@@ -202,10 +203,9 @@ def in_listing(known, text):
 
 
 def in_code(known, text):
-    """0, which is returned where a call accepts or where there is none, is no refusal."""
     where = "the Rattle code"
     given = numbers(GIVEN, text)
-    return unknown(where, given | numbers(RETURNED, text) - {0}, known) + unnamed(where, given, of(known))
+    return unknown(where, given | numbers(RETURNED, text) - NOT_REFUSED, known) + unnamed(where, given, of(known))
 
 
 class Held(NamedTuple):
