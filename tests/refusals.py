@@ -17,7 +17,7 @@ from verdict import verdict
 ROOT = Path(__file__).resolve().parent.parent
 # the listing program's own: no comparison meets it, and tests/listing.py has to
 LISTING = 23
-# no refusals': a call accepts, or there is no answer; and there is no such component
+# what is returned and is no refusal: a call accepts, or there is nothing; there is no such component
 NOT_REFUSED = {0, 256}
 UNUSED = 1000
 

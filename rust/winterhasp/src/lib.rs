@@ -28,6 +28,7 @@
 // The runs beside the original share this file, and call what the safe functions have no use for.
 #[allow(unsafe_code, dead_code)]
 mod boundary;
+mod components;
 mod extent;
 mod growth;
 mod header;
@@ -41,6 +42,7 @@ mod split;
 mod tile;
 mod tile_part;
 
+pub use components::{component, component_in_tile, Area, Component, ComponentIter, Components};
 pub use extent::{main_header_extent, MainHeaderExtent};
 pub use growth::{grow_header_region, next_region, HeaderRegion};
 pub use header::{parse_main_header, MainHeader};
