@@ -57,6 +57,51 @@ static void headers(const uint8_t *sample)
     CHECK(width == 2 && height == 6 && components == 1 && bits == 8 && sign == 0);
 }
 
+/* The sample has one component of 10 by 6, of which tile 5 is the corner from 8, 4 on. */
+static void components(const uint8_t *sample)
+{
+    uint8_t fewer[45];
+    uint64_t count = 7, x0 = 7, y0 = 7, x1 = 7, y1 = 7, bits = 7, sign = 7, xrsiz = 7, yrsiz = 7;
+    CHECK(winterhasp_read_components(sample, 44, &count, &x0, &y0, &x1, &y1) == WINTERHASP_SEGMENT_PAST_END);
+    CHECK(count == 2 && x0 == 7 && y0 == 7 && x1 == 7 && y1 == 7);
+    CHECK(winterhasp_read_components(sample, 45, &count, &x0, &y0, &x1, &y1) == 0);
+    CHECK(count == 1 && x0 == 0 && y0 == 0 && x1 == 10 && y1 == 6);
+    CHECK(winterhasp_read_components_in_tile(sample, SAMPLE_BYTES, 5, &count, &x0, &y0, &x1, &y1) == 0);
+    CHECK(count == 1 && x0 == 8 && y0 == 4 && x1 == 10 && y1 == 6);
+    CHECK(winterhasp_read_components_in_tile(sample, SAMPLE_BYTES, 6, &count, &x0, &y0, &x1, &y1) == WINTERHASP_TILE_OUTSIDE);
+    CHECK(count == 2 && x0 == 8 && y0 == 4 && x1 == 10 && y1 == 6);
+
+    CHECK(winterhasp_component(sample, SAMPLE_BYTES, 1, &bits, &sign, &xrsiz, &yrsiz, &x0, &y0, &x1, &y1) ==
+          WINTERHASP_NO_SUCH_COMPONENT);
+    CHECK(bits == 7 && sign == 7 && xrsiz == 7 && yrsiz == 7 && x0 == 8 && y0 == 4 && x1 == 10 && y1 == 6);
+    CHECK(winterhasp_component(sample, SAMPLE_BYTES, 0, &bits, &sign, &xrsiz, &yrsiz, &x0, &y0, &x1, &y1) == 0);
+    CHECK(bits == 8 && sign == 0 && xrsiz == 1 && yrsiz == 1 && x0 == 0 && y0 == 0 && x1 == 10 && y1 == 6);
+
+    /* a sample for 3 columns and 4 rows, of 12 bits with a sign */
+    memcpy(fewer, sample, sizeof fewer);
+    fewer[42] = 0x8B;
+    fewer[43] = 3;
+    fewer[44] = 4;
+    CHECK(winterhasp_component_in_tile(fewer, sizeof fewer, 5, 0, &bits, &sign, &xrsiz, &yrsiz, &x0, &y0, &x1, &y1) == 0);
+    CHECK(bits == 12 && sign == 1 && xrsiz == 3 && yrsiz == 4 && x0 == 3 && y0 == 1 && x1 == 4 && y1 == 2);
+    CHECK(winterhasp_component_in_tile(fewer, sizeof fewer, 6, 1, &bits, &sign, &xrsiz, &yrsiz, &x0, &y0, &x1, &y1) ==
+          WINTERHASP_TILE_OUTSIDE);
+    CHECK(bits == 2 && sign == 1 && xrsiz == 3 && yrsiz == 4 && x0 == 3 && y0 == 1 && x1 == 4 && y1 == 2);
+    CHECK(winterhasp_component_within(fewer, sizeof fewer, 1, 2, UINT32_MAX, 9, 0, &bits, &sign, &xrsiz, &yrsiz, &x0, &y0, &x1,
+                                      &y1) == 0);
+    CHECK(bits == 12 && sign == 1 && xrsiz == 3 && yrsiz == 4 && x0 == 1 && y0 == 1 && x1 == 1431655765 && y1 == 3);
+    CHECK(winterhasp_component_within(fewer, 44, 0, 0, 10, 6, 0, &bits, &sign, &xrsiz, &yrsiz, &x0, &y0, &x1, &y1) ==
+          WINTERHASP_NO_SUCH_COMPONENT);
+    CHECK(bits == 12 && sign == 1 && xrsiz == 3 && yrsiz == 4 && x0 == 1 && y0 == 1 && x1 == 1431655765 && y1 == 3);
+    fewer[44] = 0;
+    CHECK(winterhasp_component(fewer, sizeof fewer, 0, &bits, &sign, &xrsiz, &yrsiz, &x0, &y0, &x1, &y1) ==
+          WINTERHASP_SUBSAMPLING_OF_0);
+    CHECK(bits == 2 && sign == 1);
+    fewer[41] = 2;
+    CHECK(winterhasp_read_components(fewer, sizeof fewer, &count, &x0, &y0, &x1, &y1) == WINTERHASP_COMPONENTS_NOT_HELD);
+    CHECK(count == 2 && x0 == 1);
+}
+
 /* The decode header is the sample's first 45 bytes. */
 static void main_header(const uint8_t *sample, uint8_t *decode_header)
 {
@@ -135,6 +180,7 @@ int main(void)
         return EXIT_FAILURE;
     places();
     headers(sample);
+    components(sample);
     main_header(sample, decode_header);
     parts(sample);
     tile(sample, decode_header);

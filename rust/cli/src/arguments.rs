@@ -32,7 +32,14 @@ Offsets behind `codestream` count from the codestream's start.";
 const SHOW: &str = "\
 Examples:
   winterhasp show flight.jp2
-  winterhasp show --json flight.jp2";
+  winterhasp show --tile 5 flight.jp2         the components' sizes in tile 5 too
+  winterhasp show --json flight.jp2
+
+Components:
+  8 bits, unsigned; 5 by 3, from 2, 1 on; a sample for 2 by 2
+is a component with 3 rows of 5 samples, the first at 2, 1 of its own grid; each stands for 2 columns and 2 rows of the image.
+Equal ones beside each other share a line, with the first and the last number, from 0. In JSON x0, y0 is the place of the first
+sample, and x1, y1 lie behind the last.";
 
 const TILE: &str = "\
 Examples:
@@ -65,7 +72,7 @@ pub enum Command {
     /// List the tile-parts of files and folders
     #[command(after_help = LIST)]
     List(List),
-    /// Show what one file holds: image, tiles, what is missing, where its tile-parts end
+    /// Show what one file holds: image, tiles, components, what is missing, where its tile-parts end
     #[command(after_help = SHOW)]
     Show(Show),
     /// Cut out one tile as a codestream
@@ -99,6 +106,9 @@ pub struct Show {
     /// One JSON object
     #[arg(long)]
     pub json: bool,
+    /// Also the sizes of the components in this tile, from 0 to 65535
+    #[arg(long, value_name = "N", value_parser = index)]
+    pub tile: Option<u16>,
 }
 
 #[derive(Args)]

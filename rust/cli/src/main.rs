@@ -3,6 +3,7 @@
 #![deny(unsafe_code)]
 
 mod arguments;
+mod components;
 mod contents;
 mod files;
 mod list;

@@ -5,13 +5,16 @@ use std::ops::RangeInclusive;
 use std::path::Path;
 
 use serde::Serialize;
-use winterhasp::{parse_siz_marker, Codestream, CodestreamOffset, FileOffset, Refusal, TilePart};
+use winterhasp::{
+    parse_siz_marker, Codestream, CodestreamOffset, Components, FileOffset, Refusal, TilePart,
+};
 
 use crate::arguments;
+use crate::components::{InTile, Line, Sizes};
 use crate::contents::Contents;
 use crate::names::shown;
 use crate::output::{print, tell};
-use crate::siz::{Component, Grid, Pair, Siz};
+use crate::siz::{box_text, Grid, Pair, Siz};
 use crate::stages::{parts_without_tlm, End, Stages, Stopped};
 use crate::tiles::{ranges_text, Tiles};
 use crate::trouble::{about, sentence, Refused, Status, Trouble};
@@ -19,7 +22,7 @@ use crate::trouble::{about, sentence, Refused, Status, Trouble};
 pub fn show(arguments: &arguments::Show) -> Result<Status, Trouble> {
     let path = &arguments.file;
     let contents = Contents::open(path)?;
-    let (report, refusal) = Report::of(path, contents.bytes());
+    let (report, trouble) = Report::of(path, contents.bytes(), arguments.tile);
     contents.unchanged(path)?;
     let text = if arguments.json {
         report.json()?
@@ -27,11 +30,10 @@ pub fn show(arguments: &arguments::Show) -> Result<Status, Trouble> {
         report.text()
     };
     print(text.as_bytes())?;
-    let Some(refusal) = refusal else {
+    let Some(trouble) = trouble else {
         return Ok(Status::Accepted);
     };
-    let start = report.codestream.map(|place| FileOffset(place.start));
-    tell(&about(path, sentence(refusal, start)));
+    tell(&about(path, trouble));
     Ok(Status::Refused)
 }
 
@@ -46,7 +48,9 @@ struct Report {
     image: Option<Box>,
     tile: Option<Box>,
     grid: Option<GridReport>,
-    components: Option<Components>,
+    components: Option<Sizes>,
+    /// None: it isn't asked for, or SIZ is not known.
+    in_tile: Option<InTile>,
     header: Option<Header>,
     tile_parts: Option<TileParts>,
     tiles: Option<TilesReport>,
@@ -73,20 +77,6 @@ struct GridReport {
     columns: u64,
     rows: u64,
     tiles: u64,
-}
-
-#[derive(Serialize)]
-struct Components {
-    count: u16,
-    described: Vec<ComponentReport>,
-}
-
-#[derive(Serialize, Clone, Copy, PartialEq)]
-struct ComponentReport {
-    bits: u8,
-    signed: bool,
-    dx: u8,
-    dy: u8,
 }
 
 #[derive(Serialize)]
@@ -132,10 +122,20 @@ struct Ended {
 }
 
 impl Report {
-    fn of(path: &Path, file: &[u8]) -> (Self, Option<Refusal>) {
+    /// And a sentence where the file is refused, or the tile that is asked for.
+    fn of(path: &Path, file: &[u8], tile: Option<u16>) -> (Self, Option<String>) {
         let stages = Stages::of(file);
-        let (siz, siz_refused) = siz_of(&stages);
-        let refusal = stages.refused.or(siz_refused);
+        let start = stages.start();
+        let header = header_with_siz(&stages);
+        let (siz, siz_refused) = header.map_or((None, None), siz_of);
+        // No more is asked of a SIZ that is refused.
+        let known = header.filter(|_| siz.is_some());
+        let components = known.map(Components::read);
+        let in_tile = tile
+            .zip(known)
+            .map(|(tile, header)| Components::read_in_tile(header, tile));
+        let of_file = stages.refused.or(siz_refused).or(refused(components));
+        let refusal = of_file.or(refused(in_tile));
         let mut report = Report {
             file: shown(path),
             bytes: file.len() as u64,
@@ -143,7 +143,7 @@ impl Report {
                 None => "accepted",
                 Some(_) => "refused",
             },
-            refused: refusal.map(|refusal| Refused::new(refusal, stages.start())),
+            refused: refusal.map(|refusal| Refused::new(refusal, start)),
             container: stages.codestream.map(container),
             codestream: stages.codestream.map(place),
             header: stages.header.as_ref().map(|header| Header {
@@ -154,22 +154,29 @@ impl Report {
             image: None,
             tile: None,
             grid: None,
-            components: None,
+            components: components.map(|read| Sizes::of(read, start)),
+            in_tile: None,
             tile_parts: None,
             tiles: None,
             scan_ended: None,
         };
         if let Some(siz) = &siz {
             report.add_siz(siz);
+            let in_tile = tile.zip(in_tile);
+            report.in_tile =
+                in_tile.map(|(tile, read)| InTile::of(tile, siz, Sizes::of(read, start)));
         }
         if let Some(codestream) = stages.codestream {
-            let parts = stages
-                .parts
-                .or_else(|| parts_of_refused(refusal, codestream));
+            let parts = stages.parts;
+            let parts = parts.or_else(|| parts_of_refused(stages.refused, codestream));
             let grid = siz.as_ref().and_then(Siz::grid);
             report.add_parts(codestream, parts.as_deref().unwrap_or_default(), grid);
         }
-        (report, refusal)
+        let trouble = refusal.map(|refusal| match (of_file, tile) {
+            (None, Some(tile)) => format!("tile {tile}: {}", sentence(refusal, start)),
+            _ => sentence(refusal, start),
+        });
+        (report, trouble)
     }
 
     fn add_siz(&mut self, siz: &Siz) {
@@ -179,10 +186,6 @@ impl Report {
             columns: grid.columns,
             rows: grid.rows,
             tiles: grid.tiles(),
-        });
-        self.components = Some(Components {
-            count: siz.count,
-            described: siz.components.iter().map(ComponentReport::of).collect(),
         });
     }
 
@@ -207,33 +210,31 @@ impl Report {
     }
 
     fn text(&self) -> String {
-        let lines = [
+        let tiles = self.tiles.as_ref();
+        let before = [
             ("file", Some(format!("{}, {} bytes", self.file, self.bytes))),
             ("container", self.container_text()),
             ("image", self.image.as_ref().map(Box::text)),
             ("tiles", self.tiles_text()),
-            ("components", self.components.as_ref().map(Components::text)),
+        ];
+        let sizes = self.components.iter();
+        let components = sizes.flat_map(|sizes| sizes.lines("components".to_string()));
+        let in_tile = self.in_tile.iter().flat_map(InTile::lines);
+        let behind = [
             ("header", self.header.as_ref().map(Header::text)),
             ("tlm", self.header.as_ref().map(Header::tlm_text)),
             ("tile-parts", self.tile_parts.as_ref().map(TileParts::text)),
             ("present", self.present_text()),
-            (
-                "missing",
-                self.tiles.as_ref().map(TilesReport::missing_text),
-            ),
-            (
-                "outside",
-                self.tiles.as_ref().and_then(TilesReport::outside_text),
-            ),
+            ("missing", tiles.map(TilesReport::missing_text)),
+            ("outside", tiles.and_then(TilesReport::outside_text)),
             ("scan ended", self.scan_ended.as_ref().map(Ended::text)),
-            ("refused", self.refused.as_ref().map(refused_text)),
+            ("refused", self.refused.as_ref().map(Refused::text)),
         ];
+        let lines = known(before).chain(components).chain(in_tile);
         let mut text = String::new();
-        for (label, line) in lines {
-            if let Some(line) = line {
-                // A string takes all that is written to it.
-                let _ = writeln!(text, "{label:<12}{line}");
-            }
+        for (label, line) in lines.chain(known(behind)) {
+            // A string takes all that is written to it.
+            let _ = writeln!(text, "{label:<11} {line}");
         }
         text
     }
@@ -283,22 +284,30 @@ fn place(codestream: Codestream) -> Place {
     }
 }
 
-/// Of a header that was accepted, or that was refused behind SIZ; and whether it is SIZ that is
-/// refused.
-fn siz_of(stages: &Stages) -> (Option<Siz>, Option<Refusal>) {
-    let whole = stages.codestream.map(|codestream| codestream.bytes);
-    let header = match (&stages.header, stages.refused) {
-        (Some(header), _) => Some(header.decode_header.as_slice()),
-        (None, Some(refusal)) if of_tlm(refusal) => whole,
+fn known<const N: usize>(lines: [(&str, Option<String>); N]) -> impl Iterator<Item = Line> + '_ {
+    let known = |(label, line): (&str, Option<String>)| Some((label.to_string(), line?));
+    lines.into_iter().filter_map(known)
+}
+
+/// Of a header that was accepted, or that was refused behind SIZ.
+fn header_with_siz<'a>(stages: &'a Stages) -> Option<&'a [u8]> {
+    match (&stages.header, stages.refused) {
+        (Some(header), _) => Some(&header.decode_header),
+        (None, Some(refusal)) if of_tlm(refusal) => Some(stages.codestream?.bytes),
         _ => None,
-    };
-    let Some(header) = header else {
-        return (None, None);
-    };
+    }
+}
+
+/// And whether it is refused.
+fn siz_of(header: &[u8]) -> (Option<Siz>, Option<Refusal>) {
     match parse_siz_marker(header) {
         Ok(_) => (Siz::of(header), None),
         Err(refusal) => (None, Some(refusal)),
     }
+}
+
+fn refused(read: Option<Result<Components, Refusal>>) -> Option<Refusal> {
+    read?.err()
 }
 
 /// The walk over the header has passed SIZ, and gave up at TLM.
@@ -323,58 +332,7 @@ impl Box {
     }
 
     fn text(&self) -> String {
-        let Box {
-            width,
-            height,
-            x_origin,
-            y_origin,
-        } = self;
-        format!("{width} by {height}, from {x_origin}, {y_origin} on")
-    }
-}
-
-impl ComponentReport {
-    fn of(component: &Component) -> Self {
-        let [dx, dy] = component.apart;
-        ComponentReport {
-            bits: component.bits,
-            signed: component.signed,
-            dx,
-            dy,
-        }
-    }
-
-    fn text(&self) -> String {
-        let ComponentReport { bits, dx, dy, .. } = self;
-        let sign = if self.signed { "signed" } else { "unsigned" };
-        match (dx, dy) {
-            (1, 1) => format!("{bits} bits, {sign}"),
-            _ => format!("{bits} bits, {sign}, a sample for {dx} by {dy}"),
-        }
-    }
-}
-
-impl Components {
-    /// Equal ones beside each other are told together.
-    fn text(&self) -> String {
-        const MOST: usize = 8;
-        let runs: Vec<_> = self.described.chunk_by(|one, other| one == other).collect();
-        let mut told: Vec<_> = runs
-            .iter()
-            .take(MOST)
-            .filter_map(|run| Some(format!("{} of {}", run.len(), run.first()?.text())))
-            .collect();
-        if runs.len() > MOST {
-            told.push("and more".to_string());
-        }
-        let undescribed = usize::from(self.count) - self.described.len();
-        if undescribed > 0 {
-            told.push(format!("{undescribed} that SIZ has no room for"));
-        }
-        match told.is_empty() {
-            true => "none".to_string(),
-            false => told.join("; "),
-        }
+        box_text([self.width, self.height], [self.x_origin, self.y_origin])
     }
 }
 
@@ -499,15 +457,4 @@ impl Ended {
             _ => format!("at the codestream's end, {place}: the last tile-part (Psot 0) takes all bytes, EOC too"),
         }
     }
-}
-
-fn refused_text(refused: &Refused) -> String {
-    let Refused {
-        number,
-        place,
-        wrong,
-        remedy,
-        ..
-    } = refused;
-    format!("{number} {place}: {wrong}; {remedy}")
 }

@@ -1,58 +1,42 @@
 //! Image and tiles by SIZ, and the grid of tiles by ISO/IEC 15444-1, B.3. The grid is computed here
 //! only until the library gives it proved; then this goes.
 
+use winterhasp::Components;
+
 /// The fields of SIZ, whose marker stands at 2 of a main header.
-#[derive(Debug, Clone, PartialEq, Eq)]
+#[derive(Debug, Clone, Copy, PartialEq, Eq)]
 pub struct Siz {
     pub size: Pair,
     pub origin: Pair,
     pub tile: Pair,
     pub tile_origin: Pair,
-    /// As many as it says that there are.
-    pub count: u16,
-    /// Those that it describes, which may be fewer.
-    pub components: Vec<Component>,
 }
 
 /// Along x and along y.
 pub type Pair = [u64; 2];
 
-#[derive(Debug, Clone, Copy, PartialEq, Eq)]
-pub struct Component {
-    pub bits: u8,
-    pub signed: bool,
-    /// Columns and rows of the reference grid to a sample.
-    pub apart: [u8; 2],
+pub fn box_text([width, height]: Pair, [x, y]: Pair) -> String {
+    format!("{width} by {height}, from {x}, {y} on")
 }
 
-/// It counts from its own two bytes on.
-const LSIZ: usize = 4;
 const SIZES: usize = 8;
-const CSIZ: usize = 40;
-const COMPONENTS: usize = 42;
 
 /// Tiles that Isot can name, by the standard.
 pub const MOST_TILES: u64 = 65_535;
 
 impl Siz {
-    /// Of a main header, or of its first bytes; nothing if they end before the components.
+    /// Of a main header, or of its first bytes; nothing if they end before these fields do.
     pub fn of(header: &[u8]) -> Option<Self> {
         let mut fields = [0; 8];
         for (number, field) in fields.iter_mut().enumerate() {
             *field = u32::from_be_bytes(array(header, SIZES + 4 * number)?).into();
         }
         let [x, y, x_origin, y_origin, tile_x, tile_y, tile_x_origin, tile_y_origin] = fields;
-        let count = u16::from_be_bytes(array(header, CSIZ)?);
-        let end = LSIZ + usize::from(u16::from_be_bytes(array(header, LSIZ)?));
-        let described = header.get(COMPONENTS..end.min(header.len()));
-        let (whole, _) = described.unwrap_or_default().as_chunks();
         Some(Siz {
             size: [x, y],
             origin: [x_origin, y_origin],
             tile: [tile_x, tile_y],
             tile_origin: [tile_x_origin, tile_y_origin],
-            count,
-            components: whole.iter().map(Component::of).take(count.into()).collect(),
         })
     }
 
@@ -69,27 +53,21 @@ impl Siz {
         Grid::of(self)
     }
 
-    /// Why a tile that is moved to the origin may decode to other pixels; nothing where it may not.
-    pub fn moved(&self) -> Option<&'static str> {
-        let factors = self.components.iter().flat_map(|component| component.apart);
+    /// Why a tile that is moved to the origin may decode to other pixels; nothing where it may not. The
+    /// components are none where they are refused.
+    pub fn moved(&self, components: Option<Components>) -> Option<&'static str> {
+        let Some(components) = components else {
+            return Some("its size segment (SIZ) does not tell the subsampling");
+        };
+        let mut factors = components.iter().flat_map(|each| [each.xrsiz, each.yrsiz]);
         if self.origin != [0; 2] || self.tile_origin != [0; 2] {
             Some("the image or its tiles do not start at 0")
         } else if !self.tile.iter().all(|side| side.is_power_of_two()) {
             Some("the sides of its tiles are not powers of two")
-        } else if !factors.into_iter().all(u8::is_power_of_two) {
+        } else if !factors.all(u8::is_power_of_two) {
             Some("its subsampling is not by powers of two")
         } else {
             None
-        }
-    }
-}
-
-impl Component {
-    fn of(&[depth, dx, dy]: &[u8; 3]) -> Self {
-        Component {
-            bits: depth % 128 + 1,
-            signed: depth >= 128,
-            apart: [dx, dy],
         }
     }
 }
@@ -127,7 +105,9 @@ impl Grid {
 
 #[cfg(test)]
 mod tests {
-    use super::{Component, Grid, Siz};
+    use winterhasp::Components;
+
+    use super::{Grid, Siz};
 
     const SAMPLE: &[u8] = include_bytes!("../../../crates/tileparts/stdin");
 
@@ -142,29 +122,15 @@ mod tests {
             (siz.size, siz.tile, siz.image()),
             ([10, 6], [4, 4], Some([10, 6]))
         );
-        let component = Component {
-            bits: 8,
-            signed: false,
-            apart: [1, 1],
-        };
-        assert_eq!((siz.count, siz.components), (1, vec![component]));
+        assert_eq!((siz.origin, siz.tile_origin), ([0, 0], [0, 0]));
     }
 
     #[test]
     fn a_header_that_ends_early_has_none() {
-        for length in 0..42 {
+        for length in 0..40 {
             assert_eq!(Siz::of(&SAMPLE[..length]), None, "{length}");
         }
-        let cut = Siz::of(&SAMPLE[..44]).expect("up to its components");
-        assert_eq!((cut.count, cut.components.len()), (1, 0));
-    }
-
-    #[test]
-    fn a_component_is_inside_its_segment() {
-        let mut more = SAMPLE.to_vec();
-        more[41] = 2;
-        let siz = Siz::of(&more).expect("a whole SIZ");
-        assert_eq!((siz.count, siz.components.len()), (2, 1));
+        assert_eq!(Siz::of(&SAMPLE[..40]), Some(siz()));
     }
 
     #[test]
@@ -191,17 +157,26 @@ mod tests {
 
     #[test]
     fn a_moved_tile_keeps_its_pixels_where_all_is_a_power_of_two() {
-        assert_eq!(siz().moved(), None);
-        let other = |change: fn(&mut Siz)| {
-            let mut siz = siz();
-            change(&mut siz);
-            siz.moved().is_some()
+        // in the codestream: XOsiz, XTsiz, XTOsiz, XRsiz and YRsiz end there
+        let moved = |changes: &[(usize, u8)]| {
+            let mut header = SAMPLE.to_vec();
+            for &(at, byte) in changes {
+                header[at] = byte;
+            }
+            let siz = Siz::of(&header).expect("a whole SIZ");
+            siz.moved(Components::read(&header).ok())
         };
-        assert!(other(|siz| siz.origin[1] = 1));
-        assert!(other(|siz| siz.tile_origin[0] = 4));
-        assert!(other(|siz| siz.tile[0] = 96));
-        assert!(other(|siz| siz.components[0].apart[1] = 3));
-        assert!(other(|siz| siz.components[0].apart[0] = 0));
-        assert!(!other(|siz| siz.components[0].apart = [2, 4]));
+        assert_eq!(moved(&[]), None);
+        assert_eq!(moved(&[(43, 2), (44, 4)]), None);
+        let origin = moved(&[(19, 1)]).expect("an origin of the image");
+        assert_eq!(moved(&[(35, 4)]), Some(origin));
+        let side = moved(&[(27, 96)]).expect("a side of 96");
+        let subsampling = moved(&[(44, 3)]).expect("a sample for 3 rows");
+        let unknown = moved(&[(43, 0)]).expect("a sample for 0 columns");
+        assert_eq!(moved(&[(41, 2)]), Some(unknown));
+        let all = [origin, side, subsampling, unknown];
+        for (number, one) in all.iter().enumerate() {
+            assert!(!all[..number].contains(one), "{one}");
+        }
     }
 }

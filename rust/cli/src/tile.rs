@@ -2,7 +2,7 @@
 
 use std::path::{Path, PathBuf};
 
-use winterhasp::{build_minimal_codestream, TileParts};
+use winterhasp::{build_minimal_codestream, Components, TileParts};
 
 use crate::arguments::Tile;
 use crate::contents::Contents;
@@ -55,7 +55,8 @@ fn cut(file: &Path, contents: &Contents, index: u16) -> Result<Cut, Trouble> {
         Trouble::refused(file, format!("tile {index}: {}", sentence(refusal, start)))
     })?;
     let kept = bytes.starts_with(header);
-    let notes = siz.map_or_else(Vec::new, |siz| notes(&siz, index, kept));
+    let moved = siz.and_then(|siz| siz.moved(Components::read(header).ok()));
+    let notes = siz.map_or_else(Vec::new, |siz| notes(&siz, index, moved, kept));
     Ok(Cut { bytes, notes })
 }
 
@@ -73,10 +74,10 @@ fn none_of(index: u16) -> String {
     format!("tile {index} has no tile-part; `winterhasp show` lists the tiles that are missing")
 }
 
-/// What has to be known of the tile before it is decoded; `kept` is whether it has the whole
-/// image's header.
-fn notes(siz: &Siz, index: u16, kept: bool) -> Vec<String> {
-    let moved = siz.moved().map(|why| {
+/// What has to be known of the tile before it is decoded: why other pixels may come of it, if they
+/// may; `kept` is whether it has the whole image's header.
+fn notes(siz: &Siz, index: u16, moved: Option<&str>, kept: bool) -> Vec<String> {
+    let moved = moved.map(|why| {
         format!("note: tile {index} is moved to the origin and may decode to other pixels than in the whole image, since {why}")
     });
     let canvas = siz.image().filter(|image| kept && *image != siz.tile);

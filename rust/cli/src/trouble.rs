@@ -97,6 +97,18 @@ impl Refused {
             remedy: remedy(refusal),
         }
     }
+
+    /// Its number and place, and both in words.
+    pub fn text(&self) -> String {
+        let Refused {
+            number,
+            place,
+            wrong,
+            remedy,
+            ..
+        } = self;
+        format!("{number} {place}: {wrong}; {remedy}")
+    }
 }
 
 fn in_file(refusal: Refusal, start: Option<FileOffset>) -> Option<u64> {
