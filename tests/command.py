@@ -66,6 +66,31 @@ def sentence(number, place, start=0):
     return f"{words.wrong}, at byte {place} of the {words.origin}{in_file} (refusal {number}); {words.remedy}"
 
 
+def refused_line(number, place):
+    return f"{number} {place}: {WORDS[number].wrong}; {WORDS[number].remedy}"
+
+
+def of_components(out):
+    """What `show` tells of components and of a tile: the lines behind those of the tiles, and before the header's or others."""
+    lines = out.splitlines()
+    behind = ("header", "tlm ", "tile-parts", "scan ", "refused")
+    started = [line.startswith("tiles ") for line in lines]
+    lines = lines[started.index(True) + 1 :] if True in started else []
+    return lines[: next((at for at, line in enumerate(lines) if line.startswith(behind)), len(lines))]
+
+
+def measured(area, components):
+    """What JSON has of them in an area, by the standard's own sums."""
+    names = ["x0", "y0", "x1", "y1"]
+    up = lambda number, divisor: -(-number // divisor)
+    described = [
+        {"bits": depth % 128 + 1, "signed": depth >= 128, "xrsiz": dx, "yrsiz": dy}
+        | {name: up(edge, apart) for name, edge, apart in zip(names, area, (dx, dy, dx, dy))}
+        for depth, dx, dy in components
+    ]
+    return {"area": dict(zip(names, area)), "count": len(components), "described": described}
+
+
 # Files
 
 
@@ -101,6 +126,7 @@ LONG_LSOT = TWO_PARTS[: SECOND + 3] + b"\x0b" + TWO_PARTS[SECOND + 4 :]
 CUT = TWO_PARTS[: -len(EOC) - 1]
 SHORT_TLM = with_header(siz(), segment(0xFF55, b"\0"), parts=part(0, 14))
 ODD_TLM = with_header(siz(), segment(0xFF55, b"\0\x30\0\0"), parts=part(0, 14))
+BOTH_WRONG = with_header(size_segment((8, 8), (4, 4), components=[(7, 0, 1)]), segment(0xFF55, b"\0"), parts=part(0, 14))
 NO_SIZ = with_header(segment(0xFF64, b"\0\1"), parts=part(0, 14))
 # the second part says 30 of its 40 bytes
 _, THREE_PARTS = codestream([], [14, 40, 14])
@@ -110,6 +136,10 @@ OPEN = TWO_PARTS[: SECOND + 9] + b"\0" + TWO_PARTS[SECOND + 10 :]
 # a grid by which the rules refuse a tile that is there
 FAR = size_segment((2, 6), (2**32 - 1, 4), origin=(1, 0))
 MANY = 12_000
+COMPONENTS = [(7, 1, 1), (7, 2, 3), (7, 2, 3), (0x8B, 1, 1)]
+MOST_COMPONENTS = 16_384
+# no two beside each other are alike
+ALL_DIFFERENT = [(at % 256, at % 255 + 1, 1) for at in range(MOST_COMPONENTS)]
 
 FILES = {
     "a.j2k": SAMPLE,
@@ -129,9 +159,13 @@ FILES = {
     "moved.j2k": with_header(size_segment((9, 8), (4, 4), (1, 0), (1, 0)), parts=part(1, 14)),
     "third.j2k": with_header(size_segment((8, 8), (4, 4), components=((7, 3, 1),)), parts=part(1, 14)),
     "one.j2k": with_header(size_segment((4, 4), (4, 4)), parts=part(0, 14)),
-    "components.j2k": with_header(
-        size_segment((8, 4), (4, 4), components=((7, 1, 1), (7, 2, 2), (7, 2, 2), (0x8B, 1, 1))), parts=part(0, 14)
-    ),
+    "components.j2k": with_header(size_segment((11, 7), (4, 4), (1, 2), (1, 2), COMPONENTS), parts=part(0, 14)),
+    "most-alike.j2k": with_header(size_segment((10, 6), (4, 4), components=COMPONENTS[1:2] * MOST_COMPONENTS), parts=part(0, 14)),
+    "most.j2k": with_header(size_segment((10, 6), (4, 4), components=ALL_DIFFERENT), parts=part(0, 14)),
+    "not-held.jp2": jp2(with_header(siz().replace(bytes([0, 1, 7, 1, 1]), bytes([0, 2, 7, 1, 1])), parts=part(0, 14))),
+    "0-apart.j2k": with_header(size_segment((8, 8), (4, 4), components=COMPONENTS + [(7, 1, 0)]), parts=part(0, 14)),
+    "origins.j2k": with_header(size_segment((9, 8), (4, 4), (1, 0)), parts=part(1, 14)),
+    "flat.j2k": with_header(size_segment((8, 8), (4, 0)), parts=part(0, 14)),
     "too-many.j2k": with_header(size_segment((65_536, 1), (1, 1)), parts=part(65_535, 14)),
     "no-grid.j2k": with_header(size_segment((8, 8), (0, 4)), parts=part(0, 14)),
     "siz-cut.j2k": with_header(segment(0xFF51, b""), parts=part(0, 14)),
@@ -174,6 +208,7 @@ REFUSED = {
     "header.j2k": in_stage(HEADER + b"\xff\x64\0\x09", 3, len(HEADER), False),
     "tlm4.j2k": in_stage(SHORT_TLM, 4, len(HEADER), False),
     "tlm4.jp2": in_stage(SHORT_TLM, 4, len(HEADER), False, True),
+    "0-apart-tlm4.j2k": in_stage(BOTH_WRONG, 4, len(HEADER), False),
     "tlm5.j2k": in_stage(ODD_TLM, 5, len(HEADER), False),
     "no-sot.j2k": in_stage(HEADER, 6, len(HEADER), False),
     "short.j2k": in_stage(TWO_PARTS[: SECOND + 11], 7, SECOND, True),
@@ -216,7 +251,7 @@ file        {name}, {size} bytes
 container   {container}
 image       10 by 6, from 0, 0 on
 tiles       4 by 4, from 0, 0 on; 6 in a grid of 3 by 2
-components  1 of 8 bits, unsigned
+components  1 of 8 bits, unsigned; 10 by 6, from 0, 0 on
 header      57 bytes, 45 without TLM
 tlm         2 entries
 tile-parts  2, 30 bytes, from byte 57 of the codestream, byte {start + 57} of the file on
@@ -255,9 +290,6 @@ SHOWS = {
     ],
     "outside.j2k": ["missing     5: 0 2-5", "outside     tile-parts of tiles that the grid does not have: 6"],
     "moved.j2k": ["image       8 by 8, from 1, 0 on", "tiles       4 by 4, from 1, 0 on; 4 in a grid of 2 by 2"],
-    "components.j2k": [
-        "components  1 of 8 bits, unsigned; 2 of 8 bits, unsigned, a sample for 2 by 2; 1 of 12 bits, signed",
-    ],
     "too-many.j2k": ["present     1 of 65536 tiles", "missing     65535; more tiles than an index can name"],
     "no-grid.j2k": ["tiles       0 by 4, from 0, 0 on; they make no grid"],
 }
@@ -354,8 +386,7 @@ class Runs:
             self.case(Case(["list", file], 1, told, error))
             self.cases([Case(["tile", file, "0", "-o", OUT], 1, error=error), Case(["grid", file, "-o", OUT], 1, error=error)])
             status, out, said = self.run("show", file)
-            words = WORDS[refused.number]
-            last = f"refused     {refused.number} {refused.place}: {words.wrong}; {words.remedy}"
+            last = f"refused     {refused_line(refused.number, refused.place)}"
             self.hold(f"show {file}", (status, out.splitlines()[-1], said), (1, last, error))
         # where only TLM is wrong the scan is shown
         self.hold("show tlm4.jp2", "tile-parts  1, 14 bytes, " in self.run("show", "tlm4.jp2")[1], True)
@@ -364,6 +395,98 @@ class Runs:
             self.hold(f"list {file}", self.run("list", file)[0], 0)
             status, _, said = self.run("show", file)
             self.hold(f"show {file}", (status, said), (1, about(file, sentence(number, 2))))
+
+    def components(self):
+        """Their sizes in the image and in a tile, as text and as JSON. Equal ones share a line."""
+        alike = lambda size: f"8 bits, unsigned; {size} on"
+        fewer = lambda size: f"8 bits, unsigned; {size} on; a sample for 2 by 3"
+        signed = lambda size: f"12 bits, signed; {size} on"
+        whole = ["components  4", f"  0         {alike('10 by 5, from 1, 2')}", f"  1-2       {fewer('5 by 2, from 1, 1')}"]
+        whole += [f"  3         {signed('10 by 5, from 1, 2')}"]
+        in_tile = {
+            1: ["tile 1      4 by 4, from 5, 2 on", "in tile 1   4", f"  0         {alike('4 by 4, from 5, 2')}"]
+            + [f"  1-2       {fewer('2 by 1, from 3, 1')}", f"  3         {signed('4 by 4, from 5, 2')}"],
+            5: ["tile 5      2 by 1, from 9, 6 on", "in tile 5   4", f"  0         {alike('2 by 1, from 9, 6')}"]
+            + [f"  1-2       {fewer('1 by 1, from 5, 2')}", f"  3         {signed('2 by 1, from 9, 6')}"],
+        }
+        areas = {None: (1, 2, 11, 7), 1: (5, 2, 9, 6), 5: (9, 6, 11, 7)}
+        for tile, area in areas.items():
+            words = [] if tile is None else ["--tile", str(tile)]
+            status, out, error = self.run("show", *words, "components.j2k")
+            told = whole + in_tile.get(tile, [])
+            self.hold(f"show {words} components.j2k", (status, of_components(out), error), (0, told, ""))
+            status, out, error = self.run("show", "--json", *words, "components.j2k")
+            found = json.loads(out)
+            self.hold(f"show --json {words}", (status, found["components"], error), (0, measured(areas[None], COMPONENTS), ""))
+            wanted = None if tile is None else {"index": tile, "note": None} | measured(area, COMPONENTS)
+            self.hold(f"show --json {words}", found["in_tile"], wanted)
+        self.components_refused()
+        self.components_noted()
+        self.most_components()
+
+    def components_refused(self):
+        """All else is shown, in its place stands why, and the status is 1."""
+        for file, number, start in ("not-held.jp2", 24, START), ("0-apart.j2k", 25, 0):
+            self.hold(f"list {file}", self.run("list", file)[0], 0)
+            last = refused_line(number, 2)
+            for words in [], ["--tile", "1"]:
+                status, out, said = self.run("show", *words, file)
+                lines = out.splitlines()
+                saw = status, of_components(out), lines[-2].split()[0], lines[-1], said
+                why = [f"components  refused {last}"] + [f"tile 1      refused {last}"] * len(words[:1])
+                wanted = 1, why, "scan", f"refused     {last}", about(file, sentence(number, 2, start))
+                self.hold(f"show {words} {file}", saw, wanted)
+            found = json.loads(self.run("show", "--json", file)[1])
+            saw = found["status"], found["components"]["refused"]["number"], found["refused"], found["grid"]["tiles"] > 0
+            self.hold(f"show --json {file}", saw, ("refused", number, found["components"]["refused"], True))
+        # the walk over the header comes first
+        status, out, said = self.run("show", "0-apart-tlm4.j2k")
+        saw = status, of_components(out), out.splitlines()[-1], said
+        why = f"components  refused {refused_line(25, 2)}"
+        last = f"refused     {refused_line(4, len(HEADER))}"
+        self.hold("show 0-apart-tlm4.j2k", saw, (1, [why], last, about("0-apart-tlm4.j2k", sentence(4, len(HEADER)))))
+        # a SIZ that is refused has neither
+        _, out, said = self.run("show", "--tile", "0", "siz-back.j2k")
+        self.hold("show --tile 0 siz-back.j2k", (of_components(out), said), ([], about("siz-back.j2k", sentence(22, 2))))
+
+    def components_noted(self):
+        """A tile that is refused, that the grid does not have, or that the standard has elsewhere."""
+        none, no_grid = "the grid has no such tile", "the tiles make no grid"
+        elsewhere = "counted from the image's origin, as it is cut, and not from the tiles' origin"
+        for file, tile, start, note in (
+            ("a.j2k", 6, 0, none), ("a.jp2", 65_535, START, none), ("far.jp2", 0, START, elsewhere), ("no-grid.j2k", 0, 0, no_grid),
+        ):  # fmt: skip
+            status, out, said = self.run("show", "--tile", str(tile), file)
+            line = f"{f'tile {tile}':<11} refused {refused_line(10, 2)}; note: {note}"
+            saw = status, of_components(out)[1:], out.splitlines()[-1], said
+            wanted = 1, [line], f"refused     {refused_line(10, 2)}", about(file, f"tile {tile}: {sentence(10, 2, start)}")
+            self.hold(f"show --tile {tile} {file}", saw, wanted)
+            found = json.loads(self.run("show", "--json", "--tile", str(tile), file)[1])["in_tile"]
+            self.hold(f"show --json --tile {tile} {file}", (found["refused"]["number"], found["note"]), (10, note))
+        for file, tile, size, note in (
+            ("third.j2k", 4, "4 by 0, from 0, 8", none), ("origins.j2k", 1, "4 by 4, from 5, 0", elsewhere),
+            ("flat.j2k", 1, "4 by 0, from 4, 0", no_grid),
+        ):  # fmt: skip
+            status, out, _ = self.run("show", "--tile", str(tile), file)
+            line = f"tile {tile}      {size} on; note: {note}"
+            self.hold(f"show --tile {tile} {file}", (status, of_components(out)[1]), (0, line))
+
+    def most_components(self):
+        """As many as there may be, and quickly, emulator and all: each is read once."""
+        line = "8 bits, unsigned; 5 by 2, from 0, 0 on; a sample for 2 by 3"
+        _, out, _ = self.run("show", "most-alike.j2k")
+        self.hold("show most-alike.j2k", of_components(out), [f"components  {MOST_COMPONENTS} of {line}"])
+        before = time.monotonic()
+        status, out, error = self.run("show", "--tile", "5", "most.j2k")
+        took = time.monotonic() - before
+        lines = of_components(out)
+        rows = [f"  {at}" for at in range(MOST_COMPONENTS)]
+        labels = ["components", *rows, "tile 5", "in tile 5", *rows]
+        self.hold("show most.j2k", (status, [line[:11].rstrip() for line in lines], error, took < 5), (0, labels, "", True))
+        print(f"command: show most.j2k: {took:.2f} s")
+        found = json.loads(self.run("show", "--json", "--tile", "5", "most.j2k")[1])
+        self.hold("show --json most.j2k", found["components"], measured((0, 0, 10, 6), ALL_DIFFERENT))
+        self.hold("show --json most.j2k", found["in_tile"], {"index": 5, "note": None} | measured((8, 4, 10, 6), ALL_DIFFERENT))
 
     def tiles(self):
         absent = "tile {} has no tile-part; `winterhasp show` lists the tiles that are missing"
@@ -379,10 +502,11 @@ class Runs:
             "odd.j2k": [moved(1, "the sides of its tiles are not powers of two"), canvas(1, (9, 3))],
             "moved.j2k": [moved(1, origin), canvas(1, (8, 8))],
             "third.j2k": [moved(1, "its subsampling is not by powers of two"), canvas(1, (8, 8))],
+            "0-apart.j2k": [moved(0, "its size segment (SIZ) does not tell the subsampling"), canvas(0, (8, 8))],
             "one.j2k": [],
         }
         for file, said in notes.items():
-            index = "0" if file == "one.j2k" else "1"
+            index = "0" if file in ("one.j2k", "0-apart.j2k") else "1"
             error = "".join(about(file, note) for note in said)
             self.hold(f"tile {file}", self.run("tile", file, index, "-o", OUT), (0, "", error))
         # standard output, and a name made of the file's and the index
@@ -519,6 +643,8 @@ class Runs:
             status, out, error = self.run("tile", "a.j2k", index, "-o", OUT)
             why = NOT_AN_INDEX in error or index in ("", b"\xff")
             self.hold(f"INDEX {index}", (status, out, why, (self.folder / OUT).exists()), (2, "", True, False))
+            status, out, error = self.run("show", "--tile", index, "a.j2k")
+            self.hold(f"show --tile {index}", (status, out, NOT_AN_INDEX in error or why), (2, "", True))
         self.hold("--version", self.run("--version"), (0, "winterhasp 0.1.0\n", ""))
         for words in [], *([command] for command in COMMANDS):
             status, out, error = self.run(*words, "--help")
@@ -599,7 +725,7 @@ class Runs:
                 for name in contents
                 if name.startswith("not")
                 for file in [f"damaged/{name}"]
-                for words in (["show", file], ["tile", file, "5", "-o", "-"], ["grid", file, "-o", "-"])
+                for words in (["show", "--tile", "5", file], ["tile", file, "5", "-o", "-"], ["grid", file, "-o", "-"])
             ]
             quiet = lambda words: subprocess.run([self.program, *words], cwd=self.folder, capture_output=True)
             for words, ended in zip(asked, workers.map(quiet, asked)):
@@ -761,8 +887,8 @@ class Runs:
 
 
 GROUPS = [
-    Runs.accepted, Runs.refused, Runs.tiles, Runs.never_over_the_input, Runs.machines, Runs.pictures, Runs.not_read, Runs.words,
-    Runs.not_written, Runs.streams, Runs.damaged, Runs.folders, Runs.large, Runs.shrinking, Runs.encoders,
+    Runs.accepted, Runs.refused, Runs.components, Runs.tiles, Runs.never_over_the_input, Runs.machines, Runs.pictures, Runs.not_read,
+    Runs.words, Runs.not_written, Runs.streams, Runs.damaged, Runs.folders, Runs.large, Runs.shrinking, Runs.encoders,
 ]  # fmt: skip
 
 
