@@ -2,19 +2,25 @@
 """Our tile-parts and tiles beside OpenJPEG's: tests/openjpeg.py [--seconds N] [--bin DIR]
 
 Makes small images, compresses them by opj_compress over a grid of options, and for each file holds
-  the tile-parts that `winterhasp list` lists to those that OpenJPEG meets as it decodes, and
-  each tile that `winterhasp tile` cuts, decoded, to the crop of the whole picture, decoded.
+  the tile-parts that `winterhasp list` lists to those that OpenJPEG meets as it decodes,
+  each tile that `winterhasp tile` cuts, decoded, to the crop of the whole picture, decoded,
+  the components that `winterhasp show` tells to those that opj_dump tells, and
+  their sizes and places, in the image and in some tiles, to OpenJPEG's as it decodes.
 A tile is moved to the origin as it is cut. Where image and tile origin are 0 and tile sides and
 subsampling are powers of two, a side at least 2^levels times the subsampling, every tile has to be
 equal; elsewhere right and wrong ones are counted by kind of grid.
 What is cut is decoded twice: tile 0 of it, and plainly, all of it. A tile of full size keeps the
 whole image's size, so there the plain picture is that large, and the tile is its upper left corner.
+Sizes in a tile have to be equal where image and tile origin are; elsewhere the tile is counted from
+another place, and `show` has to say so.
 Status 1 if anything differs that must not, or if too little was compared; 2 if the run can't be made.
 """
 
 import argparse
+import contextlib
 import ctypes
 import itertools
+import json
 import random
 import re
 import shutil
@@ -35,6 +41,8 @@ MUST = "origin 0, powers of two, large enough"
 # Of that kind, in a run of 100 seconds. A slow machine with an emulator does twice as much.
 LEAST_FILES = 20
 LEAST_TILES = 150
+# In which components are held, where image and tile origin are equal.
+LEAST_SIZED = 60
 
 
 class Image(NamedTuple):
@@ -44,6 +52,7 @@ class Image(NamedTuple):
     height: int
     components: tuple = ((1, 1),)
     bits: int = 8
+    signed: bool = False
 
     def sampling(self):
         return ":".join(f"{dx}x{dy}" for dx, dy in self.components)
@@ -86,6 +95,9 @@ GRAY_12 = Image(90, 70, bits=12)
 COLOUR = Image(97, 75, ((1, 1),) * 3)
 HALF_WIDTH = Image(128, 60, ((1, 1), (2, 1)))
 CHROMA_HALVED = Image(128, 96, ((1, 1), (2, 2), (2, 2), (1, 1)))
+# 4:2:0
+CHROMA_420 = Image(126, 90, ((1, 1), (2, 2), (2, 2)))
+SIGNED = Image(80, 60, signed=True)
 NARROW = Image(3, 150)
 
 MANY_TILES = Grid(Image(130, 130), (8, 8), 2)
@@ -104,6 +116,7 @@ GRIDS = [
     Grid(HALF_WIDTH, (64, 32), 4),
     Grid(CHROMA_HALVED, (64, 64), 5),
     Grid(CHROMA_HALVED, (32, 32), 4),
+    Grid(SIGNED, (32, 32), 3),
     Grid(GRAY_12, (64, 64), 4, subsampling=(2, 2)),
     Grid(COLOUR, (64, 64), 5, subsampling=(2, 1)),
     Grid(GRAY_12, (128, 64), 4, subsampling=(4, 4)),
@@ -131,6 +144,19 @@ GRIDS = [
     Grid(COLOUR, (64, 64), 5, origin=(7, 9), tile_origin=(3, 5)),
     Grid(CHROMA_HALVED, (64, 64), 4, origin=(2, 2)),
     Grid(GRAY_12, (50, 30), 2, origin=(11, 0), tile_origin=(11, 0)),
+    Grid(GRAY_12, (50, 40), 2, origin=(7, 9), tile_origin=(7, 9), subsampling=(3, 2)),
+]
+
+# Of these the components alone are held: of three components, two of them with fewer samples,
+# opj_decompress makes RGB.
+GRIDS_OF_COMPONENTS = [
+    Grid(CHROMA_420, (64, 64), 4),
+    Grid(CHROMA_420, (50, 40), 2),
+    Grid(CHROMA_420, (126, 90), 1),
+    Grid(CHROMA_420, (51, 33), 2, origin=(7, 9), tile_origin=(7, 9)),
+    Grid(CHROMA_420, (64, 64), 4, origin=(1, 1), tile_origin=(1, 1)),
+    Grid(CHROMA_420, (64, 64), 4, origin=(3, 5)),
+    Grid(CHROMA_420, (50, 40), 2, origin=(9, 8), tile_origin=(5, 3)),
 ]
 
 PROGRESSIONS = ["LRCP", "RLCP", "RPCL", "PCRL", "CPRL"]
@@ -152,7 +178,8 @@ def cases():
         progression, *options, suffix = way
         found.append((grid, ["-p", progression, *itertools.chain(*options)], suffix))
     chance.shuffle(found)
-    return found
+    of_components = [(grid, [], suffix) for grid in GRIDS_OF_COMPONENTS for suffix in SUFFIXES]
+    return of_components + found
 
 
 def give_up(why):
@@ -179,7 +206,7 @@ def write_image(image, folder):
     code = "B" if image.bits <= 8 else ">H"
     packed = lambda numbers: b"".join(struct.pack(code, number) for number in numbers)
     head = f"{image.width} {image.height}\n{(1 << image.bits) - 1}\n".encode()
-    if len(planes) == 1:
+    if len(planes) == 1 and not image.signed:
         path, content = folder / "image.pgm", b"P5\n" + head + packed(planes[0])
     elif image.components == ((1, 1),) * 3:
         path, content = folder / "image.ppm", b"P6\n" + head + packed(sum(zip(*planes), ()))
@@ -188,14 +215,14 @@ def write_image(image, folder):
     path.write_bytes(content)
     if path.suffix != ".raw":
         return ["-i", str(path)]
-    form = f"{image.width},{image.height},{len(planes)},{image.bits},u@{image.sampling()}"
+    form = f"{image.width},{image.height},{len(planes)},{image.bits},{'s' if image.signed else 'u'}@{image.sampling()}"
     return ["-i", str(path), "-F", form, "-mct", "0"]
 
 
 def write_images(folder):
     """The words for each image of the grids."""
     words = {}
-    for image in {grid.image for grid in GRIDS + [MANY_TILES]}:
+    for image in {grid.image for grid in GRIDS + GRIDS_OF_COMPONENTS + [MANY_TILES]}:
         place = folder / f"image{len(words)}"
         place.mkdir()
         words[image] = write_image(image, place)
@@ -218,10 +245,21 @@ def told(words):
     return ended.stdout if ended.returncode == 0 else None
 
 
+class OpjComponent(ctypes.Structure):
+    NUMBERS = "dx dy w h x0 y0 prec bpp sgnd resno_decoded factor"
+    _fields_ = [*((name, ctypes.c_uint32) for name in NUMBERS.split()), ("data", ctypes.c_void_p), ("alpha", ctypes.c_uint16)]
+
+
+class OpjImage(ctypes.Structure):
+    NUMBERS = "x0 y0 x1 y1 numcomps color_space"
+    _fields_ = [*((name, ctypes.c_uint32) for name in NUMBERS.split()), ("comps", ctypes.POINTER(OpjComponent))]
+
+
 class Library:
     """The library behind the tools. opj_dump reads the main header alone and lists no tile-part;
     the library's own dump, asked for once the file is decoded, lists them all. Not strictly
-    decoded, as there are files of its own that it fails to decode otherwise."""
+    decoded, as there are files of its own that it fails to decode otherwise. Nor does opj_dump tell
+    the size of a component, or anything of one tile; the library's own image does."""
 
     SUFFIX_FORMATS = {"j2k": 0, "jp2": 2}
     MAIN_HEADER_INDEX = 16
@@ -239,29 +277,48 @@ class Library:
         ]:
             function.restype = ctypes.c_void_p
 
-    def dump(self, path, out):
-        """Writes the index of `path` to `out`; whether that went well."""
+    @contextlib.contextmanager
+    def opened(self, path):
+        """Codec, stream, and the image by its main header; none if that can't be read."""
         opj = self.opj
         codec = ctypes.c_void_p(opj.opj_create_decompress(self.SUFFIX_FORMATS[path.suffix[1:]]))
         parameters = ctypes.create_string_buffer(self.PARAMETERS)
         opj.opj_set_default_decoder_parameters(parameters)
         name = str(path).encode()
         stream = ctypes.c_void_p(opj.opj_stream_create_default_file_stream(name, self.IS_INPUT))
-        image = ctypes.c_void_p()
-        decoded = (
+        image = ctypes.POINTER(OpjImage)()
+        read = (
             opj.opj_setup_decoder(codec, parameters)
             and opj.opj_decoder_set_strict_mode(codec, False)
             and opj.opj_read_header(stream, codec, ctypes.byref(image))
-            and opj.opj_decode(codec, stream, image)
         )
-        if decoded:
+        try:
+            yield (codec, stream, image) if read else None
+        finally:
+            opj.opj_stream_destroy(stream)
+            opj.opj_destroy_codec(codec)
+            opj.opj_image_destroy(image)
+
+    def dump(self, path, out):
+        """Writes the index of `path` to `out`; whether that went well."""
+        with self.opened(path) as opened:
+            if not opened or not self.opj.opj_decode(*opened):
+                return False
             file = ctypes.c_void_p(self.libc.fopen(str(out).encode(), b"w"))
-            opj.opj_dump_codec(codec, self.MAIN_HEADER_INDEX, file)
+            self.opj.opj_dump_codec(opened[0], self.MAIN_HEADER_INDEX, file)
             self.libc.fclose(file)
-        opj.opj_stream_destroy(stream)
-        opj.opj_destroy_codec(codec)
-        opj.opj_image_destroy(image)
-        return bool(decoded)
+            return True
+
+    def components(self, path, tile=None):
+        """In the image, or in a tile, which is decoded; none if it can't be."""
+        with self.opened(path) as opened:
+            if not opened or tile is not None and not self.opj.opj_get_decoded_tile(*opened, tile):
+                return None
+            image = opened[2].contents
+            return [
+                Component(one.prec, one.sgnd == 1, (one.dx, one.dy), (one.x0, one.y0, one.x0 + one.w, one.y0 + one.h))
+                for one in image.comps[: image.numcomps]
+            ]
 
     def index(self, path):
         """Where the codestream starts in the file, and (tile, offset in the file, length) of each
@@ -356,31 +413,64 @@ def bounds(siz, tile):
     return found
 
 
+def rectangle(plane, left, top, columns, rows):
+    """A part of a component, as `decoded` gives it."""
+    width, _, sample, body = plane
+    starts = [(row * width + left) * sample for row in range(top, top + rows)]
+    cut = b"".join(body[start : start + columns * sample] for start in starts)
+    return columns, rows, sample, cut
+
+
 def crop(siz, tile, planes):
     """A tile's part of the whole picture, as `decoded` gives it."""
     found = []
-    for factors, (width, _, sample, body) in zip(siz.components, planes):
+    for factors, plane in zip(siz.components, planes):
         left, top = (up(start, factor) for start, factor in zip(siz.origin, factors))
         axes = zip(bounds(siz, tile), factors)
         (x0, x1), (y0, y1) = ([up(edge, factor) for edge in edges] for edges, factor in axes)
-        starts = [((y - top) * width + x0 - left) * sample for y in range(y0, y1)]
-        rows = [body[start : start + (x1 - x0) * sample] for start in starts]
-        found.append((x1 - x0, y1 - y0, sample, b"".join(rows)))
+        found.append(rectangle(plane, x0 - left, y0 - top, x1 - x0, y1 - y0))
     return found
 
 
 def corner(planes, part):
     """The upper left of each component, as large as `part`'s is."""
-    found = []
-    for (width, _, sample, body), (columns, rows, _, _) in zip(planes, part):
-        starts = [row * width * sample for row in range(rows)]
-        cut = b"".join(body[start : start + columns * sample] for start in starts)
-        found.append((columns, rows, sample, cut))
-    return found
+    return [rectangle(plane, 0, 0, *size) for plane, size in zip(planes, sizes(part))]
 
 
 def sizes(planes):
     return [(width, height) for width, height, _, _ in planes]
+
+
+# Components
+
+EDGES = ["x0", "y0", "x1", "y1"]
+
+
+class Component(NamedTuple):
+    bits: int
+    signed: bool
+    factors: tuple
+    # x0, y0, x1, y1, on its own grid.
+    area: tuple = None
+
+
+def dumped(path):
+    """The image's area on the reference grid, and the components, as opj_dump tells them: it tells no area of theirs."""
+    info, _, _ = (told(["opj_dump", "-i", path]) or b"").decode().partition("Codestream info")
+    area = tuple(int(number) for edge in EDGES for number in re.findall(rf"\b{edge}=(\d+)", info))
+    found = re.findall(r"\bdx=(\d+), dy=(\d+)\s+prec=(\d+)\s+sgnd=(\d+)", info)
+    return area, [Component(bits, sign == 1, (dx, dy)) for dx, dy, bits, sign in (map(int, each) for each in found)]
+
+
+def area_of(fields):
+    return tuple(fields[edge] for edge in EDGES)
+
+
+def read_components(fields):
+    """The same of what `show` has as JSON, with their areas."""
+    described = fields["described"]
+    components = [Component(one["bits"], one["signed"], (one["xrsiz"], one["yrsiz"]), area_of(one)) for one in described]
+    return area_of(fields["area"]), components
 
 
 # What a plain decode shows.
@@ -400,7 +490,8 @@ def view(shown, tile, whole):
 
 # One file
 
-# In place of a kind, for a file of which no tile is looked at.
+# In place of a kind, for a file of which no tile is cut.
+ONLY_COMPONENTS = "components alone"
 NOT_MADE = "not compressed by opj_compress"
 LISTS_DIFFER = "tile-parts differ"
 # Outcomes of a tile that was cut as it should be, and that there is something to hold to.
@@ -408,17 +499,24 @@ DECODABLE = ["equal", "different", "not decoded"]
 
 
 class Seen(NamedTuple):
-    """What came of one file: tiles counted under their outcome, and under what a plain decode of
-    them shows; troubles as text."""
+    """What came of one file: tiles counted under their outcome, under what a plain decode of them
+    shows, and under what came of the sizes in them; troubles as text."""
 
     kind: str
     outcomes: Counter
     views: Counter
+    sized: Counter
     troubles: list
 
     @classmethod
+    def empty(cls, kind):
+        return cls(kind, Counter(), Counter(), Counter(), [])
+
+    @classmethod
     def without_tiles(cls, kind, name):
-        return cls(kind, Counter(), Counter(), [f"{kind}: {name}"])
+        seen = cls.empty(kind)
+        seen.troubles.append(f"{kind}: {name}")
+        return seen
 
 
 class Run:
@@ -458,9 +556,16 @@ class Run:
         codestream = path.with_name("codestream.j2k")
         codestream.write_bytes(path.read_bytes()[start : start + length])
         siz = read_siz(codestream.read_bytes())
+        tiles = sorted({tile for tile, _, _ in parts})
+        only_components = grid in GRIDS_OF_COMPONENTS
+        seen = Seen.empty(ONLY_COMPONENTS if only_components else kind(siz, grid.levels))
+        some = {tiles[0], tiles[len(tiles) // 2], tiles[-1]}
+        for what in self.components(path, siz, some, seen.sized):
+            seen.troubles.append(f"{what}: {name}")
+        if only_components:
+            return seen
         planes = decoded(codestream)
-        seen = Seen(kind(siz, grid.levels), Counter(), Counter(), [])
-        for tile in sorted({tile for tile, _, _ in parts}):
+        for tile in tiles:
             cut = path.with_name(f"tile{tile}.j2k")
             expected = planes and crop(siz, tile, planes)
             outcome = self.outcome(path, tile, cut, expected)
@@ -474,6 +579,36 @@ class Run:
             if seen.kind == MUST and shown == SOMETHING_ELSE:
                 seen.troubles.append(f"tile {tile} {shown}: {name}")
         return seen
+
+    def components(self, path, siz, tiles, sized):
+        """Counts what came of the components in each of these tiles; gives what must not differ and does."""
+        area, components = read_components(self.shown(path)["components"])
+        if dumped(path) != (area, [one._replace(area=None) for one in components]):
+            yield "components differ from opj_dump's"
+        if self.library.components(path) != components:
+            yield "sizes of components differ"
+        must = siz.origin == siz.tile_origin
+        for tile in tiles:
+            inside = self.shown(path, "--tile", tile)["in_tile"]
+            outcome = self.outcome_inside(path, tile, inside)
+            sized[must, outcome] += 1
+            if must and outcome in ("different", "refused"):
+                yield f"components in tile {tile} {outcome}"
+            if must != (inside["note"] is None):
+                yield f"the note of tile {tile} is {inside['note']}"
+
+    def outcome_inside(self, path, tile, inside):
+        if "refused" in inside:
+            return "refused"
+        wanted = self.library.components(path, tile)
+        if wanted is None:
+            return "not decoded"
+        return "equal" if read_components(inside)[1] == wanted else "different"
+
+    def shown(self, path, *words):
+        """What `show` tells, also where it refuses a tile."""
+        command = [self.winterhasp, "show", "--json", *words, path]
+        return json.loads(subprocess.run([str(word) for word in command], capture_output=True).stdout)
 
     def listed(self, path):
         """The numbers of each line, under the line's word; no line if the file is refused."""
@@ -528,7 +663,14 @@ def summary(results):
         f"openjpeg: {len(seen)} files, {same} tile-part lists equal, {equal} tiles of {len(bound)} files "
         f"equal where they must be (needed: {LEAST_TILES} of {LEAST_FILES}), {len(troubles)} different"
     )
-    enough = len(bound) >= LEAST_FILES and equal >= LEAST_TILES
+    sized = sum((one.sized for one in seen), Counter())
+    outcomes = ["equal", "different", "refused", "not decoded"]
+    counts = lambda must: ", ".join(f"{sized[must, outcome]} {outcome}" for outcome in outcomes)
+    print(
+        f"openjpeg: components in tiles: {counts(True)} (needed: {LEAST_SIZED} equal); "
+        f"where image and tile origin differ: {counts(False)}"
+    )
+    enough = len(bound) >= LEAST_FILES and equal >= LEAST_TILES and sized[True, "equal"] >= LEAST_SIZED
     if not enough:
         print("openjpeg: too few files or tiles were compared where they must be equal")
     return enough and not troubles
@@ -540,7 +682,7 @@ def binary(folder):
     if not path.exists():
         give_up(f"no {path}; build it by cargo build --release in rust/cli/")
     help_text = subprocess.run([path, "--help"], capture_output=True, text=True).stdout
-    for command in ["list", "tile"]:
+    for command in ["list", "show", "tile"]:
         if f"winterhasp {command} " not in help_text:
             give_up(f"{path} has no command {command}")
     return path
