@@ -64,9 +64,7 @@ impl Sizes {
     pub fn lines(&self, label: String) -> Vec<Line> {
         let described = match self {
             Sizes::Read { described, .. } => described,
-            Sizes::Refused { refused } => {
-                return vec![(label, format!("refused {}", refused.text()))]
-            }
+            Sizes::Refused { refused } => return vec![(label, refused_text(refused))],
         };
         let count = described.len();
         let runs = described.chunk_by(|one, other| one == other);
@@ -116,6 +114,10 @@ impl ComponentReport {
     }
 }
 
+fn refused_text(refused: &Refused) -> String {
+    format!("refused {}", refused.text())
+}
+
 fn area_text(area: &Area) -> String {
     let pair = |x: u32, y: u32| [x.into(), y.into()];
     box_text(pair(area.width(), area.height()), pair(area.x0, area.y0))
@@ -143,19 +145,18 @@ impl InTile {
     /// The tile itself, and the components in it.
     pub fn lines(&self) -> Vec<Line> {
         let index = self.index;
-        let mut components = Vec::new();
-        let mut tile = match &self.sizes {
+        let (mut tile, mut lines) = match &self.sizes {
             Sizes::Read { area, .. } => {
-                components = self.sizes.lines(format!("in tile {index}"));
-                area_text(area)
+                let components = self.sizes.lines(format!("in tile {index}"));
+                (area_text(area), components)
             }
-            Sizes::Refused { refused } => format!("refused {}", refused.text()),
+            Sizes::Refused { refused } => (refused_text(refused), Vec::new()),
         };
         if let Some(note) = self.note {
             tile = format!("{tile}; note: {note}");
         }
-        components.insert(0, (format!("tile {index}"), tile));
-        components
+        lines.insert(0, (format!("tile {index}"), tile));
+        lines
     }
 }
 
