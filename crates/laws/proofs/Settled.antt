@@ -17,7 +17,7 @@ use Rattle.reader.proofs as reader
 use Rattle.host.proofs as host
 use Rattle.probe.proofs as probe
 use Rattle.laws.specs.Settles.{Settles, SettlesAs}
-use Rattle.laws.proofs.Settling.{one, two, three, four, six, by-first}
+use Rattle.laws.proofs.Settling.{one, two, three, four, six, nine, by-first}
 
 -- ---- numbers
 
@@ -142,6 +142,21 @@ next-region m κs a g = one m λ x y e i. (e i, x .1)
 pub grow-header-region : {M : Type 1} → Settles M reader.growth.grow_header_region.ended reader.growth.grow_header_region.clauses
 grow-header-region m κs a g = one m λ x y e i. (e i, x .1)
 
+pub read-components : {M : Type 1} → Settles M reader.components.read_components.ended reader.components.read_components.clauses
+read-components m κs a g = one m λ x y e i. (e i, x .1)
+
+pub read-components-in-tile : {M : Type 1} → Settles M reader.components.read_components_in_tile.ended reader.components.read_components_in_tile.clauses
+read-components-in-tile m κs a g = one m λ x y e i. (e i, x .1)
+
+pub component : {M : Type 1} → Settles M reader.components.component.ended reader.components.component.clauses
+component m κs a g = one m λ x y e i. (e i, x .1)
+
+pub component-in-tile : {M : Type 1} → Settles M reader.components.component_in_tile.ended reader.components.component_in_tile.clauses
+component-in-tile m κs a g = one m λ x y e i. (e i, x .1)
+
+pub component-within : {M : Type 1} → Settles M reader.components.component_within.ended reader.components.component_within.clauses
+component-within m κs a g = one m λ x y e i. (e i, x .1)
+
 -- ---- host, for C
 
 pub winterhasp-in-file : {M : Type 1} → Settles M host.offsets.winterhasp_in_file.ended host.offsets.winterhasp_in_file.clauses
@@ -188,6 +203,24 @@ winterhasp-grow-header-region m κs a g = three m λ x y e i. (e .0 i, (tt, (e .
 
 pub winterhasp-next-region : {M : Type 1} → Settles M host.growth.winterhasp_next_region.ended host.growth.winterhasp_next_region.clauses
 winterhasp-next-region m κs a g = one m λ x y e i. (e i, x .1)
+
+pub sign : {M : Type 1} → Settles M host.siz.sign.ended host.siz.sign.clauses
+sign m κs a g = one m λ x y e i. (e i, x .1)
+
+pub winterhasp-read-components : {M : Type 1} → Settles M host.components.winterhasp_read_components.ended host.components.winterhasp_read_components.clauses
+winterhasp-read-components m κs a g = six m λ x y e i. (e .0 i, (tt, (e .1 i, (e .2 i, (e .3 i, (e .4 i, (e .5 i, tt)))))))
+
+pub winterhasp-read-components-in-tile : {M : Type 1} → Settles M host.components.winterhasp_read_components_in_tile.ended host.components.winterhasp_read_components_in_tile.clauses
+winterhasp-read-components-in-tile m κs a g = six m λ x y e i. (e .0 i, (tt, (tt, (e .1 i, (e .2 i, (e .3 i, (e .4 i, (e .5 i, tt))))))))
+
+pub winterhasp-component : {M : Type 1} → Settles M host.components.winterhasp_component.ended host.components.winterhasp_component.clauses
+winterhasp-component m κs a g = nine m λ x y e i. (e .0 i, (tt, (tt, (e .1 i, (e .2 i, (e .3 i, (e .4 i, (e .5 i, (e .6 i, (e .7 i, (e .8 i, tt)))))))))))
+
+pub winterhasp-component-in-tile : {M : Type 1} → Settles M host.components.winterhasp_component_in_tile.ended host.components.winterhasp_component_in_tile.clauses
+winterhasp-component-in-tile m κs a g = nine m λ x y e i. (e .0 i, (tt, (tt, (tt, (e .1 i, (e .2 i, (e .3 i, (e .4 i, (e .5 i, (e .6 i, (e .7 i, (e .8 i, tt))))))))))))
+
+pub winterhasp-component-within : {M : Type 1} → Settles M host.components.winterhasp_component_within.ended host.components.winterhasp_component_within.clauses
+winterhasp-component-within m κs a g = nine m λ x y e i. (e .0 i, (tt, (tt, (tt, (tt, (tt, (tt, (e .1 i, (e .2 i, (e .3 i, (e .4 i, (e .5 i, (e .6 i, (e .7 i, (e .8 i, tt)))))))))))))))
 
 -- ---- probe, for C
 

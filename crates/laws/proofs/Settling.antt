@@ -1,4 +1,4 @@
--- The laws by which a contract of one, two, three, four or six `ensures` settles its outcome, where each is an equation.
+-- The laws by which a contract of one, two, three, four, six or nine `ensures` settles its outcome, where each is an equation.
 use mathlib.Core.Path.{_≡_, sym, ap, _∙_}
 use base.Logic.{SProp, ent, sep, emp, id⊢, via, snd∗}
 use contract.Monad.{conj, conjL, conjR, fact, factI, fact-use, fact∗}
@@ -71,6 +71,21 @@ module _ {M : Type 1} (m : Model M) where
       settled (p .1 .1 .1 .0) (q .1 .1 .1 .0),
       settled (p .1 .1 .1 .1 .0) (q .1 .1 .1 .1 .0),
       settled (p .1 .1 .1 .1 .1) (q .1 .1 .1 .1 .1),
+    ))
+
+    pub nine : {A B C D F G H I J : Type 0} {a : O → A} {b : O → B} {c : O → C} {d : O → D} {f : O → F} {g : O → G} {h : O → H} {i : O → I} {j : O → J} {k : A} {l : B} {n : C} {r : D} {s : F} {t : G} {u : H} {v : I} {w : J}
+        → ((x y : O) → (a x ≡ a y) × (b x ≡ b y) × (c x ≡ c y) × (d x ≡ d y) × (f x ≡ f y) × (g x ≡ g y) × (h x ≡ h y) × (i x ≡ i y) × (j x ≡ j y) → E x y)
+        → Shows E (λ x. ⌜ a x ≡ k ⌝ ∗ ⌜ b x ≡ l ⌝ ∗ ⌜ c x ≡ n ⌝ ∗ ⌜ d x ≡ r ⌝ ∗ ⌜ f x ≡ s ⌝ ∗ ⌜ g x ≡ t ⌝ ∗ ⌜ h x ≡ u ⌝ ∗ ⌜ i x ≡ v ⌝ ∗ ⌜ j x ≡ w ⌝)
+    nine z = row (λ x. and (and (and (and (and (and (and (and last)))))))) (λ x y p q. z x y (
+      settled (p .0) (q .0),
+      settled (p .1 .0) (q .1 .0),
+      settled (p .1 .1 .0) (q .1 .1 .0),
+      settled (p .1 .1 .1 .0) (q .1 .1 .1 .0),
+      settled (p .1 .1 .1 .1 .0) (q .1 .1 .1 .1 .0),
+      settled (p .1 .1 .1 .1 .1 .0) (q .1 .1 .1 .1 .1 .0),
+      settled (p .1 .1 .1 .1 .1 .1 .0) (q .1 .1 .1 .1 .1 .1 .0),
+      settled (p .1 .1 .1 .1 .1 .1 .1 .0) (q .1 .1 .1 .1 .1 .1 .1 .0),
+      settled (p .1 .1 .1 .1 .1 .1 .1 .1) (q .1 .1 .1 .1 .1 .1 .1 .1),
     ))
 
     -- the second and the third are given by the first
