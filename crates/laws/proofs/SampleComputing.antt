@@ -1,4 +1,4 @@
--- What is unfolded to compute a walk, a scan, a split, an assembly or a search over sample bytes.
+-- What is unfolded to compute a walk, a scan, a split, an assembly, a search or component sizes over sample bytes.
 use Rattle.numbers.specs.Bytes.{be, bytesOf, put}
 use Rattle.numbers.specs.Ceiling.{ceilDiv}
 use Rattle.types.specs.Row.{rowOf, rowsOf}
@@ -16,8 +16,9 @@ use Rattle.tile.specs.Siz.{pair, oneTile}
 use Rattle.tile.specs.Rules.{fitting, reaching, axisOf, columnsOf, bothAxes, inGrid, tileArea}
 use Rattle.tile.specs.Rewrite.{sized, sizeOf, sizeIn, tileSize, cutTo, rewritten, over, rewriteAnswer, rewriteOut}
 use Rattle.tile.specs.Assembly.{rows, rangesFrom, ranges, rangeOf, andPart, partsIn, isSot, patched, partSize, sizeFor, joined, assembled, answerFor, assemblyAnswer, assemblyOut}
+use Rattle.reader.specs.Components.{sizWhole, countHeld, apart, allApart, imageArea, ordered, componentsRead, atTile, componentsInTile, divided, componentAt, isThere, componentIn, chosen, componentOf, componentInTile}
 use Rattle.reader.specs.Search.{boxAt, content, passed, onBox, foundFrom, isJp2, foundIn}
-use Rattle.laws.specs.Sample.{two, four, siz, header, tlm, sot, part, head, withTlm, A, signature, jp2c}
+use Rattle.laws.specs.Sample.{two, four, sizOf, siz, header, counting, tlm, sot, part, head, withTlm, A, signature, jp2c}
 use Rattle.parts.specs.Scan as scan
 use Rattle.parts.specs.Split as split
 use Rattle.tile.specs.Rewrite as rewrite
@@ -25,7 +26,7 @@ use Rattle.reader.specs.Search as search
 use Rattle.reader.specs.Siz as siz-reading
 
 unfoldable pub samples : Unit {0}
-unfolding be bytesOf put rowOf rowsOf two four siz header tlm sot part head withTlm A signature jp2c also onMove counted chain
+unfolding be bytesOf put rowOf rowsOf two four sizOf siz header counting tlm sot part head withTlm A signature jp2c also onMove counted chain
 samples = tt
 
 unfoldable pub extents : Unit {0}
@@ -55,3 +56,7 @@ searches = tt
 unfoldable pub siz-readings : Unit {0}
 unfolding samples siz-reading.sizRead siz-reading.sizFrom siz-reading.moveAt
 siz-readings = tt
+
+unfoldable pub components : Unit {0}
+unfolding tiles segmentEnd stands sizWhole countHeld apart allApart imageArea ordered componentsRead atTile componentsInTile divided componentAt isThere componentIn chosen componentOf componentInTile
+components = tt

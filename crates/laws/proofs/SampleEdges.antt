@@ -1,12 +1,14 @@
--- The starred edges (docs/RULES.md, "Edges"), in the order there, each as a comment over its theorems; and the last one, which has no star. All but
+-- The starred edges (docs/RULES.md, "Edges"), in the order there, each as a comment over its theorems; and the one which has no star. All but
 -- that, which is of every codestream of a length, are computed.
 use Prim.Native.Nat.{ℕ, _≤_}
 use native.Mathlib.Omega.{arith}
 use mathlib.Core.Path.{_≡_, refl, sym, _∙_}
+use mathlib.Core.Bool.{Bool, true, false}
 use mathlib.Core.List.{List, [], _∷_, _++_}
 use lib.ListN.{length, take, replicate}
 use Rattle.types.specs.Refusals.{refusal}
 use Rattle.types.specs.Row.{rowOf, rowsOf}
+use Rattle.types.specs.declared.Area.{Area}
 use Rattle.types.specs.declared.TilePartEntry.{TilePartEntry}
 use Rattle.header.specs.Extent.{extentOf}
 use Rattle.header.specs.Walk.{walkFrom}
@@ -23,17 +25,22 @@ use Rattle.tile.specs.Rewrite.{outside, tileSize, rewritten, rewriteAnswer, rew
 use Rattle.tile.specs.Assembly.{assemblyAnswer, assemblyOut}
 use Rattle.tile.specs.declared.rewrite.TileSize.the-variants.{Cut}
 use Rattle.tile.specs.declared.rewrite.Written.the-variants.{Bytes}
+use Rattle.reader.specs.Components.{componentsRead, componentsInTile, componentOf, componentInTile}
+use Rattle.reader.specs.declared.components.ComponentsRead.{ComponentsRead}
+use Rattle.reader.specs.declared.components.ComponentRead.{ComponentRead}
 use Rattle.reader.specs.Search.{foundIn}
 use Rattle.reader.specs.Growth.{regionAt, grown}
 use Rattle.reader.specs.declared.search.Found.the-variants.{Codestream}
 use Rattle.reader.proofs.GrowthLaws.{region-pow, whole-suffices, truncated-not, grown-end, grown-on}
-use Rattle.laws.proofs.SampleComputing.{samples, extents, walks, scan-runs, split-runs, tiles, searches, siz-readings}
-use Rattle.laws.specs.Sample.{zeros, header, tlm, sot, part, head, withTlm, A, signature, jp2c}
+use Rattle.laws.proofs.SampleComputing.{samples, extents, walks, scan-runs, split-runs, tiles, searches, siz-readings, components}
+use Rattle.laws.specs.Sample.{zeros, header, counting, tlm, sot, part, head, withTlm, A, signature, jp2c}
 use Rattle.header.specs.declared.parse.MainHeader.the-variants as parse
 use Rattle.parts.specs.declared.scan.Scanned.the-variants as scans
 use Rattle.tile.specs.declared.rewrite.Written.the-variants as writes
 use Rattle.reader.specs.declared.search.Found.the-variants as found
 use Rattle.reader.specs.declared.siz.SizRead.the-variants as read
+use Rattle.reader.specs.declared.components.ComponentsRead.the-variants as checks
+use Rattle.reader.specs.declared.components.ComponentRead.the-variants as one
 use Rattle.reader.specs.Siz as siz-reading
 
 -- ---- sample A
@@ -219,6 +226,163 @@ region-65537 s h t =
     grown-on s 0 (rw first (truncated-not s 65536 (λ e. omega arith) t))
     ∙ grown-end s 1 (whole-suffices s _ (second ∙ sym h))
     ∙ (λ i. record { region = second i; enlargements = 1 })
+
+-- an area, an accepted check of a count, and a component that is found
+abbrev area : ℕ → ℕ → ℕ → ℕ → Area
+area x0 y0 x1 y1 = record { x0 = x0; y0 = y0; x1 = x1; y1 = y1 }
+
+abbrev checked : ℕ → Area → ComponentsRead
+checked count a = checks.Components (record { count = count; area = a })
+
+abbrev given : ℕ → Bool → ℕ → ℕ → Area → ComponentRead
+given bits signed xr yr a = one.Component (record { bits = bits; «is_signed» = signed; xrsiz = xr; yrsiz = yr; area = a })
+
+-- ---- * No byte; three bytes of A; four, which end with the marker of SIZ: 1, 2, 3.
+
+pub no-soc : componentsRead [] ≡ checks.Refused (refusal 1 0)
+unfolding components
+no-soc = refl
+
+pub no-siz : componentsRead (take 3 A) ≡ checks.Refused (refusal 2 2)
+unfolding components
+no-siz = refl
+
+pub no-length : componentsRead (take 4 A) ≡ checks.Refused (refusal 3 2)
+unfolding components
+no-length = refl
+
+-- ---- * A, its first 44 bytes: 3. Its first 45: one component, 10 by 6.
+
+pub siz-cut : componentsRead (take 44 A) ≡ checks.Refused (refusal 3 2)
+unfolding components
+siz-cut = refl
+
+pub siz-whole : componentsRead (take 45 A) ≡ checked 1 (area 0 0 10 6)
+unfolding components
+siz-whole = refl
+
+-- ---- * Lsiz 40: 24. 41 of one component is A's.
+
+pub lsiz-40 : componentsRead (counting 40 0 0 1 (7 ∷ 1 ∷ [])) ≡ checks.Refused (refusal 24 2)
+unfolding components
+lsiz-40 = refl
+
+pub lsiz-41 : componentsRead (counting 41 0 0 1 (7 ∷ 1 ∷ 1 ∷ [])) ≡ checked 1 (area 0 0 10 6)
+unfolding components
+lsiz-41 = refl
+
+-- no component
+pub csiz-0 : componentsRead (counting 38 0 0 0 []) ≡ checks.Refused (refusal 24 2)
+unfolding components
+csiz-0 = refl
+
+-- ---- * Csiz 2 with Lsiz 41: 24; with 44: accepted.
+
+pub csiz-2-short : componentsRead (counting 41 0 0 2 (7 ∷ 1 ∷ 1 ∷ [])) ≡ checks.Refused (refusal 24 2)
+unfolding components
+csiz-2-short = refl
+
+pub csiz-2 : componentsRead (counting 44 0 0 2 (7 ∷ 1 ∷ 1 ∷ 7 ∷ 2 ∷ 2 ∷ [])) ≡ checked 2 (area 0 0 10 6)
+unfolding components
+csiz-2 = refl
+
+-- ---- * XRsiz or YRsiz 0, of the first component or of the last: 25; 1: accepted, as A.
+
+pub xrsiz-0 : componentsRead (counting 41 0 0 1 (7 ∷ 0 ∷ 1 ∷ [])) ≡ checks.Refused (refusal 25 2)
+unfolding components
+xrsiz-0 = refl
+
+pub yrsiz-0 : componentsRead (counting 41 0 0 1 (7 ∷ 1 ∷ 0 ∷ [])) ≡ checks.Refused (refusal 25 2)
+unfolding components
+yrsiz-0 = refl
+
+pub last-yrsiz-0 : componentsRead (counting 44 0 0 2 (7 ∷ 1 ∷ 1 ∷ 7 ∷ 1 ∷ 0 ∷ [])) ≡ checks.Refused (refusal 25 2)
+unfolding components
+last-yrsiz-0 = refl
+
+-- ---- * XOsiz one past Xsiz, YOsiz one past Ysiz: 22. Equal: an image without a column.
+
+pub xosiz-11 : componentsRead (counting 41 11 0 1 (7 ∷ 1 ∷ 1 ∷ [])) ≡ checks.Refused (refusal 22 2)
+unfolding components
+xosiz-11 = refl
+
+pub yosiz-7 : componentsRead (counting 41 0 7 1 (7 ∷ 1 ∷ 1 ∷ [])) ≡ checks.Refused (refusal 22 2)
+unfolding components
+yosiz-7 = refl
+
+pub xosiz-10 : componentsRead (counting 41 10 0 1 (7 ∷ 1 ∷ 1 ∷ [])) ≡ checked 1 (area 10 0 10 6)
+unfolding components
+xosiz-10 = refl
+
+-- ---- * A in tile 5: from 8, 4 to 10, 6. In tile 6: 10.
+
+pub in-tile-5 : componentsInTile A 5 ≡ checked 1 (area 8 4 10 6)
+unfolding components
+in-tile-5 = refl
+
+pub in-tile-6 : componentsInTile A 6 ≡ checks.Refused (refusal 10 2)
+unfolding components
+in-tile-6 = refl
+
+-- ---- * A, component 0: 8 bits, 10 by 6. Component 1, and 2^64-1: no such.
+
+pub component-0 : componentOf A 0 ≡ given 8 false 1 1 (area 0 0 10 6)
+unfolding components
+component-0 = refl
+
+pub component-1 : componentOf A 1 ≡ one.NoSuch
+unfolding components
+component-1 = refl
+
+pub component-most : componentOf A 0xffffffffffffffff ≡ one.NoSuch
+unfolding components
+component-most = refl
+
+-- ---- * XRsiz 4, from 1 to 10: from 1 to 3, two columns, as both ends are divided; a width of 9 divided would be three. YRsiz 2: three rows, in tile 1 two.
+
+pub both-ends : componentOf (counting 41 1 0 1 (7 ∷ 4 ∷ 2 ∷ [])) 0 ≡ given 8 false 4 2 (area 1 0 3 3)
+unfolding components
+both-ends = refl
+
+pub both-ends-tile : componentInTile (counting 41 1 0 1 (7 ∷ 4 ∷ 2 ∷ [])) 1 0 ≡ given 8 false 4 2 (area 2 0 3 2)
+unfolding components
+both-ends-tile = refl
+
+-- ---- * Ssiz 37: 38 bits, the standard's most. 38: 39 bits. 255: 128 bits and a sign.
+
+pub ssiz-37 : componentOf (counting 41 0 0 1 (37 ∷ 1 ∷ 1 ∷ [])) 0 ≡ given 38 false 1 1 (area 0 0 10 6)
+unfolding components
+ssiz-37 = refl
+
+pub ssiz-38 : componentOf (counting 41 0 0 1 (38 ∷ 1 ∷ 1 ∷ [])) 0 ≡ given 39 false 1 1 (area 0 0 10 6)
+unfolding components
+ssiz-38 = refl
+
+pub ssiz-255 : componentOf (counting 41 0 0 1 (255 ∷ 1 ∷ 1 ∷ [])) 0 ≡ given 128 true 1 1 (area 0 0 10 6)
+unfolding components
+ssiz-255 = refl
+
+-- ---- * 3 before 24, 24 before 25, 25 before 22, 22 before 10, 10 before no such component.
+
+pub three-first : componentsRead (counting 40 0 0 1 (7 ∷ [])) ≡ checks.Refused (refusal 3 2)
+unfolding components
+three-first = refl
+
+pub twenty-four-first : componentsRead (counting 44 0 0 1 (7 ∷ 0 ∷ 0 ∷ 7 ∷ 0 ∷ 0 ∷ [])) ≡ checks.Refused (refusal 24 2)
+unfolding components
+twenty-four-first = refl
+
+pub twenty-five-first : componentsRead (counting 41 11 0 1 (7 ∷ 0 ∷ 1 ∷ [])) ≡ checks.Refused (refusal 25 2)
+unfolding components
+twenty-five-first = refl
+
+pub twenty-two-first : componentsInTile (counting 41 11 0 1 (7 ∷ 1 ∷ 1 ∷ [])) 6 ≡ checks.Refused (refusal 22 2)
+unfolding components
+twenty-two-first = refl
+
+pub ten-first : componentInTile A 6 1 ≡ one.Refused (refusal 10 2)
+unfolding components
+ten-first = refl
 
 -- ---- beside the table: the order of refusals and what is left untouched
 

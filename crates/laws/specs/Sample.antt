@@ -17,17 +17,27 @@ four n = bytesOf 4 n
 abbrev pub zeros : ℕ → List ℕ
 zeros n = replicate n 0
 
--- SIZ: image end and origin, tile size; the tile origin is 0; one 8-bit component
-unfoldable pub siz : ℕ → ℕ → ℕ → ℕ → ℕ → ℕ → List ℕ
+-- SIZ: Lsiz; image end and origin, tile size; the tile origin is 0; Csiz, and the components' bytes
+unfoldable pub sizOf : ℕ → ℕ → ℕ → ℕ → ℕ → ℕ → ℕ → ℕ → List ℕ → List ℕ
 unfolding two four
-siz x y xo yo xt yt =
-    two SIZ ++ two 41 ++ two 0 ++ four x ++ four y ++ four xo ++ four yo ++ four xt ++ four yt ++ four 0 ++ four 0
-    ++ two 1 ++ (7 ∷ 1 ∷ 1 ∷ [])
+sizOf lsiz x y xo yo xt yt csiz components =
+    two SIZ ++ two lsiz ++ two 0 ++ four x ++ four y ++ four xo ++ four yo ++ four xt ++ four yt ++ four 0 ++ four 0
+    ++ two csiz ++ components
+
+-- one 8-bit component
+unfoldable pub siz : ℕ → ℕ → ℕ → ℕ → ℕ → ℕ → List ℕ
+unfolding sizOf
+siz x y xo yo xt yt = sizOf 41 x y xo yo xt yt 1 (7 ∷ 1 ∷ 1 ∷ [])
 
 -- SOC and SIZ: 45 bytes
 unfoldable pub header : ℕ → ℕ → ℕ → ℕ → ℕ → ℕ → List ℕ
 unfolding two siz
 header x y xo yo xt yt = two SOC ++ siz x y xo yo xt yt
+
+-- 10 by 6 in tiles of 4 by 4, from an origin on, with any Lsiz, Csiz and components' bytes
+unfoldable pub counting : ℕ → ℕ → ℕ → ℕ → List ℕ → List ℕ
+unfolding two sizOf
+counting lsiz xo yo csiz components = two SOC ++ sizOf lsiz 10 6 xo yo 4 4 csiz components
 
 -- TLM of an Stlm, and the bytes of its entries
 unfoldable pub tlm : ℕ → List ℕ → List ℕ
