@@ -217,3 +217,12 @@ ceil-covers n {d} h =
 pub ceil-least : (n k : ℕ) {d : ℕ} → 0 < d → n ≤ k * d → ceilDiv n d ≤ k
 unfolding ceilDiv
 ceil-least n k {d} h c = le-of-suc-le-suc (div-lt-iff-lt-mul h .1 (omega (arith, suc-mul k d)))
+
+-- a larger whole has no fewer
+pub ceil-mono : (a b : ℕ) {d : ℕ} → 0 < d → a ≤ b → ceilDiv a d ≤ ceilDiv b d
+ceil-mono a b {d} h l = ceil-least a (ceilDiv b d) h (omega (arith, ceil-covers b h))
+
+-- pieces of 1
+pub ceil-one : (n : ℕ) → ceilDiv n 1 ≡ n
+unfolding ceilDiv
+ceil-one n = rw (add-zero, div-one)

@@ -2,7 +2,7 @@
 use Prim.Native.Nat.{ℕ, zero, suc, _+_, _*_, _≤_, _<_}
 use native.Mathlib.Omega.{arith}
 use mathlib.Core.Path.{_≡_, sym, ap, ap₂, _∙_}
-use mathlib.Core.Bool.{Bool, true, false, _&&_}
+use mathlib.Core.Bool.{Bool, true, false, _&&_, and-eq-true-iff, and-false}
 use mathlib.Core.List.{List, [], _∷_}
 use mathlib.Core.Logic.{⊎-elim}
 use lib.ListN.{length, getD}
@@ -11,7 +11,7 @@ use borrow.Author.Tests.{le-leb, lt-leb, lt-ltb, le-ltb, eq-eqb, ne-eqb, leb-tru
 use denote.Enum.Declared.{tagOf}
 use types.Run.{OneOf}
 use Rattle.numbers.specs.Bytes.{be}
-use Rattle.numbers.proofs.Choice.{by-test, by-bool, both, and-false}
+use Rattle.numbers.proofs.Choice.{by-test, by-bool}
 use Rattle.types.specs.Markers.{SOC, SIZ}
 use Rattle.types.specs.Siz.{lsiz, csiz, component}
 use Rattle.types.specs.Refusals.{refusal}
@@ -21,6 +21,7 @@ use Rattle.header.specs.Step.{delimits, segmentEnd, stepAt}
 use Rattle.header.specs.Parse.{stands}
 use Rattle.header.specs.declared.step.HeaderStep.{HeaderStep}
 use Rattle.header.specs.declared.step.HeaderStep.the-variants.{Segment, CutShort}
+use Rattle.header.proofs.ParseLaws.{stands-inside}
 use Rattle.header.proofs.StepLaws.{step-no-length, step-no-end, step-segment}
 use Rattle.header.proofs.step.HeaderStep.{the-type}
 use Rattle.tile.specs.Siz.{marker}
@@ -38,39 +39,35 @@ module _ (s : List ℕ) where
   pub whole-fits : sizWhole s ≡ true → (6 ≤ length s) × (4 + lsiz s marker ≤ length s)
   unfolding sizWhole segmentEnd
   whole-fits e =
-      let t = both (leb 6 (length s)) _ e in
-      let n : 2 + (2 + lsiz s marker) ≤ length s = leb-true _ _ (t .1) in
-      (leb-true _ _ (t .0), omega arith)
+      let both = and-eq-true-iff (leb 6 (length s)) _ .0 e in
+      let ends : 2 + (2 + lsiz s marker) ≤ length s = leb-true _ _ (both .1) in
+      (leb-true _ _ (both .0), omega arith)
+
+  pub stands-marked : (at m : ℕ) → stands s at m ≡ true → be 2 s at ≡ m
+  unfolding stands
+  stands-marked at m e = eqb-true _ _ (and-eq-true-iff (leb (at + 2) (length s)) _ .0 e .1)
 
   -- a SIZ that stands at 2 is a segment where it is whole, and else cut short
   module _ (siz : stands s marker SIZ ≡ true) where
-    pub siz-inside : 4 ≤ length s
-    unfolding stands
-    siz-inside = leb-true _ _ (both (leb 4 (length s)) _ siz .0)
-
-    marked : be 2 s marker ≡ SIZ
-    unfolding stands
-    marked = eqb-true _ _ (both (leb 4 (length s)) _ siz .1)
-
     not-sot : be 2 s marker ≡ 0xff90 → ⊥
-    not-sot e = omega (arith, marked)
+    not-sot e = omega (arith, stands-marked marker SIZ siz)
 
     no-delimiter : delimits (be 2 s marker) ≡ false
     unfolding delimits
-    no-delimiter = ap delimits marked
+    no-delimiter = ap delimits (stands-marked marker SIZ siz)
 
     pub whole-segment : sizWhole s ≡ true → stepAt s marker ≡ Segment (segmentEnd s marker)
     unfolding sizWhole
     whole-segment e =
-        let t = both (leb 6 (length s)) _ e in
-        step-segment s marker siz-inside not-sot no-delimiter (leb-true _ _ (t .0)) (leb-true _ _ (t .1))
+        let t = and-eq-true-iff (leb 6 (length s)) _ .0 e in
+        step-segment s marker (stands-inside s marker SIZ siz) not-sot no-delimiter (leb-true _ _ (t .0)) (leb-true _ _ (t .1))
 
     pub cut-segment : sizWhole s ≡ false → stepAt s marker ≡ CutShort
     unfolding sizWhole
     cut-segment e =
         by-bool (leb 6 (length s))
-        (λ l. step-no-end s marker siz-inside not-sot no-delimiter (leb-true _ _ l) (leb-false _ _ (ap (λ (b : Bool). b && leb (segmentEnd s marker) (length s)) (sym l) ∙ e)))
-        (λ l. step-no-length s marker siz-inside not-sot no-delimiter (leb-false _ _ l))
+        (λ l. step-no-end s marker (stands-inside s marker SIZ siz) not-sot no-delimiter (leb-true _ _ l) (leb-false _ _ (ap (λ (b : Bool). b && leb (segmentEnd s marker) (length s)) (sym l) ∙ e)))
+        (λ l. step-no-length s marker (stands-inside s marker SIZ siz) not-sot no-delimiter (leb-false _ _ l))
 
     pub segment-whole : (n : ℕ) → stepAt s marker ≡ Segment n → sizWhole s ≡ true
     segment-whole n e = by-bool (sizWhole s) (λ t. t) (λ t. let p = cut-segment t in let z : _≡_ {A = ℕ} 0 1 = cc in absurd (omega arith))
@@ -95,15 +92,15 @@ module _ (s : List ℕ) where
   unfolding countHeld
   count-most h e = rw (le-leb _ _ h, eq-eqb _ _ e, le-leb 1 (csiz s marker) (omega arith))
 
-  -- what is held lies inside
-  pub held-fits : sizWhole s ≡ true → countHeld s ≡ true → (1 ≤ csiz s marker) × (component marker (csiz s marker) ≤ length s)
+  held-is : countHeld s ≡ true → (41 ≤ lsiz s marker) × (lsiz s marker ≡ 38 + 3 * csiz s marker)
   unfolding countHeld
-  held-fits w h =
-      let a = both (leb 41 (lsiz s marker)) _ h in
-      let b = both (eqb (lsiz s marker) (38 + 3 * csiz s marker)) _ (a .1) in
-      let c = both (leb 1 (csiz s marker)) _ (b .1) in
-      let e : lsiz s marker ≡ 38 + 3 * csiz s marker = eqb-true _ _ (b .0) in
-      (leb-true _ _ (c .0), omega (arith, whole-fits w .1))
+  held-is e =
+      let long = and-eq-true-iff (leb 41 (lsiz s marker)) _ .0 e in
+      (leb-true _ _ (long .0), eqb-true _ _ (and-eq-true-iff (eqb (lsiz s marker) (38 + 3 * csiz s marker)) _ .0 (long .1) .0))
+
+  -- a whole SIZ whose count is held reaches to its last component
+  pub all-inside : sizWhole s ≡ true → countHeld s ≡ true → (45 ≤ length s) × (component marker (csiz s marker) ≤ length s)
+  all-inside w h = let a = whole-fits w in let b = held-is h in (omega arith, omega arith)
 
   -- ---- steps of 0
 
@@ -210,10 +207,6 @@ accepted s c =
     (λ _ e. absurd (refused-accepts e)))
     (λ _ e. absurd (refused-accepts e)))
     (λ _ e. absurd (refused-accepts e))
-
--- SIZ's fields lie inside
-pub accepted-inside : (s : List ℕ) (c : Components) → componentsRead s ≡ read.Components c → 45 ≤ length s
-accepted-inside s c e = let a = accepted s c e in omega (arith, held-fits s (a .whole) (a .held) .0, held-fits s (a .whole) (a .held) .1)
 
 -- ---- in a tile
 

@@ -173,11 +173,11 @@ module _ (boxes : List IsoBox) (c : IsoBox) (rest : List ℕ) (others : Others b
 -- ---- SIZ
 
 -- Ssiz, taken apart again
-ssiz-bits : (signed : Bool) (depth : ℕ) → (1 ≤ depth) × (depth ≤ 38) → (cond signed 128 0 + (depth - 1)) % 128 + 1 ≡ depth
+pub ssiz-bits : (signed : Bool) (depth : ℕ) → (1 ≤ depth) × (depth ≤ 38) → (cond signed 128 0 + (depth - 1)) % 128 + 1 ≡ depth
 ssiz-bits true depth h = omega arith
 ssiz-bits false depth h = omega arith
 
-ssiz-sign : (signed : Bool) (depth : ℕ) → (1 ≤ depth) × (depth ≤ 38) → leb 128 (cond signed 128 0 + (depth - 1)) ≡ signed
+pub ssiz-sign : (signed : Bool) (depth : ℕ) → (1 ≤ depth) × (depth ≤ 38) → leb 128 (cond signed 128 0 + (depth - 1)) ≡ signed
 ssiz-sign true depth h = le-leb 128 (128 + (depth - 1)) (omega arith)
 ssiz-sign false depth h = lt-leb 128 (0 + (depth - 1)) (omega arith)
 

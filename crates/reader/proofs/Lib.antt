@@ -4,3 +4,8 @@ pub mod SearchLaws
 pub mod GrowthLaws
 pub mod ComponentsLaws
 pub mod Iso
+pub mod ComponentsAreas
+pub mod ComponentsSiz
+pub mod ComponentsPrefix
+pub mod IsoComponents
+pub mod IsoComponentsSamples

@@ -1,5 +1,5 @@
 -- The components' sizes (docs/RULES.md, "Components"). SIZ stands directly behind SOC, and the rest of the header is not walked.
-use Prim.Native.Nat.{ℕ, zero, suc, _+_, _*_, _%_}
+use Prim.Native.Nat.{ℕ, zero, suc, _+_, _*_, _%_, _≤_}
 use mathlib.Core.Bool.{Bool, true, cond, _&&_}
 use mathlib.Core.List.{List}
 use lib.ListN.{length, getD}
@@ -120,3 +120,14 @@ componentOf s k = chosen (componentsRead s) s k
 unfoldable pub componentInTile : List ℕ → ℕ → ℕ → ComponentRead
 unfolding chosen
 componentInTile s tile k = chosen (componentsInTile s tile) s k
+
+-- ---- areas within one another
+
+-- an area that lies in another and ends no sooner than it starts
+pub record Inside (a b : Area) : Type 0 where
+  pub left : b .x0 ≤ a .x0
+  pub wide : a .x0 ≤ a .x1
+  pub right : a .x1 ≤ b .x1
+  pub top : b .y0 ≤ a .y0
+  pub high : a .y0 ≤ a .y1
+  pub bottom : a .y1 ≤ b .y1

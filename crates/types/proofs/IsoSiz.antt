@@ -30,7 +30,8 @@ pub record TileFields (z : Size) (s : List ℕ) : Type 0 where
   pub XTOsiz : xtosiz s 2 ≡ z .XTOsiz
   pub YTOsiz : ytosiz s 2 ≡ z .YTOsiz
 
-ssiz-byte : (signed : Bool) (depth : ℕ) → (1 ≤ depth) × (depth ≤ 38) → cond signed 128 0 + (depth - 1) < 256
+-- Ssiz is a byte
+pub ssiz-byte : (signed : Bool) (depth : ℕ) → (1 ≤ depth) × (depth ≤ 38) → cond signed 128 0 + (depth - 1) < 256
 ssiz-byte true depth h = omega arith
 ssiz-byte false depth h = omega arith
 

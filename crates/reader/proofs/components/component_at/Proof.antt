@@ -1,11 +1,11 @@
 -- The three bytes are the definition's, and neither step is 0.
 use mathlib.Core.Path.{ap}
+use mathlib.Core.Bool.{and-eq-true-iff}
 use lib.ListN.{getD}
 use lib.Dec.{leb}
 use Prim.Native.Nat.{_+_, _%_}
 use borrow.Author.Needs.{needs}
 use borrow.Author.Tests.{leb-true}
-use Rattle.numbers.proofs.Choice.{both}
 use Rattle.types.specs.declared.Area.{Area}
 use Rattle.reader.specs.Components.{apart, componentAt}
 use Rattle.reader.proofs.components.component_at.Statement.{statement}
@@ -33,7 +33,7 @@ divide-area-requires : tie.Need-divide-area-requires
 unfolding apart
 divide-area-requires c κs =
     let a = c .before .before .before .before .args in
-    let t = both (leb 1 (getD (a .codestream .now) (a .at + 1) 0)) _ (c .before .before .before .before .pre .1) in
+    let t = and-eq-true-iff (leb 1 (getD (a .codestream .now) (a .at + 1) 0)) _ .0 (c .before .before .before .before .pre .1) in
     (leb-true _ _ (t .0), leb-true _ _ (t .1))
 
 returns : tie.Need-returns

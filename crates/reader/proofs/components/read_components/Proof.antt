@@ -11,10 +11,11 @@ use Rattle.types.specs.Markers.{SOC, SIZ}
 use Rattle.types.specs.Siz.{csiz, component}
 use Rattle.types.specs.Refusals.{refusal}
 use Rattle.header.specs.Parse.{stands}
+use Rattle.header.proofs.ParseLaws.{stands-inside}
 use Rattle.tile.specs.Siz.{marker}
 use Rattle.reader.specs.Components.{sizWhole, countHeld, allApart, ordered, componentsRead}
 use Rattle.reader.specs.declared.components.ComponentsRead.the-variants.{Components, Refused}
-use Rattle.reader.proofs.ComponentsLaws.{siz-inside, segment-whole, segment-cut, held-fits, read-no-soc, read-no-siz, read-cut, read-not-held, read-not-apart, read-not-ordered, read-all, ordered-across, ordered-down, ordered-both}
+use Rattle.reader.proofs.ComponentsLaws.{segment-whole, segment-cut, all-inside, read-no-soc, read-no-siz, read-cut, read-not-held, read-not-apart, read-not-ordered, read-all, ordered-across, ordered-down, ordered-both}
 use Rattle.reader.proofs.components.read_components.Statement.{statement}
 use Rattle.reader.proofs.components.read_components.Tie as tie
 
@@ -39,8 +40,8 @@ held : (c : tie.Else3) → countHeld (bytes (marked (c .before .before) .before 
 held c = sym (c .before .count-held .ensures) ∙ not-false _ (c .if3 .left)
 
 -- the components' bytes lie inside
-fits : (c : tie.Else3) → let s = bytes (marked (c .before .before) .before .before) in (1 ≤ csiz s marker) × (component marker (csiz s marker) ≤ length s)
-fits c = held-fits _ (whole (c .before .before)) (held c)
+fits : (c : tie.Else3) → let s = bytes (marked (c .before .before) .before .before) in (45 ≤ length s) × (component marker (csiz s marker) ≤ length s)
+fits c = all-inside _ (whole (c .before .before)) (held c)
 
 abbrev counted : tie.After-are-apart → tie.Else3
 counted c = c .before .before
@@ -73,7 +74,7 @@ returns-2 c =
     c .refuse2 .ensures ∙ sym (read-no-siz _ (soc (d .before)) (sym (d .marker-stands2 .ensures) ∙ not-true _ (c .before .if2 .taken)))
 
 header-step-requires : tie.Need-header-step-requires
-header-step-requires c κs = omega (arith, siz-inside _ (siz c))
+header-step-requires c κs = omega (arith, stands-inside _ _ _ (siz c))
 
 enum-told : tie.Need-enum-told
 enum-told c = search needs

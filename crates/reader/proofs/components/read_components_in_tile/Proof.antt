@@ -4,7 +4,7 @@ use mathlib.Core.Path.{_≡_, sym, _∙_}
 use borrow.Author.Needs.{needs}
 use Rattle.reader.specs.Components.{componentsRead}
 use Rattle.reader.specs.declared.components.ComponentsRead.the-variants.{Components}
-use Rattle.reader.proofs.ComponentsLaws.{accepted-inside, tile-refused, tile-outside, tile-found}
+use Rattle.reader.proofs.ComponentsLaws.{all-inside, accepted, tile-refused, tile-outside, tile-found}
 use Rattle.reader.proofs.components.read_components_in_tile.Statement.{statement}
 use Rattle.reader.proofs.components.read_components_in_tile.Tie as tie
 
@@ -27,7 +27,7 @@ returns c =
     c .enum-told .given .1 ∙ sym (tile-refused _ _ _ (sym (d .read-components .ensures) ∙ c .enum-told .given .1))
 
 tile-area-requires : tie.Need-tile-area-requires
-tile-area-requires c κs = omega (arith, accepted-inside _ _ (checked (c .before)))
+tile-area-requires c κs = let a = accepted _ _ (checked (c .before)) in omega (arith, all-inside _ (a .whole) (a .held) .0)
 
 enum-known-found : tie.Need-enum-known-found
 enum-known-found c = search needs
