@@ -26,12 +26,7 @@ pub fn parse_main_header(codestream: &[u8]) -> Result<Header, Refusal> {
     if length > LONGEST_LOAN {
         return Err(Refusal::new(19, 0));
     }
-    if read(codestream, 0, 2) != Some(SOC.into()) {
-        return Err(Refusal::new(1, 0));
-    }
-    if read(codestream, 2, 2) != Some(SIZ.into()) {
-        return Err(Refusal::new(2, 2));
-    }
+    opens_with_siz(codestream)?;
     let mut at = 2;
     let mut decode_header = codestream[..2].to_vec();
     let mut listed = Vec::new();
@@ -54,6 +49,17 @@ pub fn parse_main_header(codestream: &[u8]) -> Result<Header, Refusal> {
         decode_header,
         entries: placed(at, listed),
     })
+}
+
+/// 1, then 2.
+pub fn opens_with_siz(codestream: &[u8]) -> Result<(), Refusal> {
+    if read(codestream, 0, 2) != Some(SOC.into()) {
+        return Err(Refusal::new(1, 0));
+    }
+    if read(codestream, 2, 2) != Some(SIZ.into()) {
+        return Err(Refusal::new(2, 2));
+    }
+    Ok(())
 }
 
 /// Entries of the table and bytes of output; some of each where the header is refused.

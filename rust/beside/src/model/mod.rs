@@ -1,6 +1,7 @@
 //! The rules in plain Rust: for every input its answer, or its refusal's number and place. Written
 //! from docs/RULES.md, to stand beside the original, which only says that it refuses.
 
+pub mod components;
 pub mod header;
 pub mod parts;
 pub mod reader;
@@ -19,16 +20,18 @@ macro_rules! labels {
 }
 
 /// By number; 0 is none.
-const LABELS: &[(u32, &str)] = labels![1 2 3 4 5 6 7 8 9 10 11 12 13 14 15 16 17 18 19 20 21 22 23];
+const LABELS: &[(u32, &str)] =
+    labels![1 2 3 4 5 6 7 8 9 10 11 12 13 14 15 16 17 18 19 20 21 22 23 24 25];
 
 impl Refusal {
     pub fn new(number: u32, place: u64) -> Self {
         Refusal { number, place }
     }
 
-    /// Of output and tables, too long a loan, and 15: the original has nothing that answers to them.
+    /// Of output and tables, too long a loan, 15, and components: the original has nothing that answers
+    /// to them.
     pub fn is_ours_alone(&self) -> bool {
-        matches!(self.number, 15 | 17 | 18 | 19 | 23)
+        matches!(self.number, 15 | 17 | 18 | 19 | 23 | 24 | 25)
     }
 
     /// Where the original panics.
@@ -66,6 +69,9 @@ pub type Entry = (u16, u64, u64);
 
 /// An offset and a length.
 pub type Range = (u64, u64);
+
+/// On the reference grid: x0, y0, and x1, y1, which no longer belong to it.
+pub type Area = [u32; 4];
 
 pub fn rows(entries: &[Entry]) -> Vec<u8> {
     let row = |(index, offset, length): &Entry| {

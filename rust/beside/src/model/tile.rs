@@ -1,6 +1,6 @@
 //! "SIZ rewrite", "Assembly".
 
-use super::{number, read, Range, Refusal};
+use super::{number, read, Area, Range, Refusal};
 use crate::sample::codestream::{EOC, SIZ, SOT};
 
 const SHORTEST_HEADER: usize = 40;
@@ -15,7 +15,8 @@ pub fn rewrite_siz_for_tile(decode_header: &[u8], isot: u16) -> Result<Vec<u8>, 
     if header.len() < SHORTEST_HEADER || read(&header, 2, 2) != Some(SIZ.into()) {
         return Ok(header);
     }
-    let (width, height) = tile_size(&header, isot).ok_or(Refusal::new(10, 2))?;
+    let [x0, y0, x1, y1] = tile_area(&header, isot)?;
+    let (width, height) = (x1 - x0, y1 - y0);
     if [width, height].map(u64::from) != [field(&header, TILE), field(&header, TILE + 4)] {
         for (at, x, y) in [
             (SIZE, width, height),
@@ -34,31 +35,34 @@ fn field(header: &[u8], at: usize) -> u64 {
     number(&header[at..at + 4])
 }
 
-/// Nothing where a step falls below 0, passes 2^32-1 or divides by 0.
-fn tile_size(header: &[u8], isot: u16) -> Option<(u32, u32)> {
+/// Of a header that holds the fields: 10 where a step falls below 0, passes 2^32-1 or divides by 0.
+pub fn tile_area(header: &[u8], isot: u16) -> Result<Area, Refusal> {
+    steps(header, isot).ok_or(Refusal::new(10, 2))
+}
+
+fn steps(header: &[u8], isot: u16) -> Option<Area> {
     let (size, origin) = (field(header, SIZE), field(header, ORIGIN));
     let tile = field(header, TILE);
     let across = size.checked_sub(origin)?;
     let columns = across.checked_add(tile.checked_sub(1)?)? / tile;
     let column = u64::from(isot).checked_rem(columns)?;
     let row = u64::from(isot) / columns;
-    Some((
-        extent(size, origin, tile, column)?,
-        extent(
-            field(header, SIZE + 4),
-            field(header, ORIGIN + 4),
-            field(header, TILE + 4),
-            row,
-        )?,
-    ))
+    let (x0, x1) = extent(size, origin, tile, column)?;
+    let (y0, y1) = extent(
+        field(header, SIZE + 4),
+        field(header, ORIGIN + 4),
+        field(header, TILE + 4),
+        row,
+    )?;
+    Some([x0, y0, x1, y1])
 }
 
-/// Of the tile that is `nth` in one direction.
-fn extent(size: u64, origin: u64, tile: u64, nth: u64) -> Option<u32> {
+/// Where the tile that is `nth` in one direction starts and ends.
+fn extent(size: u64, origin: u64, tile: u64, nth: u64) -> Option<(u32, u32)> {
     let within = |sum: u64| u32::try_from(sum).ok();
-    let start = u64::from(within(origin + u64::from(within(nth * tile)?))?);
-    let end = u64::from(within(start + tile)?).min(size);
-    within(end.checked_sub(start)?)
+    let start = within(origin + u64::from(within(nth * tile)?))?;
+    let end = within(u64::from(start) + tile)?.min(within(size)?);
+    (start <= end).then_some((start, end))
 }
 
 pub fn build_minimal_codestream(
