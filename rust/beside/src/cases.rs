@@ -1,4 +1,5 @@
-//! The replay list: inputs of every kind in one run of bytes, and the original's answers as text.
+//! The replay list: inputs of every kind in one run of bytes, and the original's answers as text, or the
+//! model's of what the original doesn't have.
 
 use std::collections::BTreeSet;
 
@@ -13,7 +14,7 @@ pub struct Kind {
     pub minimum: usize,
     pub payloads: fn(&mut Random) -> Vec<Vec<u8>>,
     /// The original's answer, one line without its end. It may panic, and gives nothing where
-    /// docs/RULES.md leaves the answer to us.
+    /// docs/RULES.md leaves the answer to us. The model's, of what the original doesn't have.
     pub answer: fn(&[u8]) -> Option<String>,
 }
 

@@ -9,7 +9,7 @@ use crate::model::{Refusal, ACCEPTED};
 use crate::tally::Tally;
 
 /// What the original said.
-#[derive(Debug, Clone)]
+#[derive(Debug, Clone, Copy)]
 pub enum Told<A> {
     Accepted(A),
     Refused,
@@ -37,11 +37,28 @@ impl<A> Told<A> {
             Some(None) => Told::Refused,
         }
     }
+
+    /// What `more` makes of an answer; all else stays.
+    pub fn and_then<B>(self, more: impl FnOnce(A) -> Told<B>) -> Told<B> {
+        match self {
+            Told::Accepted(answer) => more(answer),
+            Told::Refused => Told::Refused,
+            Told::Nothing => Told::Nothing,
+            Told::Amiss(what) => Told::Amiss(what),
+        }
+    }
 }
 
 /// An answer, and how it leaves what was lent.
 pub trait Leaves<const V: usize, const M: usize>: PartialEq + Debug {
     fn leave(&self, before: Lent<V, M>) -> Lent<V, M>;
+}
+
+/// Numbers alone.
+impl<const V: usize> Leaves<V, 0> for [u64; V] {
+    fn leave(&self, before: Lent<V, 0>) -> Lent<V, 0> {
+        before.accepted(*self, [])
+    }
 }
 
 /// Bytes written, and their number.

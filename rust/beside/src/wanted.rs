@@ -153,3 +153,51 @@ pub const NEXT_REGION: Wanted = Wanted {
 pub fn next_region(capped: bool) -> &'static str {
     NEXT_REGION.answers[usize::from(capped)].0
 }
+
+/// Of component sizes; the first three are the main header's too.
+const REFUSED_COMPONENTS: [Answer; 6] = [
+    ("refused 1", 25_000),
+    ("refused 2", 40_000),
+    ("refused 3", 100_000),
+    ("refused 22", 0),
+    ("refused 24", 0),
+    ("refused 25", 0),
+];
+
+/// A function's own answers, and these refusals behind them: `N` in all.
+const fn or_refused<const N: usize>(own: &[Answer]) -> [Answer; N] {
+    assert!(N == own.len() + REFUSED_COMPONENTS.len());
+    let mut all = [own[0]; N];
+    let mut at = 1;
+    while at < N {
+        all[at] = match at < own.len() {
+            true => own[at],
+            false => REFUSED_COMPONENTS[at - own.len()],
+        };
+        at += 1;
+    }
+    all
+}
+
+pub const READ_COMPONENTS: Wanted = Wanted {
+    name: "read_components",
+    answers: &or_refused::<7>(&[(ACCEPTED, 150_000)]),
+};
+pub const READ_COMPONENTS_IN_TILE: Wanted = Wanted {
+    name: "read_components_in_tile",
+    answers: &or_refused::<8>(&[(ACCEPTED, 100_000), ("refused 10", 0)]),
+};
+
+pub const NONE: &str = "no such component";
+pub const COMPONENT: Wanted = Wanted {
+    name: "component",
+    answers: &or_refused::<8>(&[(ACCEPTED, 100_000), (NONE, 50_000)]),
+};
+pub const COMPONENT_IN_TILE: Wanted = Wanted {
+    name: "component_in_tile",
+    answers: &or_refused::<9>(&[(ACCEPTED, 70_000), (NONE, 30_000), ("refused 10", 0)]),
+};
+pub const COMPONENT_WITHIN: Wanted = Wanted {
+    name: "component_within",
+    answers: &[(ACCEPTED, 300_000), (NONE, 150_000)],
+};

@@ -1,6 +1,7 @@
-//! Each function that is run beside the original: a module, named once in each program's list.
+//! Each function that is run beside the original or the model: a module, named once in each program's list.
 
 mod assembly;
+mod components;
 mod entries;
 mod extent;
 mod growth;
@@ -31,6 +32,7 @@ pub const COMPARISONS: &[&dyn Compared] = &[
     &pixel::COMPARISON,
     &growth::COMPARISON,
     &growth::STEP,
+    &components::COMPARISON,
 ];
 
 pub const BENCHMARKS: &[Benchmark] = &[
@@ -59,4 +61,5 @@ pub const KINDS: &[Kind] = &[
     growth::KIND,
     header::RECORDS,
     scan::RECORDS,
+    components::KIND,
 ];

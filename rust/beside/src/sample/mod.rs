@@ -2,6 +2,7 @@
 
 pub mod boxes;
 pub mod codestream;
+pub mod components;
 pub mod damage;
 pub mod headers;
 pub mod parts;

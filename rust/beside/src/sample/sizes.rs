@@ -59,7 +59,7 @@ pub fn header_and_index(random: &mut Random) -> (Vec<u8>, u16) {
 }
 
 /// A tile in the first rows, or anything.
-fn index(random: &mut Random, &[width, _, x, _, tile, ..]: &Fields) -> u16 {
+pub fn index(random: &mut Random, &[width, _, x, _, tile, ..]: &Fields) -> u16 {
     let columns = width.saturating_sub(x).div_ceil(tile.max(1));
     let edge = [0, 1, 2, 5, columns, columns.wrapping_mul(2), 65_535];
     match random.below(8) {
@@ -70,7 +70,7 @@ fn index(random: &mut Random, &[width, _, x, _, tile, ..]: &Fields) -> u16 {
 }
 
 /// Sound and small half the time.
-fn fields(random: &mut Random) -> Fields {
+pub fn fields(random: &mut Random) -> Fields {
     let side = random.pick(&[small_side as Side, any_side]);
     let (width, x, tile_width) = side(random);
     let (height, y, tile_height) = side(random);

@@ -5,7 +5,7 @@ use probe::host;
 use super::cases::{payloads, stops};
 use super::original;
 use crate::compare::{self, Comparison};
-use crate::judge::{Case, Leaves, Told};
+use crate::judge::{Case, Told};
 use crate::lent::Lent;
 use crate::model::reader::{parse_siz_marker, Size};
 use crate::model::Refusal;
@@ -33,12 +33,6 @@ fn fixed(run: &mut Run) {
     run.each(payloads, |run, payload| check(run, payload));
     short_strings(run);
     every_ssiz(run);
-}
-
-impl Leaves<5, 0> for Size {
-    fn leave(&self, before: Lent<5, 0>) -> Lent<5, 0> {
-        before.accepted(*self, [])
-    }
 }
 
 fn check(run: &mut Run, codestream: &[u8]) {

@@ -12,7 +12,7 @@ pub use cases::KIND;
 pub use compare::COMPARISON;
 pub use rows::BENCHMARK;
 
-fn original(codestream: &[u8]) -> Option<Size> {
+pub fn original(codestream: &[u8]) -> Option<Size> {
     let told = reader::parse_siz_marker(codestream)?;
     Some([
         told.width.into(),
