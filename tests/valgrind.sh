@@ -6,7 +6,7 @@
 set -euo pipefail
 cd "$(dirname "$0")/.."
 guarded=${GUARDED:-rust/target/release/guarded}
-calls=30000
+calls=40000
 
 if [ "$(uname -m)" != x86_64 ]; then
     echo "VALGRIND WAS NOT RUN: it can't follow x86-64 code on this processor"

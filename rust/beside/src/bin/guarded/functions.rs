@@ -1,11 +1,12 @@
 //! Every function of the archives, with inputs that are built as files are, and damaged.
 
 use beside::lent::{room, table};
+use beside::model::components::NO_SUCH_COMPONENT;
 use beside::model::{self, Refusal};
 use beside::random::Random;
 use beside::sample::damage::damage;
-use beside::sample::{boxes, headers, padded, parts, sizes, tiles};
-use beside::wanted::{self, Wanted, COMPLETE, COUNT, TRUNCATED};
+use beside::sample::{boxes, components, headers, padded, parts, sizes, tiles};
+use beside::wanted::{self, Wanted, COMPLETE, COUNT, NONE, TRUNCATED};
 use probe::host;
 
 use super::calls::{Calls, ROOM};
@@ -30,6 +31,11 @@ pub const FUNCTIONS: &[Function] = &[
     (wanted::GROWTH, growth),
     (wanted::PIXEL_TYPE, pixel_type),
     (wanted::NEXT_REGION, next_region),
+    (wanted::READ_COMPONENTS, read_components),
+    (wanted::READ_COMPONENTS_IN_TILE, read_components_in_tile),
+    (wanted::COMPONENT, component),
+    (wanted::COMPONENT_IN_TILE, component_in_tile),
+    (wanted::COMPONENT_WITHIN, component_within),
 ];
 
 fn usual(status: u32) -> &'static str {
@@ -280,5 +286,69 @@ fn next_region(calls: &mut Calls) {
     calls.call([], [], answer, |[], [], [value]| {
         *value = host::next_region(region, length);
         0
+    });
+}
+
+/// A codestream, a tile's index and a component's number.
+fn components_input(random: &mut Random) -> (Vec<u8>, u16, u64) {
+    let (header, tile) = components::header_and_index(random);
+    let codestream = perhaps_damaged(random, header);
+    let number = components::number_of(random, &codestream);
+    (codestream, tile, number)
+}
+
+fn usual_or_none(status: u32) -> &'static str {
+    match status {
+        NO_SUCH_COMPONENT => NONE,
+        _ => usual(status),
+    }
+}
+
+/// Of functions that take these three, or less.
+fn components<const V: usize>(
+    calls: &mut Calls,
+    call: impl Fn(&[u8], u16, u64, &mut [u64; V]) -> u32,
+) {
+    let (codestream, tile, number) = components_input(&mut calls.random);
+    let answer = usual_or_none;
+    calls.call([codestream], [], answer, |[codestream], [], values| {
+        call(codestream, tile, number, values)
+    });
+}
+
+fn read_components(calls: &mut Calls) {
+    components(calls, |codestream, _, _, values| {
+        host::read_components(codestream, values)
+    });
+}
+
+fn read_components_in_tile(calls: &mut Calls) {
+    components(calls, |codestream, tile, _, values| {
+        host::read_components_in_tile(codestream, tile, values)
+    });
+}
+
+fn component(calls: &mut Calls) {
+    components(calls, |codestream, _, number, values| {
+        host::component(codestream, number, values)
+    });
+}
+
+fn component_in_tile(calls: &mut Calls) {
+    components(calls, host::component_in_tile);
+}
+
+/// Also of a codestream that ends about where the component does.
+fn component_within(calls: &mut Calls) {
+    let random = &mut calls.random;
+    let (mut codestream, _, number) = components_input(random);
+    if random.once_in(2) {
+        let place = 42 + 3 * (number % components::MOST as u64) as usize;
+        codestream.truncate(place + random.below(4));
+    }
+    let area = components::any_area(random);
+    let answer = usual_or_none;
+    calls.call([codestream], [], answer, |[codestream], [], values| {
+        host::component_within(codestream, area, number, values)
     });
 }
