@@ -13,34 +13,42 @@ const ROW: Duration = Duration::from_millis(400);
 /// A function's benchmark: prints a row for each of its inputs.
 pub struct Benchmark {
     pub name: &'static str,
+    /// What ours is timed beside.
+    pub beside: &'static str,
     pub rows: fn(),
 }
 
-pub fn heading(name: &str) {
-    println!("\n### {name}\n");
-    println!("| input | ns ours | ns original | ours / original |");
-    println!("|---|---:|---:|---:|");
+pub const ORIGINAL: &str = "original";
+
+impl Benchmark {
+    pub fn run(&self) {
+        let Benchmark { name, beside, .. } = self;
+        println!("\n### {name}\n");
+        println!("| input | ns ours | ns {beside} | ours / {beside} |");
+        println!("|---|---:|---:|---:|");
+        (self.rows)();
+    }
 }
 
 pub fn row<I: ?Sized, A: PartialEq + Debug>(
     name: &str,
     input: &I,
     ours: fn(&I) -> A,
-    original: fn(&I) -> A,
+    other: fn(&I) -> A,
 ) {
-    assert_eq!(ours(input), original(input), "{name}: the answers differ");
-    let calls = calls_in_a_round(input, original);
-    let (mut best_ours, mut best_original) = (f64::INFINITY, f64::INFINITY);
+    assert_eq!(ours(input), other(input), "{name}: the answers differ");
+    let calls = calls_in_a_round(input, other);
+    let (mut best_ours, mut best_other) = (f64::INFINITY, f64::INFINITY);
     let start = Instant::now();
     for round in 0..ROUNDS {
         if round > 0 && start.elapsed() > ROW {
             break;
         }
         best_ours = best_ours.min(nanoseconds(input, ours, calls));
-        best_original = best_original.min(nanoseconds(input, original, calls));
+        best_other = best_other.min(nanoseconds(input, other, calls));
     }
-    let ratio = best_ours / best_original;
-    println!("| {name} | {best_ours:.1} | {best_original:.1} | {ratio:.2} |");
+    let ratio = best_ours / best_other;
+    println!("| {name} | {best_ours:.1} | {best_other:.1} | {ratio:.2} |");
 }
 
 fn calls_in_a_round<I: ?Sized, A>(input: &I, side: fn(&I) -> A) -> u32 {

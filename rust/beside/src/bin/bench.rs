@@ -1,12 +1,11 @@
-//! Times every function beside the original and prints a table for each: `bench [NAME]`, of the
-//! functions with that in their name. Status 2 for misuse or in a build with overflow checks, 3
-//! without the original.
+//! Times every function beside the original, or beside plain Rust where that has none, and prints a
+//! table for each: `bench [NAME]`, of the functions with that in their name. Status 2 for misuse or in a
+//! build with overflow checks, 3 without the original.
 
 #![forbid(unsafe_code)]
 
 use std::process::ExitCode;
 
-use beside::bench::heading;
 use beside::functions::BENCHMARKS;
 use beside::options::Options;
 use beside::program::{asks_the_original, ended, named, Build, Stop};
@@ -22,8 +21,7 @@ fn bench() -> Result<(), Stop> {
     asks_the_original(Build::Released)?;
     let name = name.to_string_lossy();
     for benchmark in named(BENCHMARKS, &name, |benchmark| vec![benchmark.name])? {
-        heading(benchmark.name);
-        (benchmark.rows)();
+        benchmark.run();
     }
     Ok(())
 }

@@ -45,6 +45,7 @@ pub const BENCHMARKS: &[Benchmark] = &[
     search::BENCHMARK,
     siz::BENCHMARK,
     growth::BENCHMARK,
+    components::BENCHMARK,
     whole::BENCHMARK,
 ];
 

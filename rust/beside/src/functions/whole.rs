@@ -5,7 +5,7 @@ use original::buffer::OwnedBuffer;
 use original::{markers, reader};
 use probe::host;
 
-use crate::bench::{row, Benchmark};
+use crate::bench::{row, Benchmark, ORIGINAL};
 use crate::model::reader::{JP2C, SIGNATURE};
 use crate::model::ROW;
 use crate::sample::boxes::fitting;
@@ -13,6 +13,7 @@ use crate::sample::{opened, parts, sample_a};
 
 pub const BENCHMARK: Benchmark = Benchmark {
     name: "whole files, as the command lists them",
+    beside: ORIGINAL,
     rows,
 };
 

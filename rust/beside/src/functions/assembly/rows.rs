@@ -6,7 +6,7 @@ use std::cell::RefCell;
 use original::markers;
 use probe::host;
 
-use crate::bench::{row, Benchmark};
+use crate::bench::{row, Benchmark, ORIGINAL};
 use crate::sample::parts;
 use crate::sample::sizes::{header, SAMPLE_A};
 use crate::sample::tiles::Input;
@@ -14,6 +14,7 @@ use crate::wanted;
 
 pub const BENCHMARK: Benchmark = Benchmark {
     name: wanted::ASSEMBLY.name,
+    beside: ORIGINAL,
     rows,
 };
 

@@ -2,6 +2,7 @@
 
 mod cases;
 mod compare;
+mod rows;
 mod told;
 
 use crate::model::components::{Component, Components};
@@ -9,6 +10,7 @@ use crate::model::Area;
 
 pub use cases::KIND;
 pub use compare::COMPARISON;
+pub use rows::BENCHMARK;
 
 /// How many, and the area: the numbers in the order in which they are lent.
 fn counted((count, area): Components) -> [u64; 5] {

@@ -3,13 +3,14 @@
 use original::markers::{self, MainHeaderExtent};
 use probe::host;
 
-use crate::bench::{row, Benchmark};
+use crate::bench::{row, Benchmark, ORIGINAL};
 use crate::sample::codestream::{Codestream, COD, COM, EPH, QCD, SOT};
 use crate::sample::{padded, sample_a, SAMPLE_A_FIRST_SOT};
 use crate::wanted;
 
 pub const BENCHMARK: Benchmark = Benchmark {
     name: wanted::EXTENT.name,
+    beside: ORIGINAL,
     rows,
 };
 

@@ -5,12 +5,13 @@ use original::buffer::OwnedBuffer;
 use original::reader;
 use probe::host;
 
-use crate::bench::{row, Benchmark};
+use crate::bench::{row, Benchmark, ORIGINAL};
 use crate::sample::{padded, sample_a};
 use crate::wanted;
 
 pub const BENCHMARK: Benchmark = Benchmark {
     name: wanted::GROWTH.name,
+    beside: ORIGINAL,
     rows,
 };
 

@@ -6,7 +6,7 @@ use std::cell::RefCell;
 
 use probe::{host, TilePartEntry};
 
-use crate::bench::{row, Benchmark};
+use crate::bench::{row, Benchmark, ORIGINAL};
 use crate::model::header::{parse_main_header, Header};
 use crate::model::ROW;
 use crate::sample::codestream::{Codestream, SOT};
@@ -15,6 +15,7 @@ use crate::wanted;
 
 pub const BENCHMARK: Benchmark = Benchmark {
     name: wanted::HEADER.name,
+    beside: ORIGINAL,
     rows,
 };
 

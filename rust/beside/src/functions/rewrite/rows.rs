@@ -6,13 +6,14 @@ use std::cell::RefCell;
 use original::markers;
 use probe::host;
 
-use crate::bench::{row, Benchmark};
+use crate::bench::{row, Benchmark, ORIGINAL};
 use crate::sample::codestream::Codestream;
 use crate::sample::sizes::{header, SAMPLE_A};
 use crate::wanted;
 
 pub const BENCHMARK: Benchmark = Benchmark {
     name: wanted::REWRITE.name,
+    beside: ORIGINAL,
     rows,
 };
 

@@ -7,7 +7,7 @@ use std::cell::RefCell;
 use original::markers;
 use probe::{host, TilePartEntry};
 
-use crate::bench::{row, Benchmark};
+use crate::bench::{row, Benchmark, ORIGINAL};
 use crate::model::ROW;
 use crate::sample::parts;
 use crate::sample::zeros::zeros;
@@ -15,6 +15,7 @@ use crate::wanted;
 
 pub const BENCHMARK: Benchmark = Benchmark {
     name: wanted::SCAN.name,
+    beside: ORIGINAL,
     rows,
 };
 

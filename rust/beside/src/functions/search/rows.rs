@@ -5,12 +5,13 @@ use original::buffer::OwnedBuffer;
 use original::reader;
 use probe::host;
 
-use crate::bench::{row, Benchmark};
+use crate::bench::{row, Benchmark, ORIGINAL};
 use crate::sample::boxes;
 use crate::wanted;
 
 pub const BENCHMARK: Benchmark = Benchmark {
     name: wanted::SEARCH.name,
+    beside: ORIGINAL,
     rows,
 };
 

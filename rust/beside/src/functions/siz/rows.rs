@@ -3,7 +3,7 @@
 use probe::host;
 
 use super::original;
-use crate::bench::{row, Benchmark};
+use crate::bench::{row, Benchmark, ORIGINAL};
 use crate::model::reader::Size;
 use crate::sample::codestream::{Codestream, COM};
 use crate::sample::sample_a;
@@ -11,6 +11,7 @@ use crate::wanted;
 
 pub const BENCHMARK: Benchmark = Benchmark {
     name: wanted::SIZ.name,
+    beside: ORIGINAL,
     rows,
 };
 

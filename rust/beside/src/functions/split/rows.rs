@@ -7,12 +7,13 @@ use std::cell::RefCell;
 use original::markers::split_tile_parts;
 use probe::host;
 
-use crate::bench::{row, Benchmark};
+use crate::bench::{row, Benchmark, ORIGINAL};
 use crate::sample::parts;
 use crate::wanted;
 
 pub const BENCHMARK: Benchmark = Benchmark {
     name: wanted::SPLIT.name,
+    beside: ORIGINAL,
     rows,
 };
 
