@@ -3,9 +3,11 @@ ghost use mathlib.Core.Path.{_≡_};
 ghost use lib.ListN.{length};
 use crate::print;
 use header::extent::MainHeaderExtent;
+use reader::components;
 use reader::search::Found;
 use reader::siz::SampleType;
 use reader::siz::SizRead;
+use types::Area;
 use types::CodestreamOffset;
 use types::ROW;
 
@@ -154,6 +156,38 @@ pub(crate) fn growth(payload: &[u8]) {
     print::text(b"growth");
     let region = numbers::read_u64(payload, 0);
     print::number(reader::growth::next_region(region, numbers::read_u64(payload, 8)));
+}
+
+// The payload is the tile's index, 2 bytes, the component's number, 8 bytes, and the codestream.
+pub(crate) fn component_sizes(payload: &[u8]) {
+    if payload.len() < 10 {
+        return print::text(b"unknown kind");
+    }
+    print::text(b"components");
+    sizes_of(
+        &payload[10..],
+        numbers::read_u16(payload, 0),
+        numbers::read_u64(payload, 2),
+    );
+}
+
+// In the image, in the tile, and in an area that is the same for every case.
+fn sizes_of(codestream: &[u8], tile: u16, number: u64) {
+    print::components(components::read_components(codestream));
+    print::text(b",");
+    print::components(components::read_components_in_tile(codestream, tile));
+    print::text(b",");
+    print::component(components::component(codestream, number));
+    print::text(b",");
+    print::component(components::component_in_tile(codestream, tile, number));
+    print::text(b",");
+    let area = Area {
+        x0: 1,
+        y0: 254,
+        x1: 65_537,
+        y1: 0xffff_ffff,
+    };
+    print::component(components::component_within(codestream, area, number));
 }
 
 // 2,048 rows.

@@ -1,5 +1,6 @@
-// Answers the stored list of cases in `cases`, a line for each; what it must write is what the original answered
-// (rust/beside, program `cases`). A case is its kind, a byte; the length of its payload, 4 bytes; the payload.
+// Answers the stored list of cases in `cases`, a line for each; what it must write is what the original answered, and for
+// component sizes, of which that has no function, the model (rust/beside, program `cases`). A case is its kind, a byte; the
+// length of its payload, 4 bytes; the payload.
 mod answers;
 mod print;
 
@@ -52,6 +53,7 @@ fn answer(kind: u8, payload: &[u8]) {
         9 => answers::growth(payload),
         10 => answers::header_records(payload),
         11 => answers::scan_records(payload),
+        12 => answers::component_sizes(payload),
         _ => print::text(b"unknown kind"),
     }
     print::text(b"\n");

@@ -2,8 +2,12 @@
 use header::parse::MainHeader;
 use libc::STDOUT_FILENO;
 use parts::scan::Scanned;
+use reader::components::ComponentRead;
+use reader::components::ComponentsRead;
 use tile::rewrite::Written;
+use types::Area;
 use types::ROW;
+use types::Refusal;
 use types::TilePartEntry;
 
 // The line but for its entries; gives how many follow.
@@ -39,6 +43,43 @@ pub(crate) fn written(answer: Written, out: &[u8]) {
         Written::Bytes(count) => hex(out, count),
         Written::Refused(_) => text(b" refused"),
     }
+}
+
+pub(crate) fn components(read: ComponentsRead) {
+    match read {
+        ComponentsRead::Components(info) => {
+            number(info.count as u64);
+            area(info.area);
+        }
+        ComponentsRead::Refused(why) => refused(why),
+    }
+}
+
+pub(crate) fn component(read: ComponentRead) {
+    match read {
+        ComponentRead::Component(info) => {
+            number(info.bits as u64);
+            number(if info.is_signed { 1 } else { 0 });
+            number(info.xrsiz as u64);
+            number(info.yrsiz as u64);
+            area(info.area);
+        }
+        ComponentRead::NoSuch => text(b" none"),
+        ComponentRead::Refused(why) => refused(why),
+    }
+}
+
+fn area(on_grid: Area) {
+    number(on_grid.x0 as u64);
+    number(on_grid.y0 as u64);
+    number(on_grid.x1 as u64);
+    number(on_grid.y1 as u64);
+}
+
+fn refused(why: Refusal) {
+    text(b" refused");
+    number(why.number as u64);
+    number(why.place);
 }
 
 // The first rows of a table, which has as many.

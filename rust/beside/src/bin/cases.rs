@@ -1,4 +1,5 @@
-//! Writes the replay list and the original's answers: `cases ROOT`, the repository's root.
+//! Writes the replay list and its answers, of the original or the model: `cases ROOT`, the repository's
+//! root.
 //! Status 1 if a list can't be made or written, 2 for misuse or in a build without overflow checks
 //! (where the original goes wrong instead of panicking, or never ends), 3 without the original.
 

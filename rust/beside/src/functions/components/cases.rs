@@ -53,7 +53,7 @@ impl Asked {
 /// What `component_within` is asked for, whatever the codestream.
 const AREA: Area = [1, 254, 65_537, u32::MAX];
 
-/// Of all five functions, in the order of the rules.
+/// Of all five functions.
 fn answer(payload: &[u8]) -> Option<String> {
     let (tile, rest) = payload.split_at(2);
     let (which, codestream) = rest.split_at(8);
@@ -134,7 +134,7 @@ fn around_three() -> Vec<Asked> {
     all
 }
 
-/// Two refusals in order, each pair with the first of them mended too.
+/// Several refusals apply: all from 3 on, then with one after the other mended.
 fn first_of_several() -> Vec<Asked> {
     const BEFORE_ITS_START: Fields = [10, 6, 11, 0, 4, 4, 0, 0];
     const NO_TILES: Fields = [10, 6, 0, 0, 0, 4, 0, 0];
@@ -142,6 +142,7 @@ fn first_of_several() -> Vec<Asked> {
     let sound = [[7, 1, 1], [7, 1, 2]];
     [
         saying(BEFORE_ITS_START, 45, 2, &zero),
+        saying(BEFORE_ITS_START, 43, 2, &zero),
         header(BEFORE_ITS_START, &zero),
         header(BEFORE_ITS_START, &sound),
         header(NO_TILES, &zero),
