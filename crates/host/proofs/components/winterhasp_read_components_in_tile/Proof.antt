@@ -1,10 +1,15 @@
 -- What the callees say of answer and lent numbers is what is promised.
-use mathlib.Core.Path.{ap, _∙_}
+use mathlib.Core.Path.{_≡_, ap, _∙_}
 use borrow.Author.Needs.{needs}
 use denote.Ref.{now}
+use Rattle.reader.specs.Components.{componentsInTile}
 use Rattle.host.specs.Components.{readNumber, readCount, readEnd, left, top, right, bottom}
 use Rattle.host.proofs.components.winterhasp_read_components_in_tile.Statement.{statement}
 use Rattle.host.proofs.components.winterhasp_read_components_in_tile.Tie as tie
+
+-- the answer is that of what was asked for
+asked : (c : tie.After-read-components-in-tile) → let a = c .before .before .args in c .read-components-in-tile .result ≡ componentsInTile (now (a .codestream)) (a .tile)
+asked c = c .read-components-in-tile .ensures
 
 read-components-in-tile-requires : tie.Need-read-components-in-tile-requires
 read-components-in-tile-requires c κs = search needs
@@ -14,7 +19,7 @@ tell-components-requires c κs = search needs
 
 returns : tie.Need-returns
 returns c =
-    let p = c .before .before .before .before .before .before .read-components-in-tile .ensures in
+    let p = asked (c .before .before .before .before .before .before) in
     let t = c .tell-components .ensures in
     let a = c .before .before .before .before .before .before .before .before .args in
     (t .0 ∙ ap readNumber p, (t .1 .0 ∙ ap readCount p, (t .1 .1 .0 ∙ ap (λ x. readEnd left x (now (a .x0))) p, (t .1 .1 .1 .0 ∙ ap (λ x. readEnd top x (now (a .y0))) p, (t .1 .1 .1 .1 .0 ∙ ap (λ x. readEnd right x (now (a .x1))) p, t .1 .1 .1 .1 .1 ∙ ap (λ x. readEnd bottom x (now (a .y1))) p)))))
