@@ -37,6 +37,7 @@ SHOWN = {
     "tile/rewrite": ("5", ["rewrite"]),
     "tile/assembly": ("6", ["assembly"]),
     "reader/siz": ("8", ["siz", "pixel"]),
+    "reader/components": ("12", ["components"]),
     "reader/search": ("7", ["search"]),
     "reader/growth": ("9", ["growth"]),
     "host/offsets": ("", []),
@@ -48,6 +49,7 @@ SHOWN = {
     "host/assembly": ("", ["assembly"]),
     "host/search": ("", ["search"]),
     "host/siz": ("", ["siz", "pixel"]),
+    "host/components": ("", ["components"]),
     "host/growth": ("", ["growth"]),
     "probe": ("", ["scan", "search"]),
     "probe/main_header": ("", ["header"]),
@@ -63,6 +65,7 @@ ALSO = {
     "tile/rules": ["Iso"],
     "tile/rewrite": ["Siz", "Iso"],
     "tile/assembly": ["FromParts"],
+    "reader/components": ["Iso"],
     "reader/search": ["Iso"],
     "types/siz": ["IsoSiz"],
 }
