@@ -6,6 +6,7 @@ use mathlib.Core.Path.{_≡_, refl, sym, _∙_}
 use mathlib.Core.Bool.{Bool, true, false}
 use mathlib.Core.List.{List, [], _∷_, _++_}
 use lib.ListN.{length, take, replicate}
+use Rattle.types.specs.Markers.{SOC}
 use Rattle.types.specs.Refusals.{refusal}
 use Rattle.types.specs.Row.{rowOf, rowsOf}
 use Rattle.types.specs.declared.Area.{Area}
@@ -33,7 +34,7 @@ use Rattle.reader.specs.Growth.{regionAt, grown}
 use Rattle.reader.specs.declared.search.Found.the-variants.{Codestream}
 use Rattle.reader.proofs.GrowthLaws.{region-pow, whole-suffices, truncated-not, grown-end, grown-on}
 use Rattle.laws.proofs.SampleComputing.{samples, extents, walks, scan-runs, split-runs, tiles, searches, siz-readings, components}
-use Rattle.laws.specs.Sample.{zeros, header, counting, tlm, sot, part, head, withTlm, A, signature, jp2c}
+use Rattle.laws.specs.Sample.{two, zeros, sizOf, header, counting, tlm, sot, part, head, withTlm, A, signature, jp2c}
 use Rattle.header.specs.declared.parse.MainHeader.the-variants as parse
 use Rattle.parts.specs.declared.scan.Scanned.the-variants as scans
 use Rattle.tile.specs.declared.rewrite.Written.the-variants as writes
@@ -409,6 +410,28 @@ tile-6-short = refl
 pub dropped-first : assemblyAnswer head (rowOf (entry 5 73 17) ++ lent 0) A 61 ≡ Bytes 61
 unfolding scan-runs tiles
 dropped-first = refl
+
+-- ---- beside the table: component sizes where the standard has others, or none (docs/DIFFERENCES.md, "Components")
+
+-- an image without a column has no tile
+pub no-column : componentsInTile (header 10 6 10 0 4 4) 0 ≡ checks.Refused (refusal 10 2)
+unfolding components
+no-column = refl
+
+-- XRsiz 2 has no sample from 1 to 2
+pub no-sample : componentOf (two SOC ++ sizOf 41 2 1 1 0 2 1 1 (7 ∷ 2 ∷ 1 ∷ [])) 0 ≡ given 8 false 2 1 (area 1 0 1 1)
+unfolding components
+no-sample = refl
+
+-- XOsiz 1 and XTOsiz 0: the first tile of the standard ends at 2
+pub other-origin : componentsInTile (header 3 1 1 0 2 1) 0 ≡ checked 1 (area 1 0 3 1)
+unfolding components
+other-origin = refl
+
+-- a seventh tile of six
+pub past-grid : componentsInTile (header 10 8 0 0 4 4) 6 ≡ checked 1 (area 0 8 4 8)
+unfolding components
+past-grid = refl
 
 -- ---- beside the table: where the SIZ reading stops
 
