@@ -10,14 +10,15 @@ use borrow.Author.Tests.{leb-true}
 use Rattle.numbers.proofs.BytesLaws.{ceil-mono, ceil-one}
 use Rattle.numbers.proofs.Choice.{by-test}
 use Rattle.types.specs.Siz.{csiz, component}
+use Rattle.types.specs.Area.{Inside}
 use Rattle.types.specs.declared.Area.{Area}
 use Rattle.types.specs.declared.Refusal.{Refusal}
 use Rattle.tile.specs.Siz.{marker}
-use Rattle.tile.specs.Rules.{tileArea}
+use Rattle.tile.specs.Rules.{imageArea, tileArea}
 use Rattle.tile.specs.declared.rules.TileArea.{TileArea}
 use Rattle.tile.specs.declared.rules.TileArea.the-variants.{Tile, Outside}
-use Rattle.tile.proofs.RulesLaws.{Within, tile-within}
-use Rattle.reader.specs.Components.{apart, imageArea, componentsRead, atTile, componentsInTile, divided, componentAt, isThere, componentIn, chosen, componentOf, componentInTile, Inside}
+use Rattle.tile.proofs.RulesLaws.{tile-within}
+use Rattle.reader.specs.Components.{apart, componentsRead, atTile, componentsInTile, divided, componentAt, isThere, componentIn, chosen, componentOf, componentInTile}
 use Rattle.reader.specs.declared.components.Components.{Components}
 use Rattle.reader.specs.declared.components.ComponentsRead.{ComponentsRead}
 use Rattle.reader.specs.declared.components.ComponentsRead.the-variants as read
@@ -60,10 +61,6 @@ pub record InImage (s : List ℕ) (t : Components) : Type 0 where
   pub count : t .count ≡ image .count
   pub inside : Inside (t .area) (image .area)
 
-within-inside : (s : List ℕ) (a : Area) → Within s a → Inside a (imageArea s)
-unfolding imageArea
-within-inside s a w = record { left = w .left; wide = w .wide; right = w .right; top = w .top; high = w .high; bottom = w .bottom }
-
 in-image : (s : List ℕ) (tile : ℕ) (t : Components) (r : ComponentsRead) (a : TileArea) → componentsRead s ≡ r → tileArea s tile ≡ a
     → atTile r a ≡ read.Components t → InImage s t
 unfolding atTile
@@ -71,7 +68,7 @@ in-image s tile t (read.Components i) (Tile a) e f g =
     let n : i .count ≡ t .count = cc in
     let p : a ≡ t .area = cc in
     let q : imageArea s ≡ i .area = sym (accepted s i e .area) in
-    record { image = i; read = e; count = sym n; inside = rw (← p, ← q) (within-inside s a (tile-within s tile a f)) }
+    record { image = i; read = e; count = sym n; inside = rw (← p, ← q) (tile-within s tile a f) }
 in-image s tile t (read.Components i) Outside e f g = absurd (refused-accepts g)
 in-image s tile t (read.Refused r) a e f g = absurd (refused-accepts g)
 

@@ -26,8 +26,9 @@ use Rattle.header.proofs.StepLaws.{step-no-length, step-no-end}
 use Rattle.header.proofs.WalkLaws.{walk-cut, walk-refused}
 use Rattle.header.proofs.ParseLaws.{stands-inside, judged-no-soc, judged-no-siz, judged-walk, judged-read}
 use Rattle.tile.specs.Siz.{marker}
+use Rattle.tile.specs.Rules.{imageArea}
 use Rattle.reader.specs.Siz.{infoAt, sizRead}
-use Rattle.reader.specs.Components.{sizWhole, countHeld, apart, allApart, imageArea, ordered, componentsRead, componentsInTile, componentAt, isThere, componentIn}
+use Rattle.reader.specs.Components.{sizWhole, countHeld, apart, allApart, ordered, componentsRead, componentsInTile, componentAt, isThere, componentIn}
 use Rattle.reader.specs.declared.siz.SizRead.the-variants.{Siz}
 use Rattle.reader.specs.declared.components.Components.{Components}
 use Rattle.reader.specs.declared.components.ComponentsRead.{ComponentsRead}

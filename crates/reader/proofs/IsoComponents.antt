@@ -21,9 +21,10 @@ use Rattle.header.specs.Step.{segmentEnd}
 use Rattle.header.specs.Parse.{stands}
 use Rattle.header.proofs.ParseLaws.{stands-there}
 use Rattle.tile.specs.Siz.{marker}
+use Rattle.tile.specs.Rules.{imageArea}
 use Rattle.tile.specs.Iso.{numXtiles, numYtiles, columnOf, rowOf, areaOf, headerOf}
 use Rattle.tile.proofs.Iso.{area-standard}
-use Rattle.reader.specs.Components.{sizWhole, countHeld, apart, allApart, imageArea, ordered, componentsRead, atTile, componentsInTile, divided, componentAt, componentIn, chosen, componentOf, componentInTile}
+use Rattle.reader.specs.Components.{sizWhole, countHeld, apart, allApart, ordered, componentsRead, atTile, componentsInTile, divided, componentAt, componentIn, chosen, componentOf, componentInTile}
 use Rattle.reader.specs.Iso.{ComponentRanges, EachRanges, AllRanges, imageOf, infoOf}
 use Rattle.reader.specs.declared.components.ComponentsRead.{ComponentsRead}
 use Rattle.reader.specs.declared.components.ComponentsRead.the-variants as read

@@ -13,8 +13,9 @@ use Rattle.types.specs.IsoSiz.{Component, Size, Csiz, componentRows, sizRows, T
 use Rattle.header.specs.Step.{segmentEnd}
 use Rattle.header.specs.Parse.{stands}
 use Rattle.tile.specs.Siz.{marker}
+use Rattle.tile.specs.Rules.{imageArea}
 use Rattle.tile.specs.Iso.{numXtiles, numYtiles, columnOf, rowOf, startOf, endOf, areaOf, headerOf}
-use Rattle.reader.specs.Components.{sizWhole, countHeld, apart, allApart, imageArea, ordered, componentsRead, divided, componentAt, isThere, componentIn, chosen, componentOf, componentInTile}
+use Rattle.reader.specs.Components.{sizWhole, countHeld, apart, allApart, ordered, componentsRead, divided, componentAt, isThere, componentIn, chosen, componentOf, componentInTile}
 use Rattle.reader.specs.Iso.{EachRanges, AllRanges, imageOf, infoOf}
 use Rattle.reader.specs.declared.components.ComponentsRead.the-variants as read
 use Rattle.reader.specs.declared.components.ComponentRead.the-variants as one

@@ -1,18 +1,18 @@
 -- The components' sizes (docs/RULES.md, "Components"). SIZ stands directly behind SOC, and the rest of the header is not walked.
-use Prim.Native.Nat.{ℕ, zero, suc, _+_, _*_, _%_, _≤_}
+use Prim.Native.Nat.{ℕ, zero, suc, _+_, _*_, _%_}
 use mathlib.Core.Bool.{Bool, true, cond, _&&_}
 use mathlib.Core.List.{List}
 use lib.ListN.{length, getD}
 use lib.Dec.{leb, ltb, eqb}
 use Rattle.numbers.specs.Ceiling.{ceilDiv}
 use Rattle.types.specs.Markers.{SOC, SIZ}
-use Rattle.types.specs.Siz.{lsiz, xsiz, ysiz, xosiz, yosiz, csiz, component}
+use Rattle.types.specs.Siz.{lsiz, csiz, component}
 use Rattle.types.specs.Refusals.{refusal}
 use Rattle.types.specs.declared.Area.{Area}
 use Rattle.header.specs.Step.{segmentEnd}
 use Rattle.header.specs.Parse.{stands}
 use Rattle.tile.specs.Siz.{marker}
-use Rattle.tile.specs.Rules.{tileArea}
+use Rattle.tile.specs.Rules.{imageArea, tileArea}
 use Rattle.tile.specs.declared.rules.TileArea.{TileArea}
 use Rattle.tile.specs.declared.rules.TileArea.the-variants.{Tile, Outside}
 use Rattle.reader.specs.declared.components.ComponentsRead.{ComponentsRead}
@@ -44,11 +44,7 @@ unfolding apart
 allApart s zero = true
 allApart s (suc n) = allApart s n && apart s (component marker n)
 
--- the image on the reference grid
-unfoldable pub imageArea : List ℕ → Area
-imageArea s = record { x0 = xosiz s marker; y0 = yosiz s marker; x1 = xsiz s marker; y1 = ysiz s marker }
-
--- it ends no sooner than it starts: otherwise 22
+-- an area ends no sooner than it starts: otherwise, of the image, 22
 unfoldable pub ordered : Area → Bool
 ordered a = leb (a .x0) (a .x1) && leb (a .y0) (a .y1)
 
@@ -56,7 +52,7 @@ ordered a = leb (a .x0) (a .x1) && leb (a .y0) (a .y1)
 
 -- how many components there are, and where the image lies
 unfoldable pub componentsRead : List ℕ → ComponentsRead
-unfolding sizWhole countHeld allApart imageArea ordered
+unfolding sizWhole countHeld allApart ordered
 componentsRead s =
     cond (stands s 0 SOC)
     (cond (stands s marker SIZ)
@@ -120,14 +116,3 @@ componentOf s k = chosen (componentsRead s) s k
 unfoldable pub componentInTile : List ℕ → ℕ → ℕ → ComponentRead
 unfolding chosen
 componentInTile s tile k = chosen (componentsInTile s tile) s k
-
--- ---- areas within one another
-
--- an area that lies in another and ends no sooner than it starts
-pub record Inside (a b : Area) : Type 0 where
-  pub left : b .x0 ≤ a .x0
-  pub wide : a .x0 ≤ a .x1
-  pub right : a .x1 ≤ b .x1
-  pub top : b .y0 ≤ a .y0
-  pub high : a .y0 ≤ a .y1
-  pub bottom : a .y1 ≤ b .y1

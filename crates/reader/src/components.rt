@@ -7,7 +7,7 @@ ghost use Rattle.numbers.specs.Ceiling.{ceilDiv};
 ghost use Rattle.types.specs.Siz.{component};
 ghost use Rattle.types.specs.Refusals.{refusal};
 ghost use Rattle.tile.specs.Siz.{marker};
-ghost use Rattle.reader.specs.Components.{sizWhole, countHeld, apart, allApart, imageArea, componentsRead, componentsInTile, divided, componentAt, componentIn, chosen, componentOf, componentInTile};
+ghost use Rattle.reader.specs.Components.{sizWhole, countHeld, apart, allApart, componentsRead, componentsInTile, divided, componentAt, componentIn, chosen, componentOf, componentInTile};
 use header::step::HeaderStep;
 use tile::rules::MARKER;
 use tile::rules::TileArea;
@@ -87,18 +87,6 @@ fn are_apart(codestream: &[u8], count: u16) -> bool
     true
 }
 
-fn image_area(codestream: &[u8]) -> Area
-    requires { ⌜ 40 ≤ length (now codestream) ⌝ }
-    ensures { λ r. ⌜ r ≡ imageArea (now (codestream .entry)) ⌝ }
-{
-    Area {
-        x0: tile::rules::field(codestream, siz::XOSIZ),
-        y0: tile::rules::field(codestream, siz::YOSIZ),
-        x1: tile::rules::field(codestream, siz::XSIZ),
-        y1: tile::rules::field(codestream, siz::YSIZ),
-    }
-}
-
 pub fn read_components(codestream: &[u8]) -> ComponentsRead
     ensures { λ r. ⌜ r ≡ componentsRead (now (codestream .entry)) ⌝ }
 {
@@ -119,7 +107,7 @@ pub fn read_components(codestream: &[u8]) -> ComponentsRead
     if !are_apart(codestream, count) {
         return refuse(25, MARKER as u64);
     }
-    let area = image_area(codestream);
+    let area = tile::rules::image_area(codestream);
     if area.x1 < area.x0 {
         return refuse(22, MARKER as u64);
     }

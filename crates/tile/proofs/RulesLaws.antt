@@ -8,9 +8,10 @@ use borrow.Author.Tests.{le-leb, lt-leb, lt-ltb, le-ltb, eq-eqb, ne-eqb, leb-tru
 use Rattle.numbers.specs.Ceiling.{ceilDiv}
 use Rattle.numbers.proofs.Choice.{by-test}
 use Rattle.types.specs.Siz.{xsiz, ysiz, xosiz, yosiz, xtsiz, ytsiz}
+use Rattle.types.specs.Area.{Inside}
 use Rattle.types.specs.declared.Area.{Area}
 use Rattle.tile.specs.Siz.{marker}
-use Rattle.tile.specs.Rules.{fitting, reaching, axisOf, columnsOf, bothAxes, inGrid, tileArea}
+use Rattle.tile.specs.Rules.{fitting, reaching, axisOf, columnsOf, imageArea, bothAxes, inGrid, tileArea}
 use Rattle.tile.specs.declared.rules.Axis.{Axis}
 use Rattle.tile.specs.declared.rules.Axis.the-variants.{Span, Outside}
 use Rattle.tile.specs.declared.rules.TileArea.{TileArea}
@@ -107,20 +108,11 @@ module _ (h : List ℕ) (columns tile : ℕ) where
 
 -- ---- within the image
 
--- a tile's area lies within the image's, and ends no sooner than it starts
-pub record Within (h : List ℕ) (a : Area) : Type 0 where
-  pub left : xosiz h marker ≤ a .x0
-  pub wide : a .x0 ≤ a .x1
-  pub right : a .x1 ≤ xsiz h marker
-  pub top : yosiz h marker ≤ a .y0
-  pub high : a .y0 ≤ a .y1
-  pub bottom : a .y1 ≤ ysiz h marker
-
 both-within : (h : List ℕ) (a : Area) (x y : Axis)
     → ((l r : ℕ) → x ≡ Span l r → (xosiz h marker ≤ l) × ((l ≤ r) × (r ≤ xsiz h marker)))
     → ((t b : ℕ) → y ≡ Span t b → (yosiz h marker ≤ t) × ((t ≤ b) × (b ≤ ysiz h marker)))
-    → bothAxes x y ≡ area.Tile a → Within h a
-unfolding bothAxes
+    → bothAxes x y ≡ area.Tile a → Inside a (imageArea h)
+unfolding bothAxes imageArea
 both-within h a (Span l r) (Span t b) f g e =
     let p = f l r refl in
     let q = g t b refl in
@@ -132,9 +124,10 @@ both-within h a (Span l r) (Span t b) f g e =
 both-within h a (Span l r) Outside f g e = absurd (outside-tile e)
 both-within h a Outside y f g e = absurd (outside-tile e)
 
-pub tile-within : (h : List ℕ) (tile : ℕ) (a : Area) → tileArea h tile ≡ area.Tile a → Within h a
+-- A tile lies in the image, and ends no sooner than it starts.
+pub tile-within : (h : List ℕ) (tile : ℕ) (a : Area) → tileArea h tile ≡ area.Tile a → Inside a (imageArea h)
 unfolding tileArea inGrid
 tile-within h tile a =
     let n : ℕ = columnsOf (xsiz h marker) (xosiz h marker) (xtsiz h marker) in
-    by-test (λ (t : TileArea). t ≡ area.Tile a → Within h a) (eqb n 0) (λ _ e. absurd (outside-tile e))
+    by-test (λ (t : TileArea). t ≡ area.Tile a → Inside a (imageArea h)) (eqb n 0) (λ _ e. absurd (outside-tile e))
     (λ _ e. both-within h a (across h n tile) (down h n tile) (axis-within _ _ _ _) (axis-within _ _ _ _) e)

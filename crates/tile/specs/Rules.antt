@@ -5,6 +5,7 @@ use mathlib.Core.List.{List}
 use lib.Dec.{leb, ltb, eqb}
 use Rattle.numbers.specs.Ceiling.{ceilDiv}
 use Rattle.types.specs.Siz.{xsiz, ysiz, xosiz, yosiz, xtsiz, ytsiz}
+use Rattle.types.specs.declared.Area.{Area}
 use Rattle.tile.specs.Siz.{marker}
 use Rattle.tile.specs.declared.rules.Axis.{Axis}
 use Rattle.tile.specs.declared.rules.Axis.the-variants.{Span, Outside}
@@ -31,7 +32,11 @@ axisOf end origin size cell =
 unfoldable pub columnsOf : ℕ → ℕ → ℕ → ℕ
 columnsOf end origin size = cond (leb origin end) (cond (eqb size 0) 0 (ceilDiv (end - origin) size)) 0
 
--- ---- the tile
+-- ---- the image and the tile
+
+-- the image on the reference grid
+unfoldable pub imageArea : List ℕ → Area
+imageArea h = record { x0 = xosiz h marker; y0 = yosiz h marker; x1 = xsiz h marker; y1 = ysiz h marker }
 
 unfoldable pub bothAxes : Axis → Axis → TileArea
 bothAxes (Span x0 x1) (Span y0 y1) = area.Tile (record { x0 = x0; y0 = y0; x1 = x1; y1 = y1 })

@@ -1,10 +1,11 @@
-// Where a tile lies on the reference grid (docs/RULES.md, "SIZ rewrite"): the original's rule, in steps of 32 bits.
+// Where the image lies on the reference grid, and where a tile does (docs/RULES.md, "SIZ rewrite"): the original's rule, in steps of
+// 32 bits.
 ghost use mathlib.Core.Path.{_≡_};
 ghost use Prim.Native.Nat.{_+_, _≤_};
 ghost use lib.ListN.{length};
 ghost use Rattle.numbers.specs.Bytes.{be};
 ghost use Rattle.tile.specs.Siz.{marker};
-ghost use Rattle.tile.specs.Rules.{axisOf, columnsOf, tileArea};
+ghost use Rattle.tile.specs.Rules.{axisOf, columnsOf, imageArea, tileArea};
 use types::Area;
 use types::siz;
 
@@ -62,6 +63,18 @@ pub fn field(header: &[u8], place: usize) -> u32
     ensures { λ r. ⌜ r ≡ be 4 (now (header .entry)) (marker + place) ⌝ }
 {
     numbers::read_u32(header, MARKER + place)
+}
+
+pub fn image_area(header: &[u8]) -> Area
+    requires { ⌜ 40 ≤ length (now header) ⌝ }
+    ensures { λ r. ⌜ r ≡ imageArea (now (header .entry)) ⌝ }
+{
+    Area {
+        x0: field(header, siz::XOSIZ),
+        y0: field(header, siz::YOSIZ),
+        x1: field(header, siz::XSIZ),
+        y1: field(header, siz::YSIZ),
+    }
 }
 
 pub fn tile_area(header: &[u8], isot: u16) -> TileArea

@@ -1,5 +1,6 @@
 pub mod Markers
 pub mod Offsets
+pub mod Area
 pub mod Row
 pub mod Refusals
 pub mod Siz

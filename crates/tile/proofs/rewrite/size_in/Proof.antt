@@ -2,10 +2,11 @@
 use Prim.Native.Nat.{_-_}
 use mathlib.Core.Path.{_≡_, sym, _∙_}
 use borrow.Author.Needs.{needs}
-use Rattle.tile.specs.Rules.{tileArea}
+use Rattle.types.specs.Area.{Inside}
+use Rattle.tile.specs.Rules.{imageArea, tileArea}
 use Rattle.tile.specs.Rewrite.{sized}
 use Rattle.tile.specs.declared.rules.TileArea.the-variants.{Tile}
-use Rattle.tile.proofs.RulesLaws.{Within, tile-within}
+use Rattle.tile.proofs.RulesLaws.{tile-within}
 use Rattle.tile.proofs.RewriteLaws.{size-outside, size-inside}
 use Rattle.tile.proofs.rewrite.size_in.Statement.{statement}
 use Rattle.tile.proofs.rewrite.size_in.Tie as tie
@@ -14,7 +15,7 @@ use Rattle.tile.proofs.rewrite.size_in.Tie as tie
 found : (c : tie.After-area) → let a = c .before .before .before .before .args in tileArea (a .header .now) (a .isot) ≡ Tile (c .area .given .0 .0)
 found c = sym (c .before .before .tile-area .ensures) ∙ c .area .given .1
 
-within : (c : tie.After-area) → Within (c .before .before .before .before .args .header .now) (c .area .given .0 .0)
+within : (c : tie.After-area) → Inside (c .area .given .0 .0) (imageArea (c .before .before .before .before .args .header .now))
 within c = tile-within _ _ _ (found c)
 
 tile-area-requires : tie.Need-tile-area-requires

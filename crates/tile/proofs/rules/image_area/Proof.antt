@@ -1,8 +1,8 @@
 -- Each of the four fields is the definition's.
 use borrow.Author.Needs.{needs}
-use Rattle.reader.specs.Components.{imageArea}
-use Rattle.reader.proofs.components.image_area.Statement.{statement}
-use Rattle.reader.proofs.components.image_area.Tie as tie
+use Rattle.tile.specs.Rules.{imageArea}
+use Rattle.tile.proofs.rules.image_area.Statement.{statement}
+use Rattle.tile.proofs.rules.image_area.Tie as tie
 
 field-requires : tie.Need-field-requires
 field-requires c κs = search needs
