@@ -97,8 +97,8 @@ pub extern "C" fn winterhasp_read_components(
     ensures { λ _. ⌜ now (x1 .exit) ≡ readEnd right (componentsRead (now (codestream .entry))) (now (x1 .entry)) ⌝ }
     ensures { λ _. ⌜ now (y1 .exit) ≡ readEnd bottom (componentsRead (now (codestream .entry))) (now (y1 .entry)) ⌝ }
 {
-    let answer = reader::components::read_components(codestream);
-    tell_components(answer, components, x0, y0, x1, y1)
+    let read = reader::components::read_components(codestream);
+    tell_components(read, components, x0, y0, x1, y1)
 }
 
 // The same with a tile's area.

@@ -2,12 +2,12 @@
 use Prim.Native.Nat.{ℕ, zero, suc, _+_, _*_, _≤_, _<_}
 use native.Mathlib.Omega.{arith}
 use mathlib.Core.Path.{_≡_, sym, ap, ap₂, _∙_}
-use mathlib.Core.Bool.{Bool, true, false, _&&_, and-eq-true-iff, and-false}
+use mathlib.Core.Bool.{Bool, true, false, _&&_, and-eq-true-iff, and-false, false≢true}
 use mathlib.Core.List.{List, [], _∷_}
 use mathlib.Core.Logic.{⊎-elim}
-use lib.ListN.{length, getD}
-use lib.Dec.{leb, eqb}
-use borrow.Author.Tests.{le-leb, lt-leb, lt-ltb, le-ltb, eq-eqb, ne-eqb, leb-true, leb-false, eqb-true, eqb-false}
+use lib.ListN.{length}
+use lib.Dec.{leb, ltb, eqb}
+use borrow.Author.Tests.{le-leb, lt-leb, lt-ltb, le-ltb, eq-eqb, ne-eqb, leb-true, leb-false, ltb-true, ltb-false, eqb-true}
 use denote.Enum.Declared.{tagOf}
 use types.Run.{OneOf}
 use Rattle.numbers.specs.Bytes.{be}
@@ -104,13 +104,15 @@ module _ (s : List ℕ) where
 
   -- ---- steps of 0
 
-  pub apart-fails : (k n : ℕ) → apart s (component marker k) ≡ false → k < n → allApart s n ≡ false
+  pub one-apart : (k n : ℕ) → allApart s n ≡ true → k < n → apart s (component marker k) ≡ true
   unfolding allApart
-  apart-fails k zero e h = absurd (omega arith)
-  apart-fails k (suc n) e h =
-      by-bool (eqb k n)
-      (λ t. let p : k ≡ n = eqb-true _ _ t in ap (λ (b : Bool). allApart s n && b) (ap (λ (i : ℕ). apart s (component marker i)) (sym p) ∙ e) ∙ and-false (allApart s n))
-      (λ t. ap (λ (b : Bool). b && apart s (component marker n)) (apart-fails k n e (omega (arith, eqb-false k n t))))
+  one-apart k zero e h = absurd (omega arith)
+  one-apart k (suc n) e h =
+      let both = and-eq-true-iff (allApart s n) (apart s (component marker n)) .0 e in
+      by-bool (ltb k n) (λ l. one-apart k n (both .0) (ltb-true k n l)) (λ l. let last : k ≡ n = omega (arith, ltb-false k n l) in rw last (both .1))
+
+  pub apart-fails : (k n : ℕ) → apart s (component marker k) ≡ false → k < n → allApart s n ≡ false
+  apart-fails k n e h = by-bool (allApart s n) (λ t. absurd (false≢true (sym e ∙ one-apart k n t h))) (λ f. f)
 
   pub apart-next : (n : ℕ) → allApart s n ≡ true → apart s (component marker n) ≡ true → allApart s (n + 1) ≡ true
   unfolding allApart

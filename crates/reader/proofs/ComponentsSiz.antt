@@ -1,51 +1,40 @@
 -- Which components an accepted check lists, and how the check stands beside the SIZ reading and beside the main header's.
-use Prim.Native.Nat.{ℕ, zero, suc, _+_, _-_, _*_, _≤_, _<_}
+use Prim.Native.Nat.{ℕ, _-_, _≤_, _<_}
 use native.Mathlib.Omega.{arith}
 use mathlib.Core.Path.{_≡_, refl, sym, ap, _∙_}
-use mathlib.Core.Bool.{Bool, true, false, _&&_, and-eq-true-iff}
+use mathlib.Core.Bool.{Bool, true, false, and-eq-true-iff}
 use mathlib.Core.List.{List}
 use lib.ListN.{length}
-use lib.Dec.{leb, ltb, eqb}
-use borrow.Author.Tests.{le-leb, lt-ltb, le-ltb, leb-true, leb-false, ltb-true, ltb-false, eqb-true}
-use Rattle.numbers.specs.Bytes.{be}
+use lib.Dec.{leb}
+use borrow.Author.Tests.{le-leb, leb-true}
 use Rattle.numbers.proofs.Choice.{by-test, by-bool}
-use Rattle.types.specs.Markers.{SOC, SIZ, SOT}
-use Rattle.types.specs.Siz.{lsiz, xsiz, xosiz, csiz, component}
+use Rattle.types.specs.Markers.{SOC, SIZ}
+use Rattle.types.specs.Siz.{xsiz, xosiz, csiz, component}
 use Rattle.types.specs.Refusals.{refusal}
 use Rattle.types.specs.declared.Area.{Area}
 use Rattle.types.specs.declared.Refusal.{Refusal}
 use Rattle.chain.specs.Chain.{Chain}
-use Rattle.header.specs.Step.{delimits, segmentEnd, stepAt}
 use Rattle.header.specs.Walk.{WalkEnd, walkFrom, cutAt}
 use Rattle.header.specs.Parse.{stands, readAs, judged}
-use Rattle.header.specs.declared.step.HeaderStep.the-variants.{CutShort}
 use Rattle.header.specs.declared.parse.MainHeaderInfo.{MainHeaderInfo}
 use Rattle.header.specs.declared.parse.MainHeader.{MainHeader}
 use Rattle.header.specs.declared.parse.MainHeader.the-variants as header
-use Rattle.header.proofs.StepLaws.{step-no-length, step-no-end}
 use Rattle.header.proofs.WalkLaws.{walk-cut, walk-refused}
 use Rattle.header.proofs.ParseLaws.{stands-inside, judged-no-soc, judged-no-siz, judged-walk, judged-read}
 use Rattle.tile.specs.Siz.{marker}
 use Rattle.tile.specs.Rules.{imageArea}
 use Rattle.reader.specs.Siz.{infoAt, sizRead}
-use Rattle.reader.specs.Components.{sizWhole, countHeld, apart, allApart, ordered, componentsRead, componentsInTile, componentAt, isThere, componentIn}
+use Rattle.reader.specs.Components.{sizWhole, countHeld, allApart, ordered, componentsRead, componentsInTile, componentAt, componentIn}
 use Rattle.reader.specs.declared.siz.SizRead.the-variants.{Siz}
 use Rattle.reader.specs.declared.components.Components.{Components}
 use Rattle.reader.specs.declared.components.ComponentsRead.{ComponentsRead}
 use Rattle.reader.specs.declared.components.ComponentsRead.the-variants as read
 use Rattle.reader.specs.declared.components.ComponentRead.the-variants as one
 use Rattle.reader.proofs.SizLaws.{siz-info, move-siz, read-end}
-use Rattle.reader.proofs.ComponentsLaws.{stands-marked, cut-segment, all-inside, none-counted, some-in, Accepted, accepted, refused-accepts}
+use Rattle.reader.proofs.ComponentsLaws.{stands-marked, cut-segment, all-inside, one-apart, none-counted, some-in, Accepted, accepted, refused-accepts}
 use Rattle.reader.proofs.ComponentsAreas.{InImage, tile-inside}
 
 -- ---- which components are listed
-
-one-apart : (s : List ℕ) (k n : ℕ) → allApart s n ≡ true → k < n → apart s (component marker k) ≡ true
-unfolding allApart
-one-apart s k zero e h = absurd (omega arith)
-one-apart s k (suc n) e h =
-    let both = and-eq-true-iff (allApart s n) (apart s (component marker n)) .0 e in
-    by-bool (ltb k n) (λ l. one-apart s k n (both .0) (ltb-true k n l)) (λ l. let last : k ≡ n = omega (arith, ltb-false k n l) in rw last (both .1))
 
 module _ (s : List ℕ) (c : Components) (e : componentsRead s ≡ read.Components c) where
   -- Each that is counted is given, in any area: its bytes lie inside and its steps are not 0.

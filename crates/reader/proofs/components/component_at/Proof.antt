@@ -1,12 +1,10 @@
 -- The three bytes are the definition's, and neither step is 0.
-use mathlib.Core.Path.{ap}
 use mathlib.Core.Bool.{and-eq-true-iff}
 use lib.ListN.{getD}
 use lib.Dec.{leb}
 use Prim.Native.Nat.{_+_, _%_}
 use borrow.Author.Needs.{needs}
 use borrow.Author.Tests.{leb-true}
-use Rattle.types.specs.declared.Area.{Area}
 use Rattle.reader.specs.Components.{apart, componentAt}
 use Rattle.reader.proofs.components.component_at.Statement.{statement}
 use Rattle.reader.proofs.components.component_at.Tie as tie

@@ -1,8 +1,8 @@
 -- Both fields are the definition's, and Csiz lies inside once Lsiz is 41 or more.
 use Prim.Native.Nat.{ℕ, _+_, _*_}
 use native.Mathlib.Omega.{arith}
-use mathlib.Core.Path.{_≡_, sym, ap, _∙_}
-use lib.Dec.{leb, eqb}
+use mathlib.Core.Path.{sym, ap, _∙_}
+use lib.Dec.{leb}
 use borrow.Author.Needs.{needs}
 use borrow.Author.Tests.{ne-eqb}
 use Rattle.reader.proofs.ComponentsLaws.{whole-fits, count-short, count-other, count-most}

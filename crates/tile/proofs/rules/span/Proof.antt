@@ -1,5 +1,5 @@
 -- A u64 holds each step; where the last sum fits 32 bits those before it do, and the tests are the definition's.
-use Prim.Native.Nat.{ℕ, _+_, _-_, _*_, _^_, _≤_, _<_}
+use Prim.Native.Nat.{ℕ, _+_, _*_, _^_, _≤_, _<_}
 use native.Mathlib.Omega.{arith}
 use native.Mathlib.Nat.{mul-le-mul}
 use mathlib.Core.Path.{sym, ap, _∙_}
