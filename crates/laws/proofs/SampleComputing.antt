@@ -13,7 +13,8 @@ use Rattle.parts.specs.Scan.{eocAt, sotStepAt, scanStepAt, scanFrom, entriesFro
 use Rattle.parts.specs.Split.{partEnd, splitStepAt, splitFrom, partsFrom, partsOf}
 use Rattle.parts.specs.Tiles.{ofTile}
 use Rattle.tile.specs.Siz.{pair, oneTile}
-use Rattle.tile.specs.Rules.{imageArea, fitting, reaching, axisOf, columnsOf, bothAxes, inGrid, tileArea}
+use Rattle.tile.specs.Original.{fitting, reaching, axisOf, columnsOf, bothAxes, inGrid, tileArea}
+use Rattle.tile.specs.Rules.{imageArea}
 use Rattle.tile.specs.Rewrite.{sized, sizeOf, sizeIn, tileSize, cutTo, rewritten, over, rewriteAnswer, rewriteOut}
 use Rattle.tile.specs.Assembly.{rows, rangesFrom, ranges, rangeOf, andPart, partsIn, isSot, patched, partSize, sizeFor, joined, assembled, answerFor, assemblyAnswer, assemblyOut}
 use Rattle.reader.specs.Components.{sizWhole, countHeld, apart, allApart, ordered, componentsRead, atTile, componentsInTile, divided, componentAt, isThere, componentIn, chosen, componentOf, componentInTile}

@@ -14,10 +14,11 @@ use Rattle.types.specs.Area.{Inside}
 use Rattle.types.specs.declared.Area.{Area}
 use Rattle.types.specs.declared.Refusal.{Refusal}
 use Rattle.tile.specs.Siz.{marker}
-use Rattle.tile.specs.Rules.{imageArea, tileArea}
-use Rattle.tile.specs.declared.rules.TileArea.{TileArea}
-use Rattle.tile.specs.declared.rules.TileArea.the-variants.{Tile, Outside}
-use Rattle.tile.proofs.RulesLaws.{tile-within}
+use Rattle.tile.specs.Original.{tileArea}
+use Rattle.tile.specs.Rules.{imageArea}
+use Rattle.tile.specs.declared.original.TileArea.{TileArea}
+use Rattle.tile.specs.declared.original.TileArea.the-variants.{Tile, Outside}
+use Rattle.tile.proofs.OriginalLaws.{tile-within}
 use Rattle.reader.specs.Components.{apart, componentsRead, atTile, componentsInTile, divided, componentAt, isThere, componentIn, chosen, componentOf, componentInTile}
 use Rattle.reader.specs.declared.components.Components.{Components}
 use Rattle.reader.specs.declared.components.ComponentsRead.{ComponentsRead}

@@ -25,8 +25,9 @@ use Rattle.header.proofs.ParseLaws.{stands-inside}
 use Rattle.header.proofs.StepLaws.{step-no-length, step-no-end, step-segment}
 use Rattle.header.proofs.step.HeaderStep.{the-type}
 use Rattle.tile.specs.Siz.{marker}
-use Rattle.tile.specs.Rules.{imageArea, tileArea}
-use Rattle.tile.specs.declared.rules.TileArea.the-variants.{Tile, Outside}
+use Rattle.tile.specs.Original.{tileArea}
+use Rattle.tile.specs.Rules.{imageArea}
+use Rattle.tile.specs.declared.original.TileArea.the-variants.{Tile, Outside}
 use Rattle.reader.specs.Components.{sizWhole, countHeld, apart, allApart, ordered, componentsRead, atTile, componentsInTile, componentAt, isThere, componentIn}
 use Rattle.reader.specs.declared.components.Components.{Components}
 use Rattle.reader.specs.declared.components.ComponentsRead.{ComponentsRead}

@@ -17,7 +17,8 @@ use Rattle.types.specs.declared.Area.{Area}
 use Rattle.header.specs.Step.{segmentEnd}
 use Rattle.header.specs.Parse.{stands}
 use Rattle.tile.specs.Siz.{marker}
-use Rattle.tile.specs.Rules.{imageArea, inGrid, tileArea}
+use Rattle.tile.specs.Original.{inGrid, tileArea}
+use Rattle.tile.specs.Rules.{imageArea}
 use Rattle.reader.specs.Components.{sizWhole, countHeld, apart, allApart, ordered, componentsRead, atTile, componentsInTile, componentAt, isThere, componentIn, chosen, componentOf, componentInTile}
 use Rattle.reader.specs.declared.components.Components.{Components}
 use Rattle.reader.specs.declared.components.ComponentsRead.{ComponentsRead}

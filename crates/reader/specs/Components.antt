@@ -12,9 +12,10 @@ use Rattle.types.specs.declared.Area.{Area}
 use Rattle.header.specs.Step.{segmentEnd}
 use Rattle.header.specs.Parse.{stands}
 use Rattle.tile.specs.Siz.{marker}
-use Rattle.tile.specs.Rules.{imageArea, tileArea}
-use Rattle.tile.specs.declared.rules.TileArea.{TileArea}
-use Rattle.tile.specs.declared.rules.TileArea.the-variants.{Tile, Outside}
+use Rattle.tile.specs.Original.{tileArea}
+use Rattle.tile.specs.Rules.{imageArea}
+use Rattle.tile.specs.declared.original.TileArea.{TileArea}
+use Rattle.tile.specs.declared.original.TileArea.the-variants.{Tile, Outside}
 use Rattle.reader.specs.declared.components.ComponentsRead.{ComponentsRead}
 use Rattle.reader.specs.declared.components.ComponentsRead.the-variants as read
 use Rattle.reader.specs.declared.components.ComponentInfo.{ComponentInfo}

@@ -9,8 +9,8 @@ ghost use Rattle.types.specs.Refusals.{refusal};
 ghost use Rattle.tile.specs.Siz.{marker};
 ghost use Rattle.reader.specs.Components.{sizWhole, countHeld, apart, allApart, componentsRead, componentsInTile, divided, componentAt, componentIn, chosen, componentOf, componentInTile};
 use header::step::HeaderStep;
-use tile::rules::MARKER;
-use tile::rules::TileArea;
+use tile::siz::MARKER;
+use tile::original::TileArea;
 use types::Area;
 use types::Refusal;
 use types::markers::SIZ;
@@ -124,7 +124,7 @@ pub fn read_components_in_tile(codestream: &[u8], tile: u16) -> ComponentsRead
     let ComponentsRead::Components(components) = read else {
         return read;
     };
-    let found = tile::rules::tile_area(codestream, tile);
+    let found = tile::original::tile_area(codestream, tile);
     let TileArea::Tile(area) = found else {
         return refuse(10, MARKER as u64);
     };

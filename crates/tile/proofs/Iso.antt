@@ -19,14 +19,14 @@ use Rattle.types.specs.Siz.{XSIZ, xsiz, xosiz, xtsiz}
 use Rattle.types.specs.IsoSiz.{Size, componentRows, sizRows, Ranges, TileRanges}
 use Rattle.types.proofs.IsoSiz.{Fields, TileFields, fields-standard, tile-fields-standard}
 use Rattle.tile.specs.Siz.{marker, pair, oneTile}
-use Rattle.tile.specs.Rules.{axisOf, columnsOf, inGrid, tileArea}
+use Rattle.tile.specs.Original.{axisOf, columnsOf, inGrid, tileArea}
 use Rattle.tile.specs.Rewrite.{sized, tileSize, cutTo, judged, rewritten, over, rewriteAnswer, rewriteOut}
 use Rattle.tile.specs.Iso.{numXtiles, numYtiles, columnOf, rowOf, startOf, endOf, areaOf, widthOf, heightOf, headerOf, cutSize, forTile}
-use Rattle.tile.specs.declared.rules.Axis.the-variants.{Span}
-use Rattle.tile.specs.declared.rules.TileArea.the-variants.{Tile}
+use Rattle.tile.specs.declared.original.Axis.the-variants.{Span}
+use Rattle.tile.specs.declared.original.TileArea.the-variants.{Tile}
 use Rattle.tile.specs.declared.rewrite.TileSize.{TileSize}
 use Rattle.tile.specs.declared.rewrite.Written.the-variants.{Bytes}
-use Rattle.tile.proofs.RulesLaws.{axis-inside, columns-some, grid-both}
+use Rattle.tile.proofs.OriginalLaws.{axis-inside, columns-some, grid-both}
 use Rattle.tile.proofs.RewriteLaws.{size-inside, size-siz, room-enough}
 
 -- ---- one axis

@@ -9,7 +9,7 @@ use Rattle.numbers.specs.Ceiling.{ceilDiv}
 use Rattle.numbers.specs.Rows.{bytesOfRows}
 use Rattle.types.specs.Refusals.{refusal}
 use Rattle.types.specs.IsoSiz.{Size, componentRows, sizRows, Ranges, TileRanges}
-use Rattle.tile.specs.Rules.{fitting, reaching, axisOf, columnsOf, bothAxes, inGrid, tileArea}
+use Rattle.tile.specs.Original.{fitting, reaching, axisOf, columnsOf, bothAxes, inGrid, tileArea}
 use Rattle.tile.specs.Rewrite.{sized, sizeOf, sizeIn, tileSize}
 use Rattle.tile.specs.Iso.{numXtiles, numYtiles, columnOf, rowOf, startOf, endOf, areaOf, widthOf, heightOf, headerOf}
 use Rattle.tile.specs.declared.rewrite.TileSize.the-variants.{Whole, Cut, Refused}

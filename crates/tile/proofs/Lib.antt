@@ -1,4 +1,4 @@
-pub mod RulesLaws
+pub mod OriginalLaws
 pub mod RewriteLaws
 pub mod RewriteHeader
 pub mod AssemblyRanges

@@ -16,10 +16,10 @@ use Rattle.types.specs.Siz.{xtsiz, ytsiz}
 use Rattle.types.specs.declared.Refusal.{Refusal}
 use Rattle.types.specs.declared.Area.{Area}
 use Rattle.tile.specs.Siz.{marker}
-use Rattle.tile.specs.Rules.{tileArea}
+use Rattle.tile.specs.Original.{tileArea}
 use Rattle.tile.specs.Rewrite.{sized, outside, sizeOf, sizeIn, tileSize, withRoom, judged}
-use Rattle.tile.specs.declared.rules.TileArea.{TileArea}
-use Rattle.tile.specs.declared.rules.TileArea.the-variants.{Tile, Outside}
+use Rattle.tile.specs.declared.original.TileArea.{TileArea}
+use Rattle.tile.specs.declared.original.TileArea.the-variants.{Tile, Outside}
 use Rattle.tile.specs.declared.rewrite.TileSize.{TileSize}
 use Rattle.tile.specs.declared.rewrite.TileSize.the-variants.{Whole, Cut}
 use Rattle.tile.specs.declared.rewrite.Written.the-variants.{Bytes}

@@ -1,4 +1,5 @@
 pub mod Siz
+pub mod Original
 pub mod Rules
 pub mod Rewrite
 pub mod Assembly

@@ -9,9 +9,9 @@ use Rattle.types.specs.Refusals.{refusal}
 use Rattle.types.specs.Markers.{SIZ}
 use Rattle.types.specs.Siz.{XSIZ, xtsiz, ytsiz}
 use Rattle.tile.specs.Siz.{marker, oneTile}
-use Rattle.tile.specs.Rules.{tileArea}
-use Rattle.tile.specs.declared.rules.TileArea.{TileArea}
-use Rattle.tile.specs.declared.rules.TileArea.the-variants as area
+use Rattle.tile.specs.Original.{tileArea}
+use Rattle.tile.specs.declared.original.TileArea.{TileArea}
+use Rattle.tile.specs.declared.original.TileArea.the-variants as area
 use Rattle.tile.specs.declared.rewrite.TileSize.{TileSize}
 use Rattle.tile.specs.declared.rewrite.TileSize.the-variants as size
 use Rattle.tile.specs.declared.rewrite.Written.{Written}

@@ -7,8 +7,8 @@ ghost use Rattle.numbers.specs.Bytes.{put};
 ghost use Rattle.types.specs.Siz.{XSIZ};
 ghost use Rattle.tile.specs.Siz.{marker, pair, oneTile};
 ghost use Rattle.tile.specs.Rewrite.{sized, sizeIn, tileSize, cutTo, Room, judged, rewriteAnswer, rewriteOut};
-use crate::rules::MARKER;
-use crate::rules::TileArea;
+use crate::siz::MARKER;
+use crate::original::TileArea;
 use types::Refusal;
 use types::markers::SIZ;
 use types::siz;
@@ -43,15 +43,15 @@ fn size_in(header: &[u8], isot: u16) -> TileSize
     requires { ⌜ 40 ≤ length (now header) ⌝ }
     ensures { λ r. ⌜ r ≡ sizeIn (now (header .entry)) isot ⌝ }
 {
-    let area = crate::rules::tile_area(header, isot);
+    let area = crate::original::tile_area(header, isot);
     let TileArea::Tile(tile) = area else {
         return TileSize::Refused(Refusal {
             number: 10,
             place: MARKER as u64,
         });
     };
-    let xtsiz = crate::rules::field(header, siz::XTSIZ);
-    let ytsiz = crate::rules::field(header, siz::YTSIZ);
+    let xtsiz = crate::siz::field(header, siz::XTSIZ);
+    let ytsiz = crate::siz::field(header, siz::YTSIZ);
     full_or_cut(tile.x1 - tile.x0, tile.y1 - tile.y0, xtsiz, ytsiz)
 }
 

@@ -3,10 +3,11 @@ use Prim.Native.Nat.{_-_}
 use mathlib.Core.Path.{_≡_, sym, _∙_}
 use borrow.Author.Needs.{needs}
 use Rattle.types.specs.Area.{Inside}
-use Rattle.tile.specs.Rules.{imageArea, tileArea}
+use Rattle.tile.specs.Original.{tileArea}
+use Rattle.tile.specs.Rules.{imageArea}
 use Rattle.tile.specs.Rewrite.{sized}
-use Rattle.tile.specs.declared.rules.TileArea.the-variants.{Tile}
-use Rattle.tile.proofs.RulesLaws.{tile-within}
+use Rattle.tile.specs.declared.original.TileArea.the-variants.{Tile}
+use Rattle.tile.proofs.OriginalLaws.{tile-within}
 use Rattle.tile.proofs.RewriteLaws.{size-outside, size-inside}
 use Rattle.tile.proofs.rewrite.size_in.Statement.{statement}
 use Rattle.tile.proofs.rewrite.size_in.Tie as tie

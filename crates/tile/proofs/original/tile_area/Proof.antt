@@ -2,10 +2,10 @@
 use Prim.Native.Nat.{ℕ}
 use mathlib.Core.Path.{_≡_, sym, ap, _∙_}
 use borrow.Author.Needs.{needs}
-use Rattle.tile.proofs.RulesLaws.{across, down, grid-none, grid-across, grid-down, grid-both}
-use Rattle.tile.specs.Rules.{inGrid, tileArea}
-use Rattle.tile.proofs.rules.tile_area.Statement.{statement}
-use Rattle.tile.proofs.rules.tile_area.Tie as tie
+use Rattle.tile.proofs.OriginalLaws.{across, down, grid-none, grid-across, grid-down, grid-both}
+use Rattle.tile.specs.Original.{inGrid, tileArea}
+use Rattle.tile.proofs.original.tile_area.Statement.{statement}
+use Rattle.tile.proofs.original.tile_area.Tie as tie
 
 abbrev start : tie.After-columns → tie.Start
 start c = c .before .before .before .before .before .before .before .before

@@ -4,10 +4,10 @@ use native.Mathlib.Omega.{arith}
 use native.Mathlib.Nat.{le-mul-of-pos-right}
 use mathlib.Core.Path.{sym, _∙_}
 use borrow.Author.Needs.{needs}
-use Rattle.tile.proofs.RulesLaws.{columns-below, columns-none, columns-some}
+use Rattle.tile.proofs.OriginalLaws.{columns-below, columns-none, columns-some}
 use Rattle.numbers.proofs.BytesLaws.{ceil-least}
-use Rattle.tile.proofs.rules.columns.Statement.{statement}
-use Rattle.tile.proofs.rules.columns.Tie as tie
+use Rattle.tile.proofs.original.columns.Statement.{statement}
+use Rattle.tile.proofs.original.columns.Tie as tie
 
 returns : tie.Need-returns
 returns c = sym (columns-below _ _ _ (c .if1 .taken))

@@ -4,10 +4,10 @@ use native.Mathlib.Omega.{arith}
 use native.Mathlib.Nat.{mul-le-mul}
 use mathlib.Core.Path.{sym, ap, _∙_}
 use borrow.Author.Needs.{needs}
-use Rattle.tile.proofs.RulesLaws.{axis-inside, axis-below, axis-passes}
-use Rattle.tile.specs.declared.rules.Axis.the-variants.{Span}
-use Rattle.tile.proofs.rules.span.Statement.{statement}
-use Rattle.tile.proofs.rules.span.Tie as tie
+use Rattle.tile.proofs.OriginalLaws.{axis-inside, axis-below, axis-passes}
+use Rattle.tile.specs.declared.original.Axis.the-variants.{Span}
+use Rattle.tile.proofs.original.span.Statement.{statement}
+use Rattle.tile.proofs.original.span.Tie as tie
 
 product : (a b : ℕ) → a < 2 ^ 32 → b < 2 ^ 32 → a * b ≤ 0xffffffff * 0xffffffff
 product a b h k = mul-le-mul {n₁ = a} {m₁ = b} {n₂ = 0xffffffff} {m₂ = 0xffffffff} (omega arith) (omega arith)

@@ -11,11 +11,12 @@ use Rattle.types.specs.Siz.{xsiz, ysiz, xosiz, yosiz, xtsiz, ytsiz}
 use Rattle.types.specs.Area.{Inside}
 use Rattle.types.specs.declared.Area.{Area}
 use Rattle.tile.specs.Siz.{marker}
-use Rattle.tile.specs.Rules.{fitting, reaching, axisOf, columnsOf, imageArea, bothAxes, inGrid, tileArea}
-use Rattle.tile.specs.declared.rules.Axis.{Axis}
-use Rattle.tile.specs.declared.rules.Axis.the-variants.{Span, Outside}
-use Rattle.tile.specs.declared.rules.TileArea.{TileArea}
-use Rattle.tile.specs.declared.rules.TileArea.the-variants as area
+use Rattle.tile.specs.Original.{fitting, reaching, axisOf, columnsOf, bothAxes, inGrid, tileArea}
+use Rattle.tile.specs.Rules.{imageArea}
+use Rattle.tile.specs.declared.original.Axis.{Axis}
+use Rattle.tile.specs.declared.original.Axis.the-variants.{Span, Outside}
+use Rattle.tile.specs.declared.original.TileArea.{TileArea}
+use Rattle.tile.specs.declared.original.TileArea.the-variants as area
 
 outside-spans : {a b : ℕ} → _≡_ {A = Axis} Outside (Span a b) → ⊥
 outside-spans e = let z : _≡_ {A = ℕ} 0 1 = cc in omega arith
