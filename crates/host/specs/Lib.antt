@@ -2,5 +2,6 @@ pub mod Components
 pub mod Extent
 pub mod Offsets
 pub mod Rewrite
+pub mod Rules
 pub mod Search
 pub mod Siz

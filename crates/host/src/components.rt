@@ -1,9 +1,12 @@
 // The components' sizes: a check that tells their number and an area, and one component, in an area or with the check before it.
 ghost use mathlib.Core.Path.{_≡_};
 ghost use Rattle.reader.specs.Components.{componentsRead, componentsInTile, componentIn, componentOf, componentInTile};
+ghost use Rattle.tile.specs.declared.rules.Rule.the-variants.{AnnexB};
+ghost use Rattle.host.specs.Rules.{ruleOf};
 ghost use Rattle.host.specs.Components.{readNumber, readCount, readEnd, oneNumber, oneBits, oneValue, signOf, left, top, right, bottom};
 use reader::components::ComponentRead;
 use reader::components::ComponentsRead;
+use tile::rules::Rule;
 use types::Area;
 
 fn tell_components(
@@ -101,7 +104,7 @@ pub extern "C" fn winterhasp_read_components(
     tell_components(read, components, x0, y0, x1, y1)
 }
 
-// The same with a tile's area.
+// The same with a tile's area, by Annex B.
 #[no_mangle]
 pub extern "C" fn winterhasp_read_components_in_tile(
     codestream: &[u8],
@@ -112,14 +115,38 @@ pub extern "C" fn winterhasp_read_components_in_tile(
     x1: &mut u64,
     y1: &mut u64,
 ) -> u32
-    ensures { λ r. ⌜ r ≡ readNumber (componentsInTile (now (codestream .entry)) tile) ⌝ }
-    ensures { λ _. ⌜ now (components .exit) ≡ readCount (componentsInTile (now (codestream .entry)) tile) ⌝ }
-    ensures { λ _. ⌜ now (x0 .exit) ≡ readEnd left (componentsInTile (now (codestream .entry)) tile) (now (x0 .entry)) ⌝ }
-    ensures { λ _. ⌜ now (y0 .exit) ≡ readEnd top (componentsInTile (now (codestream .entry)) tile) (now (y0 .entry)) ⌝ }
-    ensures { λ _. ⌜ now (x1 .exit) ≡ readEnd right (componentsInTile (now (codestream .entry)) tile) (now (x1 .entry)) ⌝ }
-    ensures { λ _. ⌜ now (y1 .exit) ≡ readEnd bottom (componentsInTile (now (codestream .entry)) tile) (now (y1 .entry)) ⌝ }
+    ensures { λ r. ⌜ r ≡ readNumber (componentsInTile AnnexB (now (codestream .entry)) tile) ⌝ }
+    ensures { λ _. ⌜ now (components .exit) ≡ readCount (componentsInTile AnnexB (now (codestream .entry)) tile) ⌝ }
+    ensures { λ _. ⌜ now (x0 .exit) ≡ readEnd left (componentsInTile AnnexB (now (codestream .entry)) tile) (now (x0 .entry)) ⌝ }
+    ensures { λ _. ⌜ now (y0 .exit) ≡ readEnd top (componentsInTile AnnexB (now (codestream .entry)) tile) (now (y0 .entry)) ⌝ }
+    ensures { λ _. ⌜ now (x1 .exit) ≡ readEnd right (componentsInTile AnnexB (now (codestream .entry)) tile) (now (x1 .entry)) ⌝ }
+    ensures { λ _. ⌜ now (y1 .exit) ≡ readEnd bottom (componentsInTile AnnexB (now (codestream .entry)) tile) (now (y1 .entry)) ⌝ }
 {
-    let answer = reader::components::read_components_in_tile(codestream, tile);
+    let answer = reader::components::read_components_in_tile(codestream, tile, Rule::AnnexB);
+    tell_components(answer, components, x0, y0, x1, y1)
+}
+
+// The same by a rule.
+#[no_mangle]
+pub extern "C" fn winterhasp_read_components_in_tile_by_rule(
+    codestream: &[u8],
+    tile: u16,
+    rule: u32,
+    components: &mut u64,
+    x0: &mut u64,
+    y0: &mut u64,
+    x1: &mut u64,
+    y1: &mut u64,
+) -> u32
+    ensures { λ r. ⌜ r ≡ readNumber (componentsInTile (ruleOf rule) (now (codestream .entry)) tile) ⌝ }
+    ensures { λ _. ⌜ now (components .exit) ≡ readCount (componentsInTile (ruleOf rule) (now (codestream .entry)) tile) ⌝ }
+    ensures { λ _. ⌜ now (x0 .exit) ≡ readEnd left (componentsInTile (ruleOf rule) (now (codestream .entry)) tile) (now (x0 .entry)) ⌝ }
+    ensures { λ _. ⌜ now (y0 .exit) ≡ readEnd top (componentsInTile (ruleOf rule) (now (codestream .entry)) tile) (now (y0 .entry)) ⌝ }
+    ensures { λ _. ⌜ now (x1 .exit) ≡ readEnd right (componentsInTile (ruleOf rule) (now (codestream .entry)) tile) (now (x1 .entry)) ⌝ }
+    ensures { λ _. ⌜ now (y1 .exit) ≡ readEnd bottom (componentsInTile (ruleOf rule) (now (codestream .entry)) tile) (now (y1 .entry)) ⌝ }
+{
+    let rule = crate::rules::rule_of(rule);
+    let answer = reader::components::read_components_in_tile(codestream, tile, rule);
     tell_components(answer, components, x0, y0, x1, y1)
 }
 
@@ -152,7 +179,7 @@ pub extern "C" fn winterhasp_component(
     tell_component(answer, bits, signed, xrsiz, yrsiz, x0, y0, x1, y1)
 }
 
-// The same with a tile's area.
+// The same with a tile's area, by Annex B.
 #[no_mangle]
 pub extern "C" fn winterhasp_component_in_tile(
     codestream: &[u8],
@@ -167,17 +194,48 @@ pub extern "C" fn winterhasp_component_in_tile(
     x1: &mut u64,
     y1: &mut u64,
 ) -> u32
-    ensures { λ r. ⌜ r ≡ oneNumber (componentInTile (now (codestream .entry)) tile number) ⌝ }
-    ensures { λ _. ⌜ now (bits .exit) ≡ oneBits (componentInTile (now (codestream .entry)) tile number) (now (bits .entry)) ⌝ }
-    ensures { λ _. ⌜ now (signed .exit) ≡ oneValue signOf (componentInTile (now (codestream .entry)) tile number) (now (signed .entry)) ⌝ }
-    ensures { λ _. ⌜ now (xrsiz .exit) ≡ oneValue (λ i. i .xrsiz) (componentInTile (now (codestream .entry)) tile number) (now (xrsiz .entry)) ⌝ }
-    ensures { λ _. ⌜ now (yrsiz .exit) ≡ oneValue (λ i. i .yrsiz) (componentInTile (now (codestream .entry)) tile number) (now (yrsiz .entry)) ⌝ }
-    ensures { λ _. ⌜ now (x0 .exit) ≡ oneValue (λ i. left (i .area)) (componentInTile (now (codestream .entry)) tile number) (now (x0 .entry)) ⌝ }
-    ensures { λ _. ⌜ now (y0 .exit) ≡ oneValue (λ i. top (i .area)) (componentInTile (now (codestream .entry)) tile number) (now (y0 .entry)) ⌝ }
-    ensures { λ _. ⌜ now (x1 .exit) ≡ oneValue (λ i. right (i .area)) (componentInTile (now (codestream .entry)) tile number) (now (x1 .entry)) ⌝ }
-    ensures { λ _. ⌜ now (y1 .exit) ≡ oneValue (λ i. bottom (i .area)) (componentInTile (now (codestream .entry)) tile number) (now (y1 .entry)) ⌝ }
+    ensures { λ r. ⌜ r ≡ oneNumber (componentInTile AnnexB (now (codestream .entry)) tile number) ⌝ }
+    ensures { λ _. ⌜ now (bits .exit) ≡ oneBits (componentInTile AnnexB (now (codestream .entry)) tile number) (now (bits .entry)) ⌝ }
+    ensures { λ _. ⌜ now (signed .exit) ≡ oneValue signOf (componentInTile AnnexB (now (codestream .entry)) tile number) (now (signed .entry)) ⌝ }
+    ensures { λ _. ⌜ now (xrsiz .exit) ≡ oneValue (λ i. i .xrsiz) (componentInTile AnnexB (now (codestream .entry)) tile number) (now (xrsiz .entry)) ⌝ }
+    ensures { λ _. ⌜ now (yrsiz .exit) ≡ oneValue (λ i. i .yrsiz) (componentInTile AnnexB (now (codestream .entry)) tile number) (now (yrsiz .entry)) ⌝ }
+    ensures { λ _. ⌜ now (x0 .exit) ≡ oneValue (λ i. left (i .area)) (componentInTile AnnexB (now (codestream .entry)) tile number) (now (x0 .entry)) ⌝ }
+    ensures { λ _. ⌜ now (y0 .exit) ≡ oneValue (λ i. top (i .area)) (componentInTile AnnexB (now (codestream .entry)) tile number) (now (y0 .entry)) ⌝ }
+    ensures { λ _. ⌜ now (x1 .exit) ≡ oneValue (λ i. right (i .area)) (componentInTile AnnexB (now (codestream .entry)) tile number) (now (x1 .entry)) ⌝ }
+    ensures { λ _. ⌜ now (y1 .exit) ≡ oneValue (λ i. bottom (i .area)) (componentInTile AnnexB (now (codestream .entry)) tile number) (now (y1 .entry)) ⌝ }
 {
-    let answer = reader::components::component_in_tile(codestream, tile, number);
+    let answer = reader::components::component_in_tile(codestream, tile, Rule::AnnexB, number);
+    tell_component(answer, bits, signed, xrsiz, yrsiz, x0, y0, x1, y1)
+}
+
+// The same by a rule.
+#[no_mangle]
+pub extern "C" fn winterhasp_component_in_tile_by_rule(
+    codestream: &[u8],
+    tile: u16,
+    rule: u32,
+    number: u64,
+    bits: &mut u64,
+    signed: &mut u64,
+    xrsiz: &mut u64,
+    yrsiz: &mut u64,
+    x0: &mut u64,
+    y0: &mut u64,
+    x1: &mut u64,
+    y1: &mut u64,
+) -> u32
+    ensures { λ r. ⌜ r ≡ oneNumber (componentInTile (ruleOf rule) (now (codestream .entry)) tile number) ⌝ }
+    ensures { λ _. ⌜ now (bits .exit) ≡ oneBits (componentInTile (ruleOf rule) (now (codestream .entry)) tile number) (now (bits .entry)) ⌝ }
+    ensures { λ _. ⌜ now (signed .exit) ≡ oneValue signOf (componentInTile (ruleOf rule) (now (codestream .entry)) tile number) (now (signed .entry)) ⌝ }
+    ensures { λ _. ⌜ now (xrsiz .exit) ≡ oneValue (λ i. i .xrsiz) (componentInTile (ruleOf rule) (now (codestream .entry)) tile number) (now (xrsiz .entry)) ⌝ }
+    ensures { λ _. ⌜ now (yrsiz .exit) ≡ oneValue (λ i. i .yrsiz) (componentInTile (ruleOf rule) (now (codestream .entry)) tile number) (now (yrsiz .entry)) ⌝ }
+    ensures { λ _. ⌜ now (x0 .exit) ≡ oneValue (λ i. left (i .area)) (componentInTile (ruleOf rule) (now (codestream .entry)) tile number) (now (x0 .entry)) ⌝ }
+    ensures { λ _. ⌜ now (y0 .exit) ≡ oneValue (λ i. top (i .area)) (componentInTile (ruleOf rule) (now (codestream .entry)) tile number) (now (y0 .entry)) ⌝ }
+    ensures { λ _. ⌜ now (x1 .exit) ≡ oneValue (λ i. right (i .area)) (componentInTile (ruleOf rule) (now (codestream .entry)) tile number) (now (x1 .entry)) ⌝ }
+    ensures { λ _. ⌜ now (y1 .exit) ≡ oneValue (λ i. bottom (i .area)) (componentInTile (ruleOf rule) (now (codestream .entry)) tile number) (now (y1 .entry)) ⌝ }
+{
+    let rule = crate::rules::rule_of(rule);
+    let answer = reader::components::component_in_tile(codestream, tile, rule, number);
     tell_component(answer, bits, signed, xrsiz, yrsiz, x0, y0, x1, y1)
 }
 

@@ -8,6 +8,7 @@ pub mod growth;
 pub mod offsets;
 pub mod parse;
 pub mod rewrite;
+pub mod rules;
 pub mod scan;
 pub mod search;
 pub mod siz;

@@ -28,6 +28,7 @@ use Rattle.parts.proofs.TilesAdjoin.{scan-adjoins}
 use Rattle.parts.proofs.TilesJoined.{split-joined}
 use Rattle.tile.specs.Rewrite.{tileSize, cutTo, rewritten, over}
 use Rattle.tile.specs.Assembly.{partsIn, patched, sizeFor, joined, assembled, answerFor, assemblyAnswer, assemblyOut}
+use Rattle.tile.specs.declared.rules.Rule.{Rule}
 use Rattle.tile.specs.declared.rewrite.TileSize.{TileSize}
 use Rattle.tile.specs.declared.rewrite.TileSize.the-variants.{Whole, Cut, Refused}
 use Rattle.tile.specs.declared.rewrite.Written.{Written}
@@ -102,13 +103,14 @@ rest-of s es = joined (map (bytesAt s) es) ++ bytesOf 2 EOC
 
 module _ (s : List ℕ) (tile : ℕ) where
   -- the first part chooses the tile
-  size-is : (d : List ℕ) {es : List TilePartEntry} → All (OfTile s tile) es → AllLong es → (es ≡ [] → ⊥) → sizeFor d (partsIn s es) ≡ tileSize d tile
+  size-is : (rule : Rule) (d : List ℕ) {es : List TilePartEntry} → All (OfTile s tile) es → AllLong es → (es ≡ [] → ⊥)
+      → sizeFor rule d (partsIn s es) ≡ tileSize rule d tile
   unfolding AllLong
-  size-is d none long some = absurd (some refl)
-  size-is d (more {e = e} o all) long some =
-      for-first d (parts-in s tile (more o all))
-      ∙ part-sot (bytesAt s e) d (part-is-sot s tile e o (long .0))
-      ∙ ap (tileSize d) (part-tile s tile e o (long .0))
+  size-is rule d none long some = absurd (some refl)
+  size-is rule d (more {e = e} o all) long some =
+      for-first rule d (parts-in s tile (more o all))
+      ∙ part-sot (bytesAt s e) rule d (part-is-sot s tile e o (long .0))
+      ∙ ap (tileSize rule d) (part-tile s tile e o (long .0))
 
   -- behind the header stands an SOT
   rest-begins : {es : List TilePartEntry} → All (OfTile s tile) es → AllLong es → (es ≡ [] → ⊥) → (2 ≤ length (rest-of s es)) × (be 2 (rest-of s es) 0 ≡ SOT)
@@ -125,12 +127,12 @@ module _ (s : List ℕ) (tile : ℕ) where
             ∙ patched-marker s tile e o (long .0),
       )
 
-  assembled-whole : (d : List ℕ) {es : List TilePartEntry} → All (OfTile s tile) es → AllLong es → (es ≡ [] → ⊥)
-      → assembled d (partsIn s es) ≡ rewritten d tile ++ rest-of s es
+  assembled-whole : (rule : Rule) (d : List ℕ) {es : List TilePartEntry} → All (OfTile s tile) es → AllLong es → (es ≡ [] → ⊥)
+      → assembled rule d (partsIn s es) ≡ rewritten rule d tile ++ rest-of s es
   unfolding rewritten
-  assembled-whole d {es} all long some =
-      assembled-is d (partsIn s es)
-      ∙ ap₂ (λ (z : TileSize) (ps : List (List ℕ)). cutTo z d ++ (joined ps ++ bytesOf 2 EOC)) (size-is d all long some) (parts-in s tile all)
+  assembled-whole rule d {es} all long some =
+      assembled-is rule d (partsIn s es)
+      ∙ ap₂ (λ (z : TileSize) (ps : List (List ℕ)). cutTo z d ++ (joined ps ++ bytesOf 2 EOC)) (size-is rule d all long some) (parts-in s tile all)
 
 -- a rewrite that accepts, with room
 bytes-of : (z : TileSize) (n room : ℕ) → ((r : Refusal) → z ≡ Refused r → ⊥) → n ≤ room → rewrite.judged z n room ≡ Bytes n
@@ -141,32 +143,33 @@ bytes-of (Refused r) n room accepts h = absurd (accepts r refl)
 
 -- ---- the third sentence
 
-module _ (s : List ℕ) (p : ℕ) (c : Accepted s p) (tile : ℕ) (es : List TilePartEntry) (all : All (OfTile s tile) es) (out : List ℕ) (m : Assembles s tile es out) where
-  answered : assemblyAnswer (decodeHeaderOf s) (rowsOf es) s (length out) ≡ Bytes (length (assembledOf s es))
+module _ (rule : Rule) (s : List ℕ) (p : ℕ) (c : Accepted s p) (tile : ℕ) (es : List TilePartEntry) (all : All (OfTile s tile) es) (out : List ℕ)
+    (m : Assembles rule s tile es out) where
+  answered : assemblyAnswer rule (decodeHeaderOf s) (rowsOf es) s (length out) ≡ Bytes (length (assembledOf rule s es))
   unfolding assemblyAnswer answerFor
   answered =
-      ap (λ (rs : List TilePartEntry). answerFor (decodeHeaderOf s) (partsIn s rs) (length out)) (ranges-back s tile (c .bytes) (judged-read s (c .info) (c .header) .short) all)
-      ∙ bytes-of (sizeFor (decodeHeaderOf s) (partsIn s es)) (length (assembledOf s es)) (length out)
-      (λ r e. m .accepts r (sym (size-is s tile (decodeHeaderOf s) all (m .long) (m .some)) ∙ e))
+      ap (λ (rs : List TilePartEntry). answerFor rule (decodeHeaderOf s) (partsIn s rs) (length out)) (ranges-back s tile (c .bytes) (judged-read s (c .info) (c .header) .short) all)
+      ∙ bytes-of (sizeFor rule (decodeHeaderOf s) (partsIn s es)) (length (assembledOf rule s es)) (length out)
+      (λ r e. m .accepts r (sym (size-is s tile rule (decodeHeaderOf s) all (m .long) (m .some)) ∙ e))
       (m .room)
 
-  written-out : assemblyOut (decodeHeaderOf s) (rowsOf es) s out ≡ assembledOf s es ++ drop (length (assembledOf s es)) out
+  written-out : assemblyOut rule (decodeHeaderOf s) (rowsOf es) s out ≡ assembledOf rule s es ++ drop (length (assembledOf rule s es)) out
   unfolding assemblyOut over
   written-out =
-      ap₂ (λ (w : Written) (rs : List TilePartEntry). over w (assembledOf s rs) out) answered
+      ap₂ (λ (w : Written) (rs : List TilePartEntry). over w (assembledOf rule s rs) out) answered
       (ranges-back s tile (c .bytes) (judged-read s (c .info) (c .header) .short) all)
 
   walked : 2 ≤ length (rest-of s es) → be 2 (rest-of s es) 0 ≡ SOT → be 2 s 2 ≡ SIZ
-      → Rewalked s (rewritten (decodeHeaderOf s) tile ++ rest-of s es) (length (decodeHeaderOf s))
+      → Rewalked s (rewritten rule (decodeHeaderOf s) tile ++ rest-of s es) (length (decodeHeaderOf s))
   unfolding rewritten
   walked long begins siz =
-      rewalked s (c .bytes) (rest-of s es) long begins siz (omega (arith, m .siz)) (tileSize (decodeHeaderOf s) tile) (judged-read s (c .info) (c .header) .ends)
+      rewalked s (c .bytes) (rest-of s es) long begins siz (omega (arith, m .siz)) (tileSize rule (decodeHeaderOf s) tile) (judged-read s (c .info) (c .header) .ends)
 
-  standing : Standing (rewritten (decodeHeaderOf s) tile) es (assembledOf s es)
+  standing : Standing (rewritten rule (decodeHeaderOf s) tile) es (assembledOf rule s es)
   standing =
-      let head : List ℕ = rewritten (decodeHeaderOf s) tile in
+      let head : List ℕ = rewritten rule (decodeHeaderOf s) tile in
       let rest : List ℕ = rest-of s es in
-      let whole : assembledOf s es ≡ head ++ rest = assembled-whole s tile (decodeHeaderOf s) all (m .long) (m .some) in
+      let whole : assembledOf rule s es ≡ head ++ rest = assembled-whole s tile rule (decodeHeaderOf s) all (m .long) (m .some) in
       let begins = rest-begins s tile all (m .long) (m .some) in
       let soc : be 2 s 0 ≡ SOC = marker-of s 0 SOC (soc-stands s (c .info) (c .header)) in
       let siz : be 2 s 2 ≡ SIZ = marker-of s 2 SIZ (siz-stands s (c .info) (c .header)) in
@@ -177,12 +180,12 @@ module _ (s : List ℕ) (p : ℕ) (c : Accepted s p) (tile : ℕ) (es : List Til
         front = take-at head rest (length head) refl;
         info = accepted .0;
         walk = accepted .1;
-        first = accepted .2 ∙ sym (length-rewritten (decodeHeaderOf s) tile);
+        first = accepted .2 ∙ sym (length-rewritten rule (decodeHeaderOf s) tile);
         scan = scans-table es scanned;
         entries = scanned .entries;
       })
 
-  reassembled : Reassembled s tile es out
+  reassembled : Reassembled rule s tile es out
   reassembled = record { answer = answered; output = written-out; standing = standing }
 
 -- ---- all of it
@@ -192,5 +195,5 @@ demand-3 s p c =
     record {
       adjoin = scan-adjoins s p;
       split = λ tile long. split-joined s p tile long;
-      assembly = λ tile out m. reassembled s p c tile (ofTile tile (entriesFrom s p)) (entries-of-tile s p tile) out m;
+      assembly = λ rule tile out m. reassembled rule s p c tile (ofTile tile (entriesFrom s p)) (entries-of-tile s p tile) out m;
     }

@@ -20,7 +20,10 @@ use Rattle.parts.specs.Split.{partsOf}
 use Rattle.parts.specs.Tiles.{ofTile, bytesAt, joined, AllLong}
 use Rattle.parts.specs.declared.scan.Scanned.the-variants.{Table}
 use Rattle.tile.specs.Rewrite.{tileSize}
-use Rattle.tile.specs.Assembly.{assemblyAnswer}
+use Rattle.tile.specs.Assembly.{partsIn, assemblyAnswer}
+use Rattle.tile.specs.declared.rules.Rule.{Rule}
+use Rattle.tile.specs.declared.rules.Rule.the-variants.{AnnexB, Original}
+use Rattle.tile.proofs.AssemblyLaws.{length-assembled}
 use Rattle.tile.specs.declared.rewrite.TileSize.{TileSize}
 use Rattle.tile.specs.declared.rewrite.TileSize.the-variants.{Whole, Cut}
 use Rattle.laws.specs.Sample.{two, four, zeros, sot, A}
@@ -76,126 +79,153 @@ cut-accepts e f = let z : _≡_ {A = ℕ} 0 1 = cc in omega arith
 not-empty : {e : TilePartEntry} {es : List TilePartEntry} → _≡_ {A = List TilePartEntry} (e ∷ es) [] → ⊥
 not-empty e = let z : _≡_ {A = ℕ} 0 1 = cc in omega arith
 
-A-tile-5 : tileSize (decodeHeaderOf A) 5 ≡ Cut 2 2
+A-tile-5 : (rule : Rule) → tileSize rule (decodeHeaderOf A) 5 ≡ Cut 2 2
 unfolding walks tiles
-A-tile-5 = refl
+A-tile-5 AnnexB = refl
+A-tile-5 Original = refl
 
-pub A-assembles : Assembles A 5 (ofTile 5 (entriesFrom A 57)) (zeros 63)
+pub A-assembles : (rule : Rule) → Assembles rule A 5 (ofTile 5 (entriesFrom A 57)) (zeros 63)
 unfolding walks scan-runs tiles AllLong NoPsot0
-A-assembles =
+A-assembles rule =
+    let long = length-assembled rule (decodeHeaderOf A) (partsIn A (ofTile 5 (entriesFrom A 57))) in
     record {
       long = (omega arith, tt);
       some = λ e. not-empty e;
       sized = (λ e. omega arith, tt);
       siz = omega arith;
-      accepts = λ r e. cut-accepts A-tile-5 e;
-      room = omega arith;
-      short = omega arith;
+      accepts = λ r e. cut-accepts (A-tile-5 rule) e;
+      room = omega (arith, long);
+      short = omega (arith, long);
     }
 
-pub A-reassembled : Reassembled A 5 (ofTile 5 (entriesFrom A 57)) (zeros 63)
-A-reassembled = demand-3 A 57 A-accepted .assembly 5 (zeros 63) A-assembles
+pub A-reassembled : (rule : Rule) → Reassembled rule A 5 (ofTile 5 (entriesFrom A 57)) (zeros 63)
+A-reassembled rule = demand-3 A 57 A-accepted .assembly rule 5 (zeros 63) (A-assembles rule)
 
 -- ---- the smallest codestreams
 
--- SOC and SIZ with an Lsiz, 1 wide: XTsiz, YTsiz and YTOsiz, the other fields 0; 40 bytes, which end before Csiz
-unfoldable pub begun : ℕ → ℕ → ℕ → ℕ → List ℕ
-begun lsiz xt yt yto =
-    two SOC ++ two SIZ ++ two lsiz ++ two 0 ++ four 1 ++ four 0 ++ four 0 ++ four 0 ++ four xt ++ four yt ++ four 0 ++ four yto
+-- SOC and SIZ with an Lsiz, 131,072 wide: Ysiz and YOsiz, XTsiz, YTsiz and YTOsiz, the other fields 0; 40 bytes, which end before Csiz
+unfoldable pub begun : ℕ → ℕ → ℕ → ℕ → ℕ → ℕ → List ℕ
+begun lsiz y yo xt yt yto =
+    two SOC ++ two SIZ ++ two lsiz ++ two 0 ++ four 0x20000 ++ four y ++ four 0 ++ four yo ++ four xt ++ four yt ++ four 0 ++ four yto
 
--- Lsiz 38, with a Csiz of 0: one tile-part of 12 bytes stands at 42
+-- Lsiz 38, with a Csiz of 0, in tiles of 1 by 1, so that every Isot names one: one tile-part of 12 bytes stands at 42
 unfoldable pub least : List ℕ → List ℕ
-least part = begun 38 1 0 0 ++ two 0 ++ part
+least part = begun 38 1 0 1 1 0 ++ two 0 ++ part
 
 -- the header is accepted with the first SOT at p, no TLM met; the scan from there gives these entries; and the rewrite for a tile gives a size
-abbrev Taken : List ℕ → ℕ → List TilePartEntry → ℕ → TileSize → Type 0
-Taken s p es tile z =
+abbrev Taken : Rule → List ℕ → ℕ → List TilePartEntry → ℕ → TileSize → Type 0
+Taken rule s p es tile z =
     (parse.judged s ≡ Header (record { «first_sot_offset» = record { 0 = p }; «decode_header_length» = p; «tlm_entries» = 0 }))
     × (scan.judged (scanFrom s p) ≡ Table (length es))
     × (entriesFrom s p ≡ es)
-    × (tileSize (decodeHeaderOf s) tile ≡ z)
+    × (tileSize rule (decodeHeaderOf s) tile ≡ z)
 
 computed : Unit {0}
 unfolding walks scan-runs split-runs tiles bytesAt joined begun least
 computed = tt
 
 -- with all premises, 54 bytes: none is shorter
-pub least-taken : Taken (least (sot 0 12)) 42 (entry 0 42 12 ∷ []) 0 Whole
+pub least-taken : (rule : Rule) → Taken rule (least (sot 0 12)) 42 (entry 0 42 12 ∷ []) 0 Whole
 unfolding computed
-least-taken = (refl, refl, refl, refl)
+least-taken AnnexB = (refl, refl, refl, refl)
+least-taken Original = (refl, refl, refl, refl)
 
 -- ---- an entry of 12 bytes or longer
 
 -- 10 bytes, the last two of the SOT segment being EOC: no part stands in them, so the split gives none
-pub short-taken : Taken (least (two 0xff90 ++ two 10 ++ two 0 ++ four 10 ++ two 0xffd9)) 42 (entry 0 42 10 ∷ []) 0 Whole
+pub short-taken : (rule : Rule) → Taken rule (least (two 0xff90 ++ two 10 ++ two 0 ++ four 10 ++ two 0xffd9)) 42 (entry 0 42 10 ∷ []) 0 Whole
 unfolding computed
-short-taken = (refl, refl, refl, refl)
+short-taken AnnexB = (refl, refl, refl, refl)
+short-taken Original = (refl, refl, refl, refl)
 
 pub short-split : partsOf (joined (least (two 0xff90 ++ two 10 ++ two 0 ++ four 10 ++ two 0xffd9)) (entry 0 42 10 ∷ [])) ≡ []
 unfolding computed
 short-split = refl
 
 -- 4 bytes, Isot being EOC: the scan of what is assembled refuses
-pub shorter-taken : Taken (least (sot 0xffd9 4)) 42 (entry 0xffd9 42 4 ∷ []) 0xffd9 Whole
+pub shorter-taken : (rule : Rule) → Taken rule (least (sot 0xffd9 4)) 42 (entry 0xffd9 42 4 ∷ []) 0xffd9 Whole
 unfolding computed
-shorter-taken = (refl, refl, refl, refl)
+shorter-taken AnnexB = (refl, refl, refl, refl)
+shorter-taken Original = (refl, refl, refl, refl)
 
-pub shorter-scan : scan.judged (scanFrom (assembledOf (least (sot 0xffd9 4)) (entry 0xffd9 42 4 ∷ [])) 42) ≡ scans.Refused (refusal 7 42)
+pub shorter-scan : (rule : Rule) → scan.judged (scanFrom (assembledOf rule (least (sot 0xffd9 4)) (entry 0xffd9 42 4 ∷ [])) 42) ≡ scans.Refused (refusal 7 42)
 unfolding computed
-shorter-scan = refl
+shorter-scan AnnexB = refl
+shorter-scan Original = refl
 
 -- ---- an entry at all
 
 -- tile 1 has none, and behind the header stands EOC
-pub none-taken : Taken (least (sot 0 12)) 42 (entry 0 42 12 ∷ []) 1 Whole
+pub none-taken : (rule : Rule) → Taken rule (least (sot 0 12)) 42 (entry 0 42 12 ∷ []) 1 Whole
 unfolding computed
-none-taken = (refl, refl, refl, refl)
+none-taken AnnexB = (refl, refl, refl, refl)
+none-taken Original = (refl, refl, refl, refl)
 
-pub none-walk : parse.judged (assembledOf (least (sot 0 12)) (ofTile 1 (entriesFrom (least (sot 0 12)) 42))) ≡ main.Refused (refusal 3 42)
+pub none-walk : (rule : Rule) → parse.judged (assembledOf rule (least (sot 0 12)) (ofTile 1 (entriesFrom (least (sot 0 12)) 42))) ≡ main.Refused (refusal 3 42)
 unfolding computed
-none-walk = refl
+none-walk AnnexB = refl
+none-walk Original = refl
 
 -- ---- no Psot 0
 
 -- the entry reaches to the codestream's end, and in what is assembled past EOC
-pub psot-0-taken : Taken (least (sot 0 0)) 42 (entry 0 42 12 ∷ []) 0 Whole
+pub psot-0-taken : (rule : Rule) → Taken rule (least (sot 0 0)) 42 (entry 0 42 12 ∷ []) 0 Whole
 unfolding computed
-psot-0-taken = (refl, refl, refl, refl)
+psot-0-taken AnnexB = (refl, refl, refl, refl)
+psot-0-taken Original = (refl, refl, refl, refl)
 
-pub psot-0-scan : entriesFrom (assembledOf (least (sot 0 0)) (entry 0 42 12 ∷ [])) 42 ≡ entry 0 42 14 ∷ []
+pub psot-0-scan : (rule : Rule) → entriesFrom (assembledOf rule (least (sot 0 0)) (entry 0 42 12 ∷ [])) 42 ≡ entry 0 42 14 ∷ []
 unfolding computed
-psot-0-scan = refl
+psot-0-scan AnnexB = refl
+psot-0-scan Original = refl
 
 -- ---- Lsiz of 38 or more
 
 -- Lsiz 34, and EPH at 38, which the rewrite takes for the low half of YTOsiz and makes 0. (The eight fields end at 40, so 36 would do: `rewalked`.)
-pub lsiz-34-taken : Taken (begun 34 1 1 0xff92 ++ sot 0 12) 40 (entry 0 40 12 ∷ []) 0 (Cut 1 0)
-unfolding computed
-lsiz-34-taken = (refl, refl, refl, refl)
+abbrev ends-early : List ℕ
+ends-early = begun 34 0xff93 0xff92 1 2 0xff92 ++ sot 0 12
 
-pub lsiz-34-walk : parse.judged (assembledOf (begun 34 1 1 0xff92 ++ sot 0 12) (entry 0 40 12 ∷ [])) ≡ main.Refused (refusal 3 38)
+pub lsiz-34-taken : (rule : Rule) → Taken rule ends-early 40 (entry 0 40 12 ∷ []) 0 (Cut 1 1)
 unfolding computed
-lsiz-34-walk = refl
+lsiz-34-taken AnnexB = (refl, refl, refl, refl)
+lsiz-34-taken Original = (refl, refl, refl, refl)
+
+pub lsiz-34-walk : (rule : Rule) → parse.judged (assembledOf rule ends-early (entry 0 40 12 ∷ [])) ≡ main.Refused (refusal 3 38)
+unfolding computed
+lsiz-34-walk AnnexB = refl
+lsiz-34-walk Original = refl
 
 -- ---- a rewrite that accepts
 
 -- XTsiz 0
-pub refused-taken : Taken (begun 38 0 0 0 ++ two 0 ++ sot 0 12) 42 (entry 0 42 12 ∷ []) 0 rewrite.outside
-unfolding computed
-refused-taken = (refl, refl, refl, refl)
+abbrev no-size : List ℕ
+no-size = begun 38 1 0 0 1 0 ++ two 0
 
-pub refused-answer : assemblyAnswer (begun 38 0 0 0 ++ two 0) (rowsOf (entry 0 42 12 ∷ [])) (begun 38 0 0 0 ++ two 0 ++ sot 0 12) 56 ≡ writes.Refused (refusal 10 2)
+-- what each rule refuses it by
+abbrev number : Rule → ℕ
+number AnnexB = 30
+number Original = 10
+
+pub refused-taken : (rule : Rule) → Taken rule (no-size ++ sot 0 12) 42 (entry 0 42 12 ∷ []) 0 (size.Refused (refusal (number rule) 2))
 unfolding computed
-refused-answer = refl
+refused-taken AnnexB = (refl, refl, refl, refl)
+refused-taken Original = (refl, refl, refl, refl)
+
+pub refused-answer : (rule : Rule) → assemblyAnswer rule no-size (rowsOf (entry 0 42 12 ∷ [])) (no-size ++ sot 0 12) 56 ≡ writes.Refused (refusal (number rule) 2)
+unfolding computed
+refused-answer AnnexB = refl
+refused-answer Original = refl
 
 -- ---- room
 
-pub room-answer : assemblyAnswer (least []) (rowsOf (entry 0 42 12 ∷ [])) (least (sot 0 12)) 55 ≡ writes.Refused (refusal 17 56)
+pub room-answer : (rule : Rule) → assemblyAnswer rule (least []) (rowsOf (entry 0 42 12 ∷ [])) (least (sot 0 12)) 55 ≡ writes.Refused (refusal 17 56)
 unfolding computed
-room-answer = refl
+room-answer AnnexB = refl
+room-answer Original = refl
 
 -- ---- at most 2^32-1 bytes
 
 -- EOC makes what is assembled up to 2 bytes longer than the codestream: with no TLM and one part to the end, 2^32-2 bytes are enough
-pub long-walk : (s : List ℕ) (es : List TilePartEntry) → 0xffff_ffff < length (assembledOf s es) → parse.judged (assembledOf s es) ≡ main.Refused (refusal 19 0)
-long-walk s es h = judged-long (assembledOf s es) h
+pub long-walk : (rule : Rule) (s : List ℕ) (es : List TilePartEntry) → 0xffff_ffff < length (assembledOf rule s es)
+    → parse.judged (assembledOf rule s es) ≡ main.Refused (refusal 19 0)
+long-walk rule s es h = judged-long (assembledOf rule s es) h

@@ -14,12 +14,13 @@ use Rattle.parts.specs.Split.{partEnd, splitStepAt, splitFrom, partsFrom, parts
 use Rattle.parts.specs.Tiles.{ofTile}
 use Rattle.tile.specs.Siz.{pair, oneTile}
 use Rattle.tile.specs.Original.{fitting, reaching, axisOf, columnsOf, bothAxes, inGrid, tileArea}
-use Rattle.tile.specs.Rules.{imageArea}
+use Rattle.tile.specs.AnnexB.{sideAt, laid, cellsOf, fromOf, toOf, cellArea, inCells, onGrid, gridTile}
+use Rattle.tile.specs.Rules.{imageArea, byAnnexB, byOriginal, placedBy}
 use Rattle.tile.specs.Rewrite.{sized, sizeOf, sizeIn, tileSize, cutTo, rewritten, over, rewriteAnswer, rewriteOut}
 use Rattle.tile.specs.Assembly.{rows, rangesFrom, ranges, rangeOf, andPart, partsIn, isSot, patched, partSize, sizeFor, joined, assembled, answerFor, assemblyAnswer, assemblyOut}
 use Rattle.reader.specs.Components.{sizWhole, countHeld, apart, allApart, ordered, componentsRead, atTile, componentsInTile, divided, componentAt, isThere, componentIn, chosen, componentOf, componentInTile}
 use Rattle.reader.specs.Search.{boxAt, content, passed, onBox, foundFrom, isJp2, foundIn}
-use Rattle.laws.specs.Sample.{two, four, sizOf, siz, header, counting, tlm, sot, part, head, withTlm, A, signature, jp2c}
+use Rattle.laws.specs.Sample.{two, four, sizFrom, sizOf, siz, header, grid, counting, tlm, sot, part, head, withTlm, A, signature, jp2c}
 use Rattle.parts.specs.Scan as scan
 use Rattle.parts.specs.Split as split
 use Rattle.tile.specs.Rewrite as rewrite
@@ -27,7 +28,7 @@ use Rattle.reader.specs.Search as search
 use Rattle.reader.specs.Siz as siz-reading
 
 unfoldable pub samples : Unit {0}
-unfolding be bytesOf put rowOf rowsOf two four sizOf siz header counting tlm sot part head withTlm A signature jp2c also onMove counted chain
+unfolding be bytesOf put rowOf rowsOf two four sizFrom sizOf siz header grid counting tlm sot part head withTlm A signature jp2c also onMove counted chain
 samples = tt
 
 unfoldable pub extents : Unit {0}
@@ -47,7 +48,7 @@ unfolding samples partEnd splitStepAt split.moveOf split.moveAt splitFrom partsF
 split-runs = tt
 
 unfoldable pub tiles : Unit {0}
-unfolding samples pair oneTile ceilDiv fitting reaching axisOf columnsOf bothAxes inGrid tileArea sized sizeOf sizeIn tileSize cutTo rewritten rewrite.withRoom rewrite.judged over rewriteAnswer rewriteOut rows rangesFrom ranges rangeOf andPart partsIn isSot patched partSize sizeFor joined assembled answerFor assemblyAnswer assemblyOut
+unfolding samples pair oneTile ceilDiv fitting reaching axisOf columnsOf bothAxes inGrid tileArea sideAt laid cellsOf fromOf toOf cellArea inCells onGrid gridTile byAnnexB byOriginal placedBy sized sizeOf sizeIn tileSize cutTo rewritten rewrite.withRoom rewrite.judged over rewriteAnswer rewriteOut rows rangesFrom ranges rangeOf andPart partsIn isSot patched partSize sizeFor joined assembled answerFor assemblyAnswer assemblyOut
 tiles = tt
 
 unfoldable pub searches : Unit {0}

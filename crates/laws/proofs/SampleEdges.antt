@@ -22,9 +22,12 @@ use Rattle.parts.specs.Scan.{entriesFrom, scanned, scannedTable}
 use Rattle.parts.specs.Split.{partsOf}
 use Rattle.parts.specs.Tiles.{ofTile}
 use Rattle.parts.specs.declared.scan.Scanned.the-variants.{Table}
-use Rattle.tile.specs.Rewrite.{outside, tileSize, rewritten, rewriteAnswer, rewriteOut}
+use Rattle.tile.specs.Rewrite.{tileSize, rewritten, rewriteAnswer, rewriteOut}
 use Rattle.tile.specs.Assembly.{assemblyAnswer, assemblyOut}
-use Rattle.tile.specs.declared.rewrite.TileSize.the-variants.{Cut}
+use Rattle.tile.specs.declared.rules.Rule.{Rule}
+use Rattle.tile.specs.declared.rules.Rule.the-variants.{AnnexB, Original}
+use Rattle.tile.specs.declared.rewrite.TileSize.{TileSize}
+use Rattle.tile.specs.declared.rewrite.TileSize.the-variants.{Whole, Cut}
 use Rattle.tile.specs.declared.rewrite.Written.the-variants.{Bytes}
 use Rattle.reader.specs.Components.{componentsRead, componentsInTile, componentOf, componentInTile}
 use Rattle.reader.specs.declared.components.ComponentsRead.{ComponentsRead}
@@ -34,9 +37,10 @@ use Rattle.reader.specs.Growth.{regionAt, grown}
 use Rattle.reader.specs.declared.search.Found.the-variants.{Codestream}
 use Rattle.reader.proofs.GrowthLaws.{region-pow, whole-suffices, truncated-not, grown-end, grown-on}
 use Rattle.laws.proofs.SampleComputing.{samples, extents, walks, scan-runs, split-runs, tiles, searches, siz-readings, components}
-use Rattle.laws.specs.Sample.{two, zeros, sizOf, header, counting, tlm, sot, part, head, withTlm, A, signature, jp2c}
+use Rattle.laws.specs.Sample.{two, zeros, sizOf, header, grid, counting, tlm, sot, part, head, withTlm, A, signature, jp2c}
 use Rattle.header.specs.declared.parse.MainHeader.the-variants as parse
 use Rattle.parts.specs.declared.scan.Scanned.the-variants as scans
+use Rattle.tile.specs.declared.rewrite.TileSize.the-variants as size
 use Rattle.tile.specs.declared.rewrite.Written.the-variants as writes
 use Rattle.reader.specs.declared.search.Found.the-variants as found
 use Rattle.reader.specs.declared.siz.SizRead.the-variants as read
@@ -84,41 +88,51 @@ pub extent-59 : extentOf (take 59 A) ≡ Complete (record { 0 = 57 })
 unfolding extents
 extent-59 = refl
 
--- ---- * A, tile 5: width 2, height 2; assembled 63 bytes. Tile 0: header unchanged, 61 bytes.
+-- ---- * A, tile 5: width 2, height 2; assembled 63 bytes. Tile 0: header unchanged, 61 bytes. By either rule.
 
 -- the rows of a tile's entries in A
 abbrev lent : ℕ → List ℕ
 lent tile = rowsOf (ofTile tile (entriesFrom A 57))
 
-pub tile-5 : tileSize head 5 ≡ Cut 2 2
+pub tile-5 : (rule : Rule) → tileSize rule head 5 ≡ Cut 2 2
 unfolding tiles
-tile-5 = refl
+tile-5 AnnexB = refl
+tile-5 Original = refl
 
-pub tile-5-header : rewritten head 5 ≡ header 2 2 0 0 2 2
+pub tile-5-header : (rule : Rule) → rewritten rule head 5 ≡ header 2 2 0 0 2 2
 unfolding tiles
-tile-5-header = refl
+tile-5-header AnnexB = refl
+tile-5-header Original = refl
 
-pub tile-5-assembled : assemblyAnswer head (lent 5) A 63 ≡ Bytes 63
+pub tile-5-assembled : (rule : Rule) → assemblyAnswer rule head (lent 5) A 63 ≡ Bytes 63
 unfolding scan-runs tiles
-tile-5-assembled = refl
+tile-5-assembled AnnexB = refl
+tile-5-assembled Original = refl
 
-pub tile-5-bytes : assemblyOut head (lent 5) A (replicate 64 1) ≡ header 2 2 0 0 2 2 ++ part 0 16 (0xaa ∷ 0xbb ∷ []) ++ (0xff ∷ 0xd9 ∷ 1 ∷ [])
+pub tile-5-bytes : (rule : Rule) → assemblyOut rule head (lent 5) A (replicate 64 1) ≡ header 2 2 0 0 2 2 ++ part 0 16 (0xaa ∷ 0xbb ∷ []) ++ (0xff ∷ 0xd9 ∷ 1 ∷ [])
 unfolding scan-runs tiles
-tile-5-bytes = refl
+tile-5-bytes AnnexB = refl
+tile-5-bytes Original = refl
 
-pub tile-0 : rewritten head 0 ≡ head
+pub tile-0 : (rule : Rule) → rewritten rule head 0 ≡ head
 unfolding tiles
-tile-0 = refl
+tile-0 AnnexB = refl
+tile-0 Original = refl
 
-pub tile-0-assembled : assemblyAnswer head (lent 0) A 61 ≡ Bytes 61
+pub tile-0-assembled : (rule : Rule) → assemblyAnswer rule head (lent 0) A 61 ≡ Bytes 61
 unfolding scan-runs tiles
-tile-0-assembled = refl
+tile-0-assembled AnnexB = refl
+tile-0-assembled Original = refl
 
--- ---- * A, tile 6: y0 is 8, past 6: refusal 10.
+-- ---- * A, tile 6: y0 is 8, past 6: refusal 10 by the original's rule, and 31 by Annex B, as there are six tiles.
 
-pub tile-6 : rewriteAnswer head 6 45 ≡ writes.Refused (refusal 10 2)
+pub tile-6 : rewriteAnswer Original head 6 45 ≡ writes.Refused (refusal 10 2)
 unfolding tiles
 tile-6 = refl
+
+pub tile-6-annex : rewriteAnswer AnnexB head 6 45 ≡ writes.Refused (refusal 31 2)
+unfolding tiles
+tile-6-annex = refl
 
 -- ---- * Ltlm 3: refusal 4. Ltlm 4: no entries.
 
@@ -204,11 +218,15 @@ pub jp2c-7 : foundIn (signature ++ jp2c 7) ≡ found.Refused (refusal 15 12)
 unfolding searches
 jp2c-7 = refl
 
--- ---- * A with XOsiz 1, XTsiz 2^32-1, Xsiz 2, tile 0: refusal 10.
+-- ---- * A with XOsiz 1, XTsiz 2^32-1, Xsiz 2, tile 0: refusal 10 by the original's rule. By Annex B, which has no such bound, 1 wide and 4 high.
 
-pub past-32 : tileSize (header 2 6 1 0 0xffffffff 4) 0 ≡ outside
+pub past-32 : tileSize Original (header 2 6 1 0 0xffffffff 4) 0 ≡ size.Refused (refusal 10 2)
 unfolding tiles
 past-32 = refl
+
+pub past-32-annex : tileSize AnnexB (header 2 6 1 0 0xffffffff 4) 0 ≡ Cut 1 4
+unfolding tiles
+past-32-annex = refl
 
 -- ---- Codestream of 65,536 bytes: no enlargement; of 65,537 with no SOT: one.
 
@@ -315,15 +333,20 @@ pub xosiz-10 : componentsRead (counting 41 10 0 1 (7 ∷ 1 ∷ 1 ∷ [])) ≡ ch
 unfolding components
 xosiz-10 = refl
 
--- ---- * A in tile 5: from 8, 4 to 10, 6. In tile 6: 10.
+-- ---- * A in tile 5: from 8, 4 to 10, 6. In tile 6: 31, and 10 by the original's rule.
 
-pub in-tile-5 : componentsInTile A 5 ≡ checked 1 (area 8 4 10 6)
+pub in-tile-5 : (rule : Rule) → componentsInTile rule A 5 ≡ checked 1 (area 8 4 10 6)
 unfolding components
-in-tile-5 = refl
+in-tile-5 AnnexB = refl
+in-tile-5 Original = refl
 
-pub in-tile-6 : componentsInTile A 6 ≡ checks.Refused (refusal 10 2)
+pub in-tile-6 : componentsInTile AnnexB A 6 ≡ checks.Refused (refusal 31 2)
 unfolding components
 in-tile-6 = refl
+
+pub in-tile-6-original : componentsInTile Original A 6 ≡ checks.Refused (refusal 10 2)
+unfolding components
+in-tile-6-original = refl
 
 -- ---- * A, component 0: 8 bits, 10 by 6. Component 1, and 2^64-1: no such.
 
@@ -339,15 +362,20 @@ pub component-most : componentOf A 0xffffffffffffffff ≡ one.NoSuch
 unfolding components
 component-most = refl
 
--- ---- * XRsiz 4, from 1 to 10: from 1 to 3, two columns, as both ends are divided; a width of 9 divided would be three. YRsiz 2: three rows, in tile 1 two.
+-- ---- * XRsiz 4, from 1 to 10: from 1 to 3, two columns, as both ends are divided; a width of 9 divided would be three. YRsiz 2: three rows, in
+-- tile 1 two. Tile 1 starts at 4, and by the original's rule at 5.
 
 pub both-ends : componentOf (counting 41 1 0 1 (7 ∷ 4 ∷ 2 ∷ [])) 0 ≡ given 8 false 4 2 (area 1 0 3 3)
 unfolding components
 both-ends = refl
 
-pub both-ends-tile : componentInTile (counting 41 1 0 1 (7 ∷ 4 ∷ 2 ∷ [])) 1 0 ≡ given 8 false 4 2 (area 2 0 3 2)
+pub both-ends-tile : componentInTile AnnexB (counting 41 1 0 1 (7 ∷ 4 ∷ 2 ∷ [])) 1 0 ≡ given 8 false 4 2 (area 1 0 2 2)
 unfolding components
 both-ends-tile = refl
+
+pub both-ends-original : componentInTile Original (counting 41 1 0 1 (7 ∷ 4 ∷ 2 ∷ [])) 1 0 ≡ given 8 false 4 2 (area 2 0 3 2)
+unfolding components
+both-ends-original = refl
 
 -- ---- * Ssiz 37: 38 bits, the standard's most. 38: 39 bits. 255: 128 bits and a sign.
 
@@ -363,7 +391,7 @@ pub ssiz-255 : componentOf (counting 41 0 0 1 (255 ∷ 1 ∷ 1 ∷ [])) 0 ≡ gi
 unfolding components
 ssiz-255 = refl
 
--- ---- * 3 before 24, 24 before 25, 25 before 22, 22 before 10, 10 before no such component.
+-- ---- * 3 before 24, 24 before 25, 25 before 22, 22 before 30, 31 and 10, and these before no such component.
 
 pub three-first : componentsRead (counting 40 0 0 1 (7 ∷ [])) ≡ checks.Refused (refusal 3 2)
 unfolding components
@@ -377,13 +405,186 @@ pub twenty-five-first : componentsRead (counting 41 11 0 1 (7 ∷ 0 ∷ 1 ∷ []
 unfolding components
 twenty-five-first = refl
 
-pub twenty-two-first : componentsInTile (counting 41 11 0 1 (7 ∷ 1 ∷ 1 ∷ [])) 6 ≡ checks.Refused (refusal 22 2)
+pub twenty-two-first : (rule : Rule) → componentsInTile rule (counting 41 11 0 1 (7 ∷ 1 ∷ 1 ∷ [])) 6 ≡ checks.Refused (refusal 22 2)
 unfolding components
-twenty-two-first = refl
+twenty-two-first AnnexB = refl
+twenty-two-first Original = refl
 
-pub ten-first : componentInTile A 6 1 ≡ one.Refused (refusal 10 2)
+pub ten-first : componentInTile Original A 6 1 ≡ one.Refused (refusal 10 2)
 unfolding components
 ten-first = refl
+
+pub thirty-one-first : componentInTile AnnexB A 6 1 ≡ one.Refused (refusal 31 2)
+unfolding components
+thirty-one-first = refl
+
+pub thirty-before-none : componentInTile AnnexB (header 10 6 10 0 4 4) 0 1 ≡ one.Refused (refusal 30 2)
+unfolding components
+thirty-before-none = refl
+
+-- what Annex B tells of a tile of SIZ with an Xsiz, XOsiz, XTsiz and XTOsiz, 1 high in tiles of 1; and of one so many high, 1 wide
+abbrev across : ℕ → ℕ → ℕ → ℕ → ℕ → TileSize
+across x xo xt xto tile = tileSize AnnexB (grid x 1 xo 0 xt 1 xto 0) tile
+
+abbrev down : ℕ → ℕ → ℕ → ℕ → ℕ → TileSize
+down y yo yt yto tile = tileSize AnnexB (grid 1 y 0 yo 1 yt 0 yto) tile
+
+abbrev no-grid : TileSize
+no-grid = size.Refused (refusal 30 2)
+
+-- ---- * XTOsiz 1 past XOsiz 0: 30. XOsiz 1: accepted. Down likewise.
+
+pub xto-past : across 2 0 1 1 0 ≡ no-grid
+unfolding tiles
+xto-past = refl
+
+pub xto-level : across 2 1 1 1 0 ≡ Whole
+unfolding tiles
+xto-level = refl
+
+pub yto-past : down 2 0 1 1 0 ≡ no-grid
+unfolding tiles
+yto-past = refl
+
+pub yto-level : down 2 1 1 1 0 ≡ Whole
+unfolding tiles
+yto-level = refl
+
+-- ---- * XOsiz equal to Xsiz: 30. One less: accepted. Down likewise.
+
+pub no-columns : across 1 1 2 0 0 ≡ no-grid
+unfolding tiles
+no-columns = refl
+
+pub one-column : across 2 1 2 0 0 ≡ Cut 1 1
+unfolding tiles
+one-column = refl
+
+pub no-rows : down 1 1 2 0 0 ≡ no-grid
+unfolding tiles
+no-rows = refl
+
+pub one-row : down 2 1 2 0 0 ≡ Cut 1 1
+unfolding tiles
+one-row = refl
+
+-- ---- * XTsiz 0: 30. 1: accepted. Down likewise.
+
+pub xt-0 : across 1 0 0 0 0 ≡ no-grid
+unfolding tiles
+xt-0 = refl
+
+pub xt-1 : across 1 0 1 0 0 ≡ Whole
+unfolding tiles
+xt-1 = refl
+
+pub yt-0 : down 1 0 0 0 0 ≡ no-grid
+unfolding tiles
+yt-0 = refl
+
+pub yt-1 : down 1 0 1 0 0 ≡ Whole
+unfolding tiles
+yt-1 = refl
+
+-- ---- * XTOsiz + XTsiz equal to XOsiz: 30. One more: accepted, also where it is past 2^32-1. Down likewise.
+
+pub reach-short : across 3 2 2 0 0 ≡ no-grid
+unfolding tiles
+reach-short = refl
+
+pub reach-into : across 3 2 3 0 0 ≡ Cut 1 1
+unfolding tiles
+reach-into = refl
+
+pub reach-far : across 0xffffffff 0xfffffffe 0xffffffff 0xfffffffe 0 ≡ Cut 1 1
+unfolding tiles
+reach-far = refl
+
+pub reach-short-down : down 3 2 2 0 0 ≡ no-grid
+unfolding tiles
+reach-short-down = refl
+
+pub reach-into-down : down 3 2 3 0 0 ≡ Cut 1 1
+unfolding tiles
+reach-into-down = refl
+
+-- ---- * The last tile of six; one more: 31. With 2^32 tiles, and with (2^32-1)^2, Isot 65,535 names one.
+
+pub last-tile : tileSize AnnexB head 5 ≡ Cut 2 2
+unfolding tiles
+last-tile = refl
+
+pub past-last : tileSize AnnexB head 6 ≡ size.Refused (refusal 31 2)
+unfolding tiles
+past-last = refl
+
+pub many-tiles : tileSize AnnexB (grid 0x10000 0x10000 0 0 1 1 0 0) 0xffff ≡ Whole
+unfolding tiles
+many-tiles = refl
+
+pub most-tiles : tileSize AnnexB (grid 0xffffffff 0xffffffff 0 0 1 1 0 0) 0xffff ≡ Whole
+unfolding tiles
+most-tiles = refl
+
+-- ---- * XTOsiz 0, XOsiz 3, Xsiz 10, XTsiz 4: tile 0 from 3 to 4, tile 1 from 4 to 8, tile 2 from 8 to 10. By the original's rule from 3 to 7, and from 7 to 10.
+
+pub clipped-0 : componentsInTile AnnexB (grid 10 4 3 0 4 4 0 0) 0 ≡ checked 1 (area 3 0 4 4)
+unfolding components
+clipped-0 = refl
+
+pub clipped-1 : componentsInTile AnnexB (grid 10 4 3 0 4 4 0 0) 1 ≡ checked 1 (area 4 0 8 4)
+unfolding components
+clipped-1 = refl
+
+pub clipped-2 : componentsInTile AnnexB (grid 10 4 3 0 4 4 0 0) 2 ≡ checked 1 (area 8 0 10 4)
+unfolding components
+clipped-2 = refl
+
+pub moved-0 : componentsInTile Original (grid 10 4 3 0 4 4 0 0) 0 ≡ checked 1 (area 3 0 7 4)
+unfolding components
+moved-0 = refl
+
+pub moved-1 : componentsInTile Original (grid 10 4 3 0 4 4 0 0) 1 ≡ checked 1 (area 7 0 10 4)
+unfolding components
+moved-1 = refl
+
+-- ---- * A header of 39 bytes, or of 40 with FF52 at 2: unchanged by either rule, whatever stands there; of 40: 30 where there is no grid.
+
+pub bytes-39 : (rule : Rule) → tileSize rule (take 39 (grid 1 1 0 0 0 1 0 0)) 0 ≡ Whole
+unfolding tiles
+bytes-39 AnnexB = refl
+bytes-39 Original = refl
+
+pub bytes-40-other : (rule : Rule) → tileSize rule (two SOC ++ (0xff ∷ 0x52 ∷ zeros 36)) 0 ≡ Whole
+unfolding tiles
+bytes-40-other AnnexB = refl
+bytes-40-other Original = refl
+
+pub bytes-40 : tileSize AnnexB (take 40 (grid 1 1 0 0 0 1 0 0)) 0 ≡ no-grid
+unfolding tiles
+bytes-40 = refl
+
+-- ---- * 30 before 31: YTOsiz 1 past YOsiz 0, one column and one row, index 1. 30 and 31 before 17, and nothing is written.
+
+pub thirty-first : tileSize AnnexB (grid 4 4 0 0 4 4 0 1) 1 ≡ no-grid
+unfolding tiles
+thirty-first = refl
+
+pub thirty-one-alone : tileSize AnnexB (grid 4 4 0 1 4 4 0 1) 1 ≡ size.Refused (refusal 31 2)
+unfolding tiles
+thirty-one-alone = refl
+
+pub thirty-short : rewriteAnswer AnnexB (grid 4 4 0 0 4 4 0 1) 0 0 ≡ writes.Refused (refusal 30 2)
+unfolding tiles
+thirty-short = refl
+
+pub thirty-one-short : rewriteAnswer AnnexB head 6 0 ≡ writes.Refused (refusal 31 2)
+unfolding tiles
+thirty-one-short = refl
+
+pub thirty-one-written : rewriteOut AnnexB head 6 (1 ∷ []) ≡ 1 ∷ []
+unfolding tiles
+thirty-one-written = refl
 
 -- ---- beside the table: the order of refusals and what is left untouched
 
@@ -397,24 +598,26 @@ unfolding scan-runs
 no-row = refl
 
 -- one byte less than the assembly needs: 17
-pub no-room : assemblyAnswer head (lent 5) A 62 ≡ writes.Refused (refusal 17 63)
+pub no-room : (rule : Rule) → assemblyAnswer rule head (lent 5) A 62 ≡ writes.Refused (refusal 17 63)
 unfolding scan-runs tiles
-no-room = refl
+no-room AnnexB = refl
+no-room Original = refl
 
 -- 10 before 17, and nothing is written
-pub tile-6-short : rewriteOut head 6 (1 ∷ []) ≡ 1 ∷ []
+pub tile-6-short : rewriteOut Original head 6 (1 ∷ []) ≡ 1 ∷ []
 unfolding tiles
 tile-6-short = refl
 
 -- a range that passes the end chooses no tile, and does not stop the rest
-pub dropped-first : assemblyAnswer head (rowOf (entry 5 73 17) ++ lent 0) A 61 ≡ Bytes 61
+pub dropped-first : (rule : Rule) → assemblyAnswer rule head (rowOf (entry 5 73 17) ++ lent 0) A 61 ≡ Bytes 61
 unfolding scan-runs tiles
-dropped-first = refl
+dropped-first AnnexB = refl
+dropped-first Original = refl
 
 -- ---- beside the table: component sizes where the standard has others, or none (docs/DIFFERENCES.md, "Components")
 
 -- an image without a column has no tile
-pub no-column : componentsInTile (header 10 6 10 0 4 4) 0 ≡ checks.Refused (refusal 10 2)
+pub no-column : componentsInTile AnnexB (header 10 6 10 0 4 4) 0 ≡ checks.Refused (refusal 30 2)
 unfolding components
 no-column = refl
 
@@ -423,13 +626,13 @@ pub no-sample : componentOf (two SOC ++ sizOf 41 2 1 1 0 2 1 1 (7 ∷ 2 ∷ 1 �
 unfolding components
 no-sample = refl
 
--- XOsiz 1 and XTOsiz 0: the first tile of the standard ends at 2
-pub other-origin : componentsInTile (header 3 1 1 0 2 1) 0 ≡ checked 1 (area 1 0 3 1)
+-- by the original's rule: XOsiz 1 and XTOsiz 0, where the first tile of the standard ends at 2
+pub other-origin : componentsInTile Original (header 3 1 1 0 2 1) 0 ≡ checked 1 (area 1 0 3 1)
 unfolding components
 other-origin = refl
 
 -- a seventh tile of six
-pub past-grid : componentsInTile (header 10 8 0 0 4 4) 6 ≡ checked 1 (area 0 8 4 8)
+pub past-grid : componentsInTile Original (header 10 8 0 0 4 4) 6 ≡ checked 1 (area 0 8 4 8)
 unfolding components
 past-grid = refl
 

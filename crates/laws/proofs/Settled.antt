@@ -27,6 +27,9 @@ clamped-sub m κs a g = one m λ x y e i. (e i, x .1)
 pub minimum : {M : Type 1} → Settles M numbers.minimum.ended numbers.minimum.clauses
 minimum m κs a g = one m λ x y e i. (e i, x .1)
 
+pub maximum : {M : Type 1} → Settles M numbers.maximum.ended numbers.maximum.clauses
+maximum m κs a g = one m λ x y e i. (e i, x .1)
+
 -- ---- types
 
 pub codestream-at : {M : Type 1} → Settles M types.CodestreamOffset.at.ended types.CodestreamOffset.at.clauses
@@ -114,10 +117,10 @@ pub judge : {M : Type 1} → Settles M tile.rewrite.judge.ended tile.rewrite.jud
 judge m κs a g = one m λ x y e i. (e i, x .1)
 
 pub rewrite-siz-for-tile : {M : Type 1} → Settles M tile.rewrite.rewrite_siz_for_tile.ended tile.rewrite.rewrite_siz_for_tile.clauses
-rewrite-siz-for-tile m κs a g = two m λ x y e i. (e .0 i, (tt, (tt, (e .1 i, tt))))
+rewrite-siz-for-tile m κs a g = two m λ x y e i. (e .0 i, (tt, (tt, (tt, (e .1 i, tt)))))
 
 pub build-minimal-codestream : {M : Type 1} → Settles M tile.assembly.build_minimal_codestream.ended tile.assembly.build_minimal_codestream.clauses
-build-minimal-codestream m κs a g = two m λ x y e i. (e .0 i, (tt, (tt, (tt, (e .1 i, tt)))))
+build-minimal-codestream m κs a g = two m λ x y e i. (e .0 i, (tt, (tt, (tt, (tt, (e .1 i, tt))))))
 
 -- ---- reader
 
@@ -186,8 +189,17 @@ tell-written m κs a g = two m λ x y e i. (e .0 i, (tt, (e .1 i, tt)))
 pub winterhasp-rewrite-siz-for-tile : {M : Type 1} → Settles M host.rewrite.winterhasp_rewrite_siz_for_tile.ended host.rewrite.winterhasp_rewrite_siz_for_tile.clauses
 winterhasp-rewrite-siz-for-tile m κs a g = three m λ x y e i. (e .0 i, (tt, (tt, (e .2 i, (e .1 i, tt)))))
 
+pub rule-of : {M : Type 1} → Settles M host.rules.rule_of.ended host.rules.rule_of.clauses
+rule-of m κs a g = one m λ x y e i. (e i, x .1)
+
+pub winterhasp-rewrite-siz-for-tile-by-rule : {M : Type 1} → Settles M host.rewrite.winterhasp_rewrite_siz_for_tile_by_rule.ended host.rewrite.winterhasp_rewrite_siz_for_tile_by_rule.clauses
+winterhasp-rewrite-siz-for-tile-by-rule m κs a g = three m λ x y e i. (e .0 i, (tt, (tt, (tt, (e .2 i, (e .1 i, tt))))))
+
 pub winterhasp-build-minimal-codestream : {M : Type 1} → Settles M host.assembly.winterhasp_build_minimal_codestream.ended host.assembly.winterhasp_build_minimal_codestream.clauses
 winterhasp-build-minimal-codestream m κs a g = three m λ x y e i. (e .0 i, (tt, (tt, (tt, (e .2 i, (e .1 i, tt))))))
+
+pub winterhasp-build-minimal-codestream-by-rule : {M : Type 1} → Settles M host.assembly.winterhasp_build_minimal_codestream_by_rule.ended host.assembly.winterhasp_build_minimal_codestream_by_rule.clauses
+winterhasp-build-minimal-codestream-by-rule m κs a g = three m λ x y e i. (e .0 i, (tt, (tt, (tt, (tt, (e .2 i, (e .1 i, tt)))))))
 
 pub winterhasp-find-codestream : {M : Type 1} → Settles M host.search.winterhasp_find_codestream.ended host.search.winterhasp_find_codestream.clauses
 winterhasp-find-codestream m κs a g = three m λ x y e i. (e .0 i, (tt, (e .1 i, (e .2 i, tt))))
@@ -213,11 +225,17 @@ winterhasp-read-components m κs a g = six m λ x y e i. (e .0 i, (tt, (e .1 i, 
 pub winterhasp-read-components-in-tile : {M : Type 1} → Settles M host.components.winterhasp_read_components_in_tile.ended host.components.winterhasp_read_components_in_tile.clauses
 winterhasp-read-components-in-tile m κs a g = six m λ x y e i. (e .0 i, (tt, (tt, (e .1 i, (e .2 i, (e .3 i, (e .4 i, (e .5 i, tt))))))))
 
+pub winterhasp-read-components-in-tile-by-rule : {M : Type 1} → Settles M host.components.winterhasp_read_components_in_tile_by_rule.ended host.components.winterhasp_read_components_in_tile_by_rule.clauses
+winterhasp-read-components-in-tile-by-rule m κs a g = six m λ x y e i. (e .0 i, (tt, (tt, (tt, (e .1 i, (e .2 i, (e .3 i, (e .4 i, (e .5 i, tt)))))))))
+
 pub winterhasp-component : {M : Type 1} → Settles M host.components.winterhasp_component.ended host.components.winterhasp_component.clauses
 winterhasp-component m κs a g = nine m λ x y e i. (e .0 i, (tt, (tt, (e .1 i, (e .2 i, (e .3 i, (e .4 i, (e .5 i, (e .6 i, (e .7 i, (e .8 i, tt)))))))))))
 
 pub winterhasp-component-in-tile : {M : Type 1} → Settles M host.components.winterhasp_component_in_tile.ended host.components.winterhasp_component_in_tile.clauses
 winterhasp-component-in-tile m κs a g = nine m λ x y e i. (e .0 i, (tt, (tt, (tt, (e .1 i, (e .2 i, (e .3 i, (e .4 i, (e .5 i, (e .6 i, (e .7 i, (e .8 i, tt))))))))))))
+
+pub winterhasp-component-in-tile-by-rule : {M : Type 1} → Settles M host.components.winterhasp_component_in_tile_by_rule.ended host.components.winterhasp_component_in_tile_by_rule.clauses
+winterhasp-component-in-tile-by-rule m κs a g = nine m λ x y e i. (e .0 i, (tt, (tt, (tt, (tt, (e .1 i, (e .2 i, (e .3 i, (e .4 i, (e .5 i, (e .6 i, (e .7 i, (e .8 i, tt)))))))))))))
 
 pub winterhasp-component-within : {M : Type 1} → Settles M host.components.winterhasp_component_within.ended host.components.winterhasp_component_within.clauses
 winterhasp-component-within m κs a g = nine m λ x y e i. (e .0 i, (tt, (tt, (tt, (tt, (tt, (tt, (e .1 i, (e .2 i, (e .3 i, (e .4 i, (e .5 i, (e .6 i, (e .7 i, (e .8 i, tt)))))))))))))))

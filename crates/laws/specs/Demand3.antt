@@ -19,6 +19,7 @@ use Rattle.parts.specs.Tiles.{Adjoining, ofTile, bytesAt, joined, AllLong}
 use Rattle.parts.specs.declared.scan.Scanned.the-variants.{Table}
 use Rattle.tile.specs.Rewrite.{tileSize, rewritten}
 use Rattle.tile.specs.Assembly.{partsIn, assembled, assemblyAnswer, assemblyOut}
+use Rattle.tile.specs.declared.rules.Rule.{Rule}
 use Rattle.tile.specs.declared.rewrite.Written.the-variants.{Bytes}
 use Rattle.header.specs.Parse as parse
 use Rattle.parts.specs.Scan as scan
@@ -63,19 +64,19 @@ lsiz s = be 2 s 4
 abbrev pub decodeHeaderOf : List ℕ → List ℕ
 decodeHeaderOf s = decodeHeader s (walkFrom s 2 .visits)
 
--- what the assembly makes of the decode header and entries
-abbrev pub assembledOf : List ℕ → List TilePartEntry → List ℕ
-assembledOf s es = assembled (decodeHeaderOf s) (partsIn s es)
+-- what the assembly by a rule makes of the decode header and entries
+abbrev pub assembledOf : Rule → List ℕ → List TilePartEntry → List ℕ
+assembledOf rule s es = assembled rule (decodeHeaderOf s) (partsIn s es)
 
 -- a tile with these entries, and an output lent to the assembly
-pub record Assembles (s : List ℕ) (tile : ℕ) (es : List TilePartEntry) (out : List ℕ) : Type 0 where
+pub record Assembles (rule : Rule) (s : List ℕ) (tile : ℕ) (es : List TilePartEntry) (out : List ℕ) : Type 0 where
   pub long : AllLong es
   pub some : es ≡ [] → ⊥
   pub sized : NoPsot0 s es
   pub siz : 38 ≤ lsiz s
-  pub accepts : (r : Refusal) → tileSize (decodeHeaderOf s) tile ≡ size.Refused r → ⊥
-  pub room : length (assembledOf s es) ≤ length out
-  pub short : length (assembledOf s es) ≤ 0xffff_ffff
+  pub accepts : (r : Refusal) → tileSize rule (decodeHeaderOf s) tile ≡ size.Refused r → ⊥
+  pub room : length (assembledOf rule s es) ≤ length out
+  pub short : length (assembledOf rule s es) ≤ 0xffff_ffff
 
 -- ---- ".. has its first SOT where its header ends, and its scan from there gives the same lengths in order, all under index 0."
 
@@ -94,14 +95,15 @@ pub record Standing (header : List ℕ) (es : List TilePartEntry) (codestream : 
   pub entries : entriesFrom codestream (length header) ≡ underZero (length header) es
 
 -- the table lent to the assembly holds the rows of the entries; its output then holds such a codestream
-pub record Reassembled (s : List ℕ) (tile : ℕ) (es : List TilePartEntry) (out : List ℕ) : Type 0 where
-  pub answer : assemblyAnswer (decodeHeaderOf s) (rowsOf es) s (length out) ≡ Bytes (length (assembledOf s es))
-  pub output : assemblyOut (decodeHeaderOf s) (rowsOf es) s out ≡ assembledOf s es ++ drop (length (assembledOf s es)) out
-  pub standing : Standing (rewritten (decodeHeaderOf s) tile) es (assembledOf s es)
+pub record Reassembled (rule : Rule) (s : List ℕ) (tile : ℕ) (es : List TilePartEntry) (out : List ℕ) : Type 0 where
+  pub answer : assemblyAnswer rule (decodeHeaderOf s) (rowsOf es) s (length out) ≡ Bytes (length (assembledOf rule s es))
+  pub output : assemblyOut rule (decodeHeaderOf s) (rowsOf es) s out ≡ assembledOf rule s es ++ drop (length (assembledOf rule s es)) out
+  pub standing : Standing (rewritten rule (decodeHeaderOf s) tile) es (assembledOf rule s es)
 
--- ---- all of it
+-- ---- all of it, by either rule
 
 pub record Demand3 (s : List ℕ) (p : ℕ) : Type 0 where
   pub adjoin : EntriesAdjoin s p
   pub split : (tile : ℕ) → AllLong (ofTile tile (entriesFrom s p)) → SplitAgain s (ofTile tile (entriesFrom s p))
-  pub assembly : (tile : ℕ) (out : List ℕ) → Assembles s tile (ofTile tile (entriesFrom s p)) out → Reassembled s tile (ofTile tile (entriesFrom s p)) out
+  pub assembly : (rule : Rule) (tile : ℕ) (out : List ℕ) → Assembles rule s tile (ofTile tile (entriesFrom s p)) out
+      → Reassembled rule s tile (ofTile tile (entriesFrom s p)) out

@@ -17,12 +17,17 @@ four n = bytesOf 4 n
 abbrev pub zeros : ℕ → List ℕ
 zeros n = replicate n 0
 
--- SIZ: Lsiz; image end and origin, tile size; the tile origin is 0; Csiz, and the components' bytes
-unfoldable pub sizOf : ℕ → ℕ → ℕ → ℕ → ℕ → ℕ → ℕ → ℕ → List ℕ → List ℕ
+-- SIZ: Lsiz; image end and origin, tile size and origin; Csiz, and the components' bytes
+unfoldable pub sizFrom : ℕ → ℕ → ℕ → ℕ → ℕ → ℕ → ℕ → ℕ → ℕ → ℕ → List ℕ → List ℕ
 unfolding two four
-sizOf lsiz x y xo yo xt yt csiz components =
-    two SIZ ++ two lsiz ++ two 0 ++ four x ++ four y ++ four xo ++ four yo ++ four xt ++ four yt ++ four 0 ++ four 0
+sizFrom lsiz x y xo yo xt yt xto yto csiz components =
+    two SIZ ++ two lsiz ++ two 0 ++ four x ++ four y ++ four xo ++ four yo ++ four xt ++ four yt ++ four xto ++ four yto
     ++ two csiz ++ components
+
+-- with the tile origin 0
+unfoldable pub sizOf : ℕ → ℕ → ℕ → ℕ → ℕ → ℕ → ℕ → ℕ → List ℕ → List ℕ
+unfolding sizFrom
+sizOf lsiz x y xo yo xt yt csiz components = sizFrom lsiz x y xo yo xt yt 0 0 csiz components
 
 -- one 8-bit component
 unfoldable pub siz : ℕ → ℕ → ℕ → ℕ → ℕ → ℕ → List ℕ
@@ -33,6 +38,11 @@ siz x y xo yo xt yt = sizOf 41 x y xo yo xt yt 1 (7 ∷ 1 ∷ 1 ∷ [])
 unfoldable pub header : ℕ → ℕ → ℕ → ℕ → ℕ → ℕ → List ℕ
 unfolding two siz
 header x y xo yo xt yt = two SOC ++ siz x y xo yo xt yt
+
+-- and with any tile origin
+unfoldable pub grid : ℕ → ℕ → ℕ → ℕ → ℕ → ℕ → ℕ → ℕ → List ℕ
+unfolding two sizFrom
+grid x y xo yo xt yt xto yto = two SOC ++ sizFrom 41 x y xo yo xt yt xto yto 1 (7 ∷ 1 ∷ 1 ∷ [])
 
 -- 10 by 6 in tiles of 4 by 4, from an origin on, with any Lsiz, Csiz and components' bytes
 unfoldable pub counting : ℕ → ℕ → ℕ → ℕ → List ℕ → List ℕ

@@ -1,7 +1,7 @@
 -- Laws of big-endian bytes, each over the width: what a number's bytes are in two halves, what is read of what was written, what is read
 -- inside a part, and bounds. Callers cite these and do not look into the definitions.
 use Prim.Native.Nat.{ℕ, zero, suc, _+_, _-_, _*_, _/_, _%_, _^_, _≤_, _<_}
-use native.Mathlib.Nat.{add-zero, zero-add, add-suc, add-assoc, mul-assoc, add-mul, div-one, mod-one, div-div-eq-div-mul, pow-suc, pow-succ', one-le-pow, mod-lt, mod-eq-of-lt, div-add-mod', div-lt-iff-lt-mul, one-mul, suc-mul, le-of-suc-le-suc}
+use native.Mathlib.Nat.{add-zero, zero-add, add-suc, add-assoc, mul-assoc, add-mul, div-one, mod-one, div-div-eq-div-mul, pow-suc, pow-succ', one-le-pow, mod-lt, mod-eq-of-lt, div-add-mod', div-lt-iff-lt-mul, one-mul, suc-mul, mul-le-mul, le-of-suc-le-suc}
 use native.Mathlib.Numerals.{add-one}
 use native.Mathlib.Omega.{arith}
 use mathlib.Core.Path.{_≡_, refl, sym, ap, ap₂, _∙_}
@@ -226,3 +226,9 @@ ceil-mono a b {d} h l = ceil-least a (ceilDiv b d) h (omega (arith, ceil-covers 
 pub ceil-one : (n : ℕ) → ceilDiv n 1 ≡ n
 unfolding ceilDiv
 ceil-one n = rw (add-zero, div-one)
+
+-- ---- a product
+
+-- two numbers of 32 bits have a product of 64
+pub product-fits : (a b : ℕ) → a < 2 ^ 32 → b < 2 ^ 32 → a * b ≤ 0xffffffff * 0xffffffff
+product-fits a b h k = mul-le-mul {n₁ = a} {m₁ = b} {n₂ = 0xffffffff} {m₂ = 0xffffffff} (omega arith) (omega arith)

@@ -1,7 +1,7 @@
 // Numbers and the big-endian bytes that hold them: reads and writes of 2, 4 and 8 bytes, a copy, ceiling division,
-// clamped subtraction, the lesser of two.
+// clamped subtraction, the lesser and the greater of two.
 ghost use mathlib.Core.Path.{_≡_};
-ghost use Prim.Native.Nat.{_+_, _-_, _≤_, _<_, min};
+ghost use Prim.Native.Nat.{_+_, _-_, _≤_, _<_, min, max};
 ghost use lib.ListN.{length};
 ghost use Rattle.numbers.specs.Bytes.{be, bytesOf, put};
 ghost use Rattle.numbers.specs.Ceiling.{ceilDiv};
@@ -80,4 +80,10 @@ pub fn minimum(a: u64, b: u64) -> u64
     ensures { λ r. ⌜ r ≡ min a b ⌝ }
 {
     if a <= b { a } else { b }
+}
+
+pub fn maximum(a: u64, b: u64) -> u64
+    ensures { λ r. ⌜ r ≡ max a b ⌝ }
+{
+    if a <= b { b } else { a }
 }

@@ -14,11 +14,11 @@ use Rattle.types.specs.Area.{Inside}
 use Rattle.types.specs.declared.Area.{Area}
 use Rattle.types.specs.declared.Refusal.{Refusal}
 use Rattle.tile.specs.Siz.{marker}
-use Rattle.tile.specs.Original.{tileArea}
-use Rattle.tile.specs.Rules.{imageArea}
-use Rattle.tile.specs.declared.original.TileArea.{TileArea}
-use Rattle.tile.specs.declared.original.TileArea.the-variants.{Tile, Outside}
-use Rattle.tile.proofs.OriginalLaws.{tile-within}
+use Rattle.tile.specs.Rules.{imageArea, placedBy}
+use Rattle.tile.specs.declared.rules.Rule.{Rule}
+use Rattle.tile.specs.declared.rules.Placed.{Placed}
+use Rattle.tile.specs.declared.rules.Placed.the-variants.{Tile, Refused}
+use Rattle.tile.proofs.RulesLaws.{tile-within}
 use Rattle.reader.specs.Components.{apart, componentsRead, atTile, componentsInTile, divided, componentAt, isThere, componentIn, chosen, componentOf, componentInTile}
 use Rattle.reader.specs.declared.components.Components.{Components}
 use Rattle.reader.specs.declared.components.ComponentsRead.{ComponentsRead}
@@ -62,21 +62,21 @@ pub record InImage (s : List ℕ) (t : Components) : Type 0 where
   pub count : t .count ≡ image .count
   pub inside : Inside (t .area) (image .area)
 
-in-image : (s : List ℕ) (tile : ℕ) (t : Components) (r : ComponentsRead) (a : TileArea) → componentsRead s ≡ r → tileArea s tile ≡ a
-    → atTile r a ≡ read.Components t → InImage s t
+in-image : (rule : Rule) (s : List ℕ) (tile : ℕ) (t : Components) (r : ComponentsRead) (p : Placed) → componentsRead s ≡ r → placedBy rule s tile ≡ p
+    → atTile r p ≡ read.Components t → InImage s t
 unfolding atTile
-in-image s tile t (read.Components i) (Tile a) e f g =
+in-image rule s tile t (read.Components i) (Tile a) e f g =
     let n : i .count ≡ t .count = cc in
     let p : a ≡ t .area = cc in
     let q : imageArea s ≡ i .area = sym (accepted s i e .area) in
-    record { image = i; read = e; count = sym n; inside = rw (← p, ← q) (tile-within s tile a f) }
-in-image s tile t (read.Components i) Outside e f g = absurd (refused-accepts g)
-in-image s tile t (read.Refused r) a e f g = absurd (refused-accepts g)
+    record { image = i; read = e; count = sym n; inside = rw (← p, ← q) (tile-within rule s tile a f) }
+in-image rule s tile t (read.Components i) (Refused r) e f g = absurd (refused-accepts g)
+in-image rule s tile t (read.Refused r) p e f g = absurd (refused-accepts g)
 
 -- Where a tile is accepted the image is, with the same count, and the tile's area lies in the image's.
-pub tile-inside : (s : List ℕ) (tile : ℕ) (t : Components) → componentsInTile s tile ≡ read.Components t → InImage s t
+pub tile-inside : (rule : Rule) (s : List ℕ) (tile : ℕ) (t : Components) → componentsInTile rule s tile ≡ read.Components t → InImage s t
 unfolding componentsInTile
-tile-inside s tile t = in-image s tile t (componentsRead s) (tileArea s tile) refl refl
+tile-inside rule s tile t = in-image rule s tile t (componentsRead s) (placedBy rule s tile) refl refl
 
 -- ---- a component
 
@@ -88,7 +88,7 @@ pub record Found (s : List ℕ) (a : Area) (k : ℕ) (c : ComponentInfo) : Type 
 nothing-found : {c : ComponentInfo} → _≡_ {A = ComponentRead} one.NoSuch (one.Component c) → ⊥
 nothing-found e = let z : _≡_ {A = ℕ} 0 1 = cc in omega arith
 
-refused-found : {r : Refusal} {c : ComponentInfo} → _≡_ {A = ComponentRead} (one.Refused r) (one.Component c) → ⊥
+pub refused-found : {r : Refusal} {c : ComponentInfo} → _≡_ {A = ComponentRead} (one.Refused r) (one.Component c) → ⊥
 refused-found e = let z : _≡_ {A = ℕ} 0 1 = cc in omega arith
 
 pub found : (s : List ℕ) (a : Area) (k : ℕ) (c : ComponentInfo) → componentIn s a k ≡ one.Component c → Found s a k c
@@ -103,7 +103,7 @@ unfolding componentIn
 there-in s a k t = rw t
 
 -- a component that is there can be divided by
-there-apart : (s : List ℕ) (k : ℕ) → isThere s k ≡ true → (0 < getD s (component marker k + 1) 0) × (0 < getD s (component marker k + 2) 0)
+pub there-apart : (s : List ℕ) (k : ℕ) → isThere s k ≡ true → (0 < getD s (component marker k + 1) 0) × (0 < getD s (component marker k + 2) 0)
 unfolding isThere apart
 there-apart s k t =
     let b : leb 1 (getD s (component marker k + 1) 0) && leb 1 (getD s (component marker k + 2) 0) ≡ true =
@@ -121,10 +121,11 @@ pub record InWhole (s : List ℕ) (k : ℕ) (c : ComponentInfo) : Type 0 where
   pub yrsiz : c .yrsiz ≡ whole .yrsiz
   pub inside : Inside (c .area) (whole .area)
 
-in-whole : (s : List ℕ) (tile k : ℕ) (c : ComponentInfo) (r : ComponentsRead) → componentsInTile s tile ≡ r → chosen r s k ≡ one.Component c → InWhole s k c
+in-whole : (rule : Rule) (s : List ℕ) (tile k : ℕ) (c : ComponentInfo) (r : ComponentsRead) → componentsInTile rule s tile ≡ r → chosen r s k ≡ one.Component c
+    → InWhole s k c
 unfolding chosen componentOf componentAt
-in-whole s tile k c (read.Components t) e g =
-    let i : InImage s t = tile-inside s tile t e in
+in-whole rule s tile k c (read.Components t) e g =
+    let i : InImage s t = tile-inside rule s tile t e in
     let f : Found s (t .area) k c = found s (t .area) k c g in
     let step = there-apart s k (f .there) in
     let p : c ≡ componentAt s (t .area) (component marker k) = f .info in
@@ -137,9 +138,9 @@ in-whole s tile k c (read.Components t) e g =
       yrsiz = ap (λ (c : ComponentInfo). c .yrsiz) p;
       inside = rw p (divided-inside (step .0) (step .1) (i .inside));
     }
-in-whole s tile k c (read.Refused r) e g = absurd (refused-found g)
+in-whole rule s tile k c (read.Refused r) e g = absurd (refused-found g)
 
 -- Where a tile has a component the image has it, with the same depth, sign and steps, and the tile's part lies in the image's.
-pub component-inside : (s : List ℕ) (tile k : ℕ) (c : ComponentInfo) → componentInTile s tile k ≡ one.Component c → InWhole s k c
+pub component-inside : (rule : Rule) (s : List ℕ) (tile k : ℕ) (c : ComponentInfo) → componentInTile rule s tile k ≡ one.Component c → InWhole s k c
 unfolding componentInTile
-component-inside s tile k c = in-whole s tile k c (componentsInTile s tile) refl
+component-inside rule s tile k c = in-whole rule s tile k c (componentsInTile rule s tile) refl

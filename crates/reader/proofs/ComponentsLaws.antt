@@ -25,9 +25,9 @@ use Rattle.header.proofs.ParseLaws.{stands-inside}
 use Rattle.header.proofs.StepLaws.{step-no-length, step-no-end, step-segment}
 use Rattle.header.proofs.step.HeaderStep.{the-type}
 use Rattle.tile.specs.Siz.{marker}
-use Rattle.tile.specs.Original.{tileArea}
-use Rattle.tile.specs.Rules.{imageArea}
-use Rattle.tile.specs.declared.original.TileArea.the-variants.{Tile, Outside}
+use Rattle.tile.specs.Rules.{imageArea, placedBy}
+use Rattle.tile.specs.declared.rules.Rule.{Rule}
+use Rattle.tile.specs.declared.rules.Placed.the-variants.{Tile, Refused}
 use Rattle.reader.specs.Components.{sizWhole, countHeld, apart, allApart, ordered, componentsRead, atTile, componentsInTile, componentAt, isThere, componentIn}
 use Rattle.reader.specs.declared.components.Components.{Components}
 use Rattle.reader.specs.declared.components.ComponentsRead.{ComponentsRead}
@@ -213,17 +213,17 @@ accepted s c =
 
 -- ---- in a tile
 
-module _ (s : List ℕ) (tile : ℕ) where
-  pub tile-refused : (r : Refusal) → componentsRead s ≡ read.Refused r → componentsInTile s tile ≡ read.Refused r
+module _ (rule : Rule) (s : List ℕ) (tile : ℕ) where
+  pub tile-refused : (r : Refusal) → componentsRead s ≡ read.Refused r → componentsInTile rule s tile ≡ read.Refused r
   unfolding componentsInTile atTile
-  tile-refused r e = ap (λ (x : ComponentsRead). atTile x (tileArea s tile)) e
+  tile-refused r e = ap (λ (x : ComponentsRead). atTile x (placedBy rule s tile)) e
 
   module _ (c : Components) (e : componentsRead s ≡ read.Components c) where
-    pub tile-outside : tileArea s tile ≡ Outside → componentsInTile s tile ≡ read.Refused (refusal 10 marker)
+    pub tile-untold : (r : Refusal) → placedBy rule s tile ≡ Refused r → componentsInTile rule s tile ≡ read.Refused r
     unfolding componentsInTile atTile
-    tile-outside f = ap₂ atTile e f
+    tile-untold r f = ap₂ atTile e f
 
-    pub tile-found : (a : Area) → tileArea s tile ≡ Tile a → componentsInTile s tile ≡ read.Components (record { count = c .count; area = a })
+    pub tile-found : (a : Area) → placedBy rule s tile ≡ Tile a → componentsInTile rule s tile ≡ read.Components (record { count = c .count; area = a })
     unfolding componentsInTile atTile
     tile-found a f = ap₂ atTile e f
 

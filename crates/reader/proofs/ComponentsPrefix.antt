@@ -17,8 +17,11 @@ use Rattle.types.specs.declared.Area.{Area}
 use Rattle.header.specs.Step.{segmentEnd}
 use Rattle.header.specs.Parse.{stands}
 use Rattle.tile.specs.Siz.{marker}
+use Rattle.tile.specs.AnnexB.{sideAt, gridTile}
 use Rattle.tile.specs.Original.{inGrid, tileArea}
-use Rattle.tile.specs.Rules.{imageArea}
+use Rattle.tile.specs.Rules.{imageArea, placedBy}
+use Rattle.tile.specs.declared.rules.Rule.{Rule}
+use Rattle.tile.specs.declared.rules.Rule.the-variants.{AnnexB, Original}
 use Rattle.reader.specs.Components.{sizWhole, countHeld, apart, allApart, ordered, componentsRead, atTile, componentsInTile, componentAt, isThere, componentIn, chosen, componentOf, componentInTile}
 use Rattle.reader.specs.declared.components.Components.{Components}
 use Rattle.reader.specs.declared.components.ComponentsRead.{ComponentsRead}
@@ -49,9 +52,11 @@ image-front : (p t : List ℕ) → 24 ≤ length p → imageArea (p ++ t) ≡ im
 unfolding imageArea
 image-front p t h = rw (be-front 4 p t 16 (omega arith), be-front 4 p t 20 (omega arith), be-front 4 p t 8 (omega arith), be-front 4 p t 12 (omega arith))
 
-tile-front : (p t : List ℕ) (tile : ℕ) → 32 ≤ length p → tileArea (p ++ t) tile ≡ tileArea p tile
-unfolding tileArea inGrid
-tile-front p t tile h =
+tile-front : (rule : Rule) (p t : List ℕ) (tile : ℕ) → 40 ≤ length p → placedBy rule (p ++ t) tile ≡ placedBy rule p tile
+unfolding placedBy gridTile sideAt tileArea inGrid
+tile-front AnnexB p t tile h =
+    rw (be-front 4 p t 8 (omega arith), be-front 4 p t 12 (omega arith), be-front 4 p t 16 (omega arith), be-front 4 p t 20 (omega arith), be-front 4 p t 24 (omega arith), be-front 4 p t 28 (omega arith), be-front 4 p t 32 (omega arith), be-front 4 p t 36 (omega arith))
+tile-front Original p t tile h =
     rw (be-front 4 p t 8 (omega arith), be-front 4 p t 12 (omega arith), be-front 4 p t 16 (omega arith), be-front 4 p t 20 (omega arith), be-front 4 p t 24 (omega arith), be-front 4 p t 28 (omega arith))
 
 -- ---- the check
@@ -104,13 +109,13 @@ prefix-enough-within p t c e a k =
 -- ---- a tile, and a component
 
 module _ (p t : List ℕ) where
-  tile-read : (tile : ℕ) (r : ComponentsRead) → componentsRead p ≡ r → atTile r (tileArea (p ++ t) tile) ≡ atTile r (tileArea p tile)
+  tile-read : (rule : Rule) (tile : ℕ) (r : ComponentsRead) → componentsRead p ≡ r → atTile r (placedBy rule (p ++ t) tile) ≡ atTile r (placedBy rule p tile)
   unfolding atTile
-  tile-read tile (read.Components c) e =
+  tile-read rule tile (read.Components c) e =
       let y : Accepted p c = accepted p c e in
       let inside = all-inside p (y .whole) (y .held) in
-      ap (atTile (read.Components c)) (tile-front p t tile (omega arith))
-  tile-read tile (read.Refused r) e = refl
+      ap (atTile (read.Components c)) (tile-front rule p t tile (omega arith))
+  tile-read rule tile (read.Refused r) e = refl
 
   chosen-front : (r : ComponentsRead) → ((c : Components) → r ≡ read.Components c → (i : Components) × (componentsRead p ≡ read.Components i)) → (k : ℕ)
       → chosen r (p ++ t) k ≡ chosen r p k
@@ -119,19 +124,20 @@ module _ (p t : List ℕ) where
   chosen-front (read.Refused r) f k = refl
 
   module _ (whole : sizWhole p ≡ true) where
-    pub prefix-enough-tile : (tile : ℕ) → componentsInTile (p ++ t) tile ≡ componentsInTile p tile
+    pub prefix-enough-tile : (rule : Rule) (tile : ℕ) → componentsInTile rule (p ++ t) tile ≡ componentsInTile rule p tile
     unfolding componentsInTile
-    prefix-enough-tile tile = ap (λ (r : ComponentsRead). atTile r (tileArea (p ++ t) tile)) (prefix-enough p t whole) ∙ tile-read tile (componentsRead p) refl
+    prefix-enough-tile rule tile =
+        ap (λ (r : ComponentsRead). atTile r (placedBy rule (p ++ t) tile)) (prefix-enough p t whole) ∙ tile-read rule tile (componentsRead p) refl
 
     pub prefix-enough-component : (k : ℕ) → componentOf (p ++ t) k ≡ componentOf p k
     unfolding componentOf
     prefix-enough-component k = ap (λ (r : ComponentsRead). chosen r (p ++ t) k) (prefix-enough p t whole) ∙ chosen-front (componentsRead p) (λ c e. (c, e)) k
 
-    pub prefix-enough-component-tile : (tile k : ℕ) → componentInTile (p ++ t) tile k ≡ componentInTile p tile k
+    pub prefix-enough-component-tile : (rule : Rule) (tile k : ℕ) → componentInTile rule (p ++ t) tile k ≡ componentInTile rule p tile k
     unfolding componentInTile
-    prefix-enough-component-tile tile k =
-        ap (λ (r : ComponentsRead). chosen r (p ++ t) k) (prefix-enough-tile tile)
-        ∙ chosen-front (componentsInTile p tile) (λ c e. let i : InImage p c = tile-inside p tile c e in (i .image, i .read)) k
+    prefix-enough-component-tile rule tile k =
+        ap (λ (r : ComponentsRead). chosen r (p ++ t) k) (prefix-enough-tile rule tile)
+        ∙ chosen-front (componentsInTile rule p tile) (λ c e. let i : InImage p c = tile-inside rule p tile c e in (i .image, i .read)) k
 
 -- ---- the premises are needed
 

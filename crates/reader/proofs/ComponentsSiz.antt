@@ -23,6 +23,7 @@ use Rattle.header.proofs.WalkLaws.{walk-cut, walk-refused}
 use Rattle.header.proofs.ParseLaws.{stands-inside, judged-no-soc, judged-no-siz, judged-walk, judged-read}
 use Rattle.tile.specs.Siz.{marker}
 use Rattle.tile.specs.Rules.{imageArea}
+use Rattle.tile.specs.declared.rules.Rule.{Rule}
 use Rattle.reader.specs.Siz.{infoAt, sizRead}
 use Rattle.reader.specs.Components.{sizWhole, countHeld, allApart, ordered, componentsRead, componentsInTile, componentAt, componentIn}
 use Rattle.reader.specs.declared.siz.SizRead.the-variants.{Siz}
@@ -50,12 +51,12 @@ module _ (s : List ℕ) (c : Components) (e : componentsRead s ≡ read.Componen
   unlisted a k h = none-counted s a k (omega (arith, accepted s c e .count))
 
 -- and so after a check of a tile
-module _ (s : List ℕ) (tile : ℕ) (t : Components) (e : componentsInTile s tile ≡ read.Components t) where
+module _ (rule : Rule) (s : List ℕ) (tile : ℕ) (t : Components) (e : componentsInTile rule s tile ≡ read.Components t) where
   pub listed-tile : (a : Area) (k : ℕ) → k < t .count → componentIn s a k ≡ one.Component (componentAt s a (component marker k))
-  listed-tile a k h = let i : InImage s t = tile-inside s tile t e in listed s (i .image) (i .read) a k (omega (arith, i .count))
+  listed-tile a k h = let i : InImage s t = tile-inside rule s tile t e in listed s (i .image) (i .read) a k (omega (arith, i .count))
 
   pub unlisted-tile : (a : Area) (k : ℕ) → t .count ≤ k → componentIn s a k ≡ one.NoSuch
-  unlisted-tile a k h = let i : InImage s t = tile-inside s tile t e in unlisted s (i .image) (i .read) a k (omega (arith, i .count))
+  unlisted-tile a k h = let i : InImage s t = tile-inside rule s tile t e in unlisted s (i .image) (i .read) a k (omega (arith, i .count))
 
 -- ---- beside the SIZ reading
 

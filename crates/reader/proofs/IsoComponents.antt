@@ -21,8 +21,11 @@ use Rattle.header.specs.Step.{segmentEnd}
 use Rattle.header.specs.Parse.{stands}
 use Rattle.header.proofs.ParseLaws.{stands-there}
 use Rattle.tile.specs.Siz.{marker}
-use Rattle.tile.specs.Rules.{imageArea}
-use Rattle.tile.specs.Iso.{numXtiles, numYtiles, columnOf, rowOf, areaOf, headerOf}
+use Rattle.tile.specs.Rules.{imageArea, placedBy}
+use Rattle.tile.specs.Iso.{numXtiles, numYtiles, areaOf, headerOf}
+use Rattle.tile.specs.declared.rules.Rule.{Rule}
+use Rattle.tile.specs.declared.rules.Rule.the-variants.{AnnexB}
+use Rattle.tile.specs.declared.rules.Placed.the-variants.{Tile}
 use Rattle.tile.proofs.Iso.{area-standard}
 use Rattle.reader.specs.Components.{sizWhole, countHeld, apart, allApart, ordered, componentsRead, atTile, componentsInTile, divided, componentAt, componentIn, chosen, componentOf, componentInTile}
 use Rattle.reader.specs.Iso.{ComponentRanges, EachRanges, AllRanges, imageOf, infoOf}
@@ -185,12 +188,11 @@ module _ (z : Size) (rest : List ℕ) (g : AllRanges z) where
   components-standard =
       rw (soc-stands z rest, siz-stands z rest, siz-whole z rest fits, count-standard z rest fits, le-leb (Csiz z) 16384 (g .image .Csiz), csiz-standard z rest fits, all-apart (Csiz z) (omega arith), ap ordered image-standard, forward, image-standard)
 
-  -- the same in a tile of the grid, under the premises of tile, proofs/Iso.antt
-  module _ (tile : ℕ) (t : TileRanges z) (x : z .XTOsiz ≡ z .XOsiz) (y : z .YTOsiz ≡ z .YOsiz) (inside : tile < numXtiles z * numYtiles z)
-      (fitsX : z .XTOsiz + (columnOf z tile + 1) * z .XTsiz < 2 ^ 32) (fitsY : z .YTOsiz + (rowOf z tile + 1) * z .YTsiz < 2 ^ 32) where
-    pub components-tile-standard : componentsInTile (headerOf z rest) tile ≡ read.Components (record { count = Csiz z; area = areaOf z tile })
-    unfolding componentsInTile atTile
-    components-tile-standard = ap₂ atTile components-standard (area-standard z rest tile (g .image) t x y inside fitsX fitsY)
+  -- the same in a tile, where a rule tells it at the standard's place: Annex B's for every tile of the grid, the original's as tile, proofs/Iso.antt, says
+  pub components-tile-standard : (rule : Rule) (tile : ℕ) → placedBy rule (headerOf z rest) tile ≡ Tile (areaOf z tile)
+      → componentsInTile rule (headerOf z rest) tile ≡ read.Components (record { count = Csiz z; area = areaOf z tile })
+  unfolding componentsInTile atTile
+  components-tile-standard rule tile told = ap₂ atTile components-standard told
 
   -- ---- the k-th component, where so many stand before it
 
@@ -206,12 +208,16 @@ module _ (z : Size) (rest : List ℕ) (g : AllRanges z) where
     component-standard = ap (λ (r : ComponentsRead). chosen r (headerOf z rest) (length front)) components-standard ∙ within-standard (imageOf z)
 
     -- And its part of a tile.
-    pub component-tile-standard : (tile : ℕ) → TileRanges z → z .XTOsiz ≡ z .XOsiz → z .YTOsiz ≡ z .YOsiz → tile < numXtiles z * numYtiles z
-        → z .XTOsiz + (columnOf z tile + 1) * z .XTsiz < 2 ^ 32 → z .YTOsiz + (rowOf z tile + 1) * z .YTsiz < 2 ^ 32
-        → componentInTile (headerOf z rest) tile (length front) ≡ one.Component (infoOf c (areaOf z tile))
+    pub component-tile-standard : (rule : Rule) (tile : ℕ) → placedBy rule (headerOf z rest) tile ≡ Tile (areaOf z tile)
+        → componentInTile rule (headerOf z rest) tile (length front) ≡ one.Component (infoOf c (areaOf z tile))
     unfolding componentInTile chosen
-    component-tile-standard tile t x y inside fitsX fitsY =
-        ap (λ (r : ComponentsRead). chosen r (headerOf z rest) (length front)) (components-tile-standard tile t x y inside fitsX fitsY) ∙ within-standard (areaOf z tile)
+    component-tile-standard rule tile told =
+        ap (λ (r : ComponentsRead). chosen r (headerOf z rest) (length front)) (components-tile-standard rule tile told) ∙ within-standard (areaOf z tile)
+
+    -- By Annex B so for every tile of the grid.
+    pub component-annex-standard : (tile : ℕ) → TileRanges z → tile < numXtiles z * numYtiles z
+        → componentInTile AnnexB (headerOf z rest) tile (length front) ≡ one.Component (infoOf c (areaOf z tile))
+    component-annex-standard tile t inside = component-tile-standard AnnexB tile (area-standard z rest tile (g .image) t inside)
 
 -- ---- the most components
 

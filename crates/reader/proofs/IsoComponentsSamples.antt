@@ -14,12 +14,13 @@ use Rattle.header.specs.Step.{segmentEnd}
 use Rattle.header.specs.Parse.{stands}
 use Rattle.tile.specs.Siz.{marker}
 use Rattle.tile.specs.Rules.{imageArea}
+use Rattle.tile.specs.declared.rules.Rule.the-variants.{AnnexB}
 use Rattle.tile.specs.Iso.{numXtiles, numYtiles, columnOf, rowOf, startOf, endOf, areaOf, headerOf}
 use Rattle.reader.specs.Components.{sizWhole, countHeld, apart, allApart, ordered, componentsRead, divided, componentAt, isThere, componentIn, chosen, componentOf, componentInTile}
 use Rattle.reader.specs.Iso.{EachRanges, AllRanges, imageOf, infoOf}
 use Rattle.reader.specs.declared.components.ComponentsRead.the-variants as read
 use Rattle.reader.specs.declared.components.ComponentRead.the-variants as one
-use Rattle.reader.proofs.IsoComponents.{component-standard, component-tile-standard, most-components, one-too-many}
+use Rattle.reader.proofs.IsoComponents.{component-standard, component-annex-standard, most-components, one-too-many}
 
 abbrev samples : ℕ → Bool → ℕ → ℕ → Component
 samples depth signed xr yr = record { depth = depth; signed = signed; XRsiz = xr; YRsiz = yr }
@@ -62,10 +63,10 @@ three-last rest = component-standard three rest three-ranges (samples 8 false 1 
 
 -- and 1 by 1 in the last tile
 pub three-last-tile : (rest : List ℕ)
-    → componentInTile (headerOf three rest) 5 2 ≡ one.Component (record { bits = 8; «is_signed» = true; xrsiz = 2; yrsiz = 2; area = record { x0 = 4; y0 = 2; x1 = 5; y1 = 3 } })
+    → componentInTile AnnexB (headerOf three rest) 5 2 ≡ one.Component (record { bits = 8; «is_signed» = true; xrsiz = 2; yrsiz = 2; area = record { x0 = 4; y0 = 2; x1 = 5; y1 = 3 } })
 unfolding infoOf ceilDiv numXtiles numYtiles columnOf rowOf startOf endOf areaOf
 three-last-tile rest =
-    component-tile-standard three rest three-ranges (samples 8 false 1 1 ∷ samples 8 false 2 2 ∷ []) _ [] refl 5 three-tiles refl refl (omega arith) (omega arith) (omega arith)
+    component-annex-standard three rest three-ranges (samples 8 false 1 1 ∷ samples 8 false 2 2 ∷ []) _ [] refl 5 three-tiles (omega arith)
 
 -- one component and n others
 abbrev crowd : ℕ → Size

@@ -5,6 +5,7 @@ pub mod GrowthLaws
 pub mod ComponentsLaws
 pub mod Iso
 pub mod ComponentsAreas
+pub mod ComponentsPartition
 pub mod ComponentsSiz
 pub mod ComponentsPrefix
 pub mod IsoComponents

@@ -12,10 +12,10 @@ use Rattle.types.specs.declared.Area.{Area}
 use Rattle.header.specs.Step.{segmentEnd}
 use Rattle.header.specs.Parse.{stands}
 use Rattle.tile.specs.Siz.{marker}
-use Rattle.tile.specs.Original.{tileArea}
-use Rattle.tile.specs.Rules.{imageArea}
-use Rattle.tile.specs.declared.original.TileArea.{TileArea}
-use Rattle.tile.specs.declared.original.TileArea.the-variants.{Tile, Outside}
+use Rattle.tile.specs.Rules.{imageArea, placedBy}
+use Rattle.tile.specs.declared.rules.Rule.{Rule}
+use Rattle.tile.specs.declared.rules.Placed.{Placed}
+use Rattle.tile.specs.declared.rules.Placed.the-variants.{Tile, Refused}
 use Rattle.reader.specs.declared.components.ComponentsRead.{ComponentsRead}
 use Rattle.reader.specs.declared.components.ComponentsRead.the-variants as read
 use Rattle.reader.specs.declared.components.ComponentInfo.{ComponentInfo}
@@ -68,15 +68,15 @@ componentsRead s =
     (read.Refused (refusal 2 marker)))
     (read.Refused (refusal 1 0))
 
--- the same, and where a tile lies: 10 comes last
-unfoldable pub atTile : ComponentsRead → TileArea → ComponentsRead
+-- the same, and where a tile lies: the rule's refusal comes last
+unfoldable pub atTile : ComponentsRead → Placed → ComponentsRead
 atTile (read.Components c) (Tile a) = read.Components (record { count = c .count; area = a })
-atTile (read.Components c) Outside = read.Refused (refusal 10 marker)
-atTile (read.Refused r) t = read.Refused r
+atTile (read.Components c) (Refused r) = read.Refused r
+atTile (read.Refused r) p = read.Refused r
 
-unfoldable pub componentsInTile : List ℕ → ℕ → ComponentsRead
+unfoldable pub componentsInTile : Rule → List ℕ → ℕ → ComponentsRead
 unfolding atTile
-componentsInTile s tile = atTile (componentsRead s) (tileArea s tile)
+componentsInTile rule s tile = atTile (componentsRead s) (placedBy rule s tile)
 
 -- ---- one component
 
@@ -114,6 +114,6 @@ unfoldable pub componentOf : List ℕ → ℕ → ComponentRead
 unfolding chosen
 componentOf s k = chosen (componentsRead s) s k
 
-unfoldable pub componentInTile : List ℕ → ℕ → ℕ → ComponentRead
+unfoldable pub componentInTile : Rule → List ℕ → ℕ → ℕ → ComponentRead
 unfolding chosen
-componentInTile s tile k = chosen (componentsInTile s tile) s k
+componentInTile rule s tile k = chosen (componentsInTile rule s tile) s k

@@ -9,8 +9,9 @@ ghost use Rattle.types.specs.Refusals.{refusal};
 ghost use Rattle.tile.specs.Siz.{marker};
 ghost use Rattle.reader.specs.Components.{sizWhole, countHeld, apart, allApart, componentsRead, componentsInTile, divided, componentAt, componentIn, chosen, componentOf, componentInTile};
 use header::step::HeaderStep;
+use tile::rules::Placed;
+use tile::rules::Rule;
 use tile::siz::MARKER;
-use tile::original::TileArea;
 use types::Area;
 use types::Refusal;
 use types::markers::SIZ;
@@ -117,16 +118,16 @@ pub fn read_components(codestream: &[u8]) -> ComponentsRead
     ComponentsRead::Components(Components { count, area })
 }
 
-pub fn read_components_in_tile(codestream: &[u8], tile: u16) -> ComponentsRead
-    ensures { λ r. ⌜ r ≡ componentsInTile (now (codestream .entry)) tile ⌝ }
+pub fn read_components_in_tile(codestream: &[u8], tile: u16, rule: Rule) -> ComponentsRead
+    ensures { λ r. ⌜ r ≡ componentsInTile rule (now (codestream .entry)) tile ⌝ }
 {
     let read = read_components(codestream);
     let ComponentsRead::Components(components) = read else {
         return read;
     };
-    let found = tile::original::tile_area(codestream, tile);
-    let TileArea::Tile(area) = found else {
-        return refuse(10, MARKER as u64);
+    let area = match tile::rules::place(codestream, tile, rule) {
+        Placed::Tile(area) => area,
+        Placed::Refused(refusal) => return ComponentsRead::Refused(refusal),
     };
     ComponentsRead::Components(Components {
         count: components.count,
@@ -210,11 +211,11 @@ pub fn component(codestream: &[u8], number: u64) -> ComponentRead
     choose(read_components(codestream), codestream, number)
 }
 
-pub fn component_in_tile(codestream: &[u8], tile: u16, number: u64) -> ComponentRead
-    ensures { λ r. ⌜ r ≡ componentInTile (now (codestream .entry)) tile number ⌝ }
+pub fn component_in_tile(codestream: &[u8], tile: u16, rule: Rule, number: u64) -> ComponentRead
+    ensures { λ r. ⌜ r ≡ componentInTile rule (now (codestream .entry)) tile number ⌝ }
 {
     choose(
-        read_components_in_tile(codestream, tile),
+        read_components_in_tile(codestream, tile, rule),
         codestream,
         number,
     )

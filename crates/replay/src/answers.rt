@@ -7,6 +7,7 @@ use reader::components;
 use reader::search::Found;
 use reader::siz::SampleType;
 use reader::siz::SizRead;
+use tile::rules::Rule;
 use types::Area;
 use types::CodestreamOffset;
 use types::ROW;
@@ -76,20 +77,28 @@ pub(crate) fn split(tile: &[u8]) {
     }
 }
 
+// The rule that the answers of a kind go by, in its line.
+fn name(rule: Rule) {
+    if let Rule::AnnexB = rule {
+        print::text(b"-b");
+    }
+}
+
 // The payload is the index, 2 bytes, and the header.
-pub(crate) fn rewrite(payload: &[u8]) {
+pub(crate) fn rewrite(payload: &[u8], rule: Rule) {
     if payload.len() < 2 {
         return print::text(b"unknown kind");
     }
     let isot = numbers::read_u16(payload, 0);
     let mut out = io::large_buffer();
-    let answer = tile::rewrite::rewrite_siz_for_tile(&payload[2..], isot, &mut out);
+    let answer = tile::rewrite::rewrite_siz_for_tile(&payload[2..], isot, rule, &mut out);
     print::text(b"rewrite");
+    name(rule);
     print::written(answer, &out);
 }
 
 // The payload is the header's length, 4 bytes, the header, the number of rows, 2 bytes, the rows, and the codestream.
-pub(crate) fn assembly(payload: &[u8]) {
+pub(crate) fn assembly(payload: &[u8], rule: Rule) {
     if payload.len() < 4 {
         return print::text(b"unknown kind");
     }
@@ -102,13 +111,19 @@ pub(crate) fn assembly(payload: &[u8]) {
     if payload.len() < to {
         return print::text(b"unknown kind");
     }
-    assemble(&payload[4..header_end], &payload[from..to], &payload[to..]);
+    assemble(
+        &payload[4..header_end],
+        &payload[from..to],
+        &payload[to..],
+        rule,
+    );
 }
 
-fn assemble(header: &[u8], rows: &[u8], codestream: &[u8]) {
+fn assemble(header: &[u8], rows: &[u8], codestream: &[u8], rule: Rule) {
     let mut out = io::large_buffer();
-    let answer = tile::assembly::build_minimal_codestream(header, rows, codestream, &mut out);
+    let answer = tile::assembly::build_minimal_codestream(header, rows, codestream, rule, &mut out);
     print::text(b"assembly");
+    name(rule);
     print::written(answer, &out);
 }
 
@@ -175,11 +190,11 @@ pub(crate) fn component_sizes(payload: &[u8]) {
 fn sizes_of(codestream: &[u8], tile: u16, number: u64) {
     print::components(components::read_components(codestream));
     print::text(b",");
-    print::components(components::read_components_in_tile(codestream, tile));
+    print::components(components::read_components_in_tile(codestream, tile, Rule::AnnexB));
     print::text(b",");
     print::component(components::component(codestream, number));
     print::text(b",");
-    print::component(components::component_in_tile(codestream, tile, number));
+    print::component(components::component_in_tile(codestream, tile, Rule::AnnexB, number));
     print::text(b",");
     let area = Area {
         x0: 1,

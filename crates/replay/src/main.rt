@@ -1,8 +1,10 @@
 // Answers the stored list of cases in `cases`, a line for each; what it must write is what the original answered, and for
-// component sizes, of which that has no function, the model (rust/beside, program `cases`). A case is its kind, a byte; the
+// component sizes and tiles by Annex B, of which that has no function, the model (rust/beside, program `cases`). A case is its kind, a byte; the
 // length of its payload, 4 bytes; the payload.
 mod answers;
 mod print;
+
+use tile::rules::Rule;
 
 fn main() {
     let path = b"cases";
@@ -46,14 +48,16 @@ fn answer(kind: u8, payload: &[u8]) {
         2 => answers::header(payload),
         3 => answers::scan(payload),
         4 => answers::split(payload),
-        5 => answers::rewrite(payload),
-        6 => answers::assembly(payload),
+        5 => answers::rewrite(payload, Rule::Original),
+        6 => answers::assembly(payload, Rule::Original),
         7 => answers::search(payload),
         8 => answers::siz(payload),
         9 => answers::growth(payload),
         10 => answers::header_records(payload),
         11 => answers::scan_records(payload),
         12 => answers::component_sizes(payload),
+        13 => answers::rewrite(payload, Rule::AnnexB),
+        14 => answers::assembly(payload, Rule::AnnexB),
         _ => print::text(b"unknown kind"),
     }
     print::text(b"\n");

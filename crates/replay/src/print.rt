@@ -41,7 +41,7 @@ pub(crate) fn scan(answer: Scanned) -> u64 {
 pub(crate) fn written(answer: Written, out: &[u8]) {
     match answer {
         Written::Bytes(count) => hex(out, count),
-        Written::Refused(_) => text(b" refused"),
+        Written::Refused(why) => refused(why),
     }
 }
 

@@ -14,6 +14,7 @@ use Rattle.types.specs.Markers.{SOT, EOC}
 use Rattle.tile.specs.Rewrite.{tileSize, cutTo, Room, rewritten, withRoom, judged}
 use Rattle.types.specs.Row.{entryAt}
 use Rattle.tile.specs.Assembly.{rangeOf, isSot, patched, partSize, sizeFor, joined, assembled}
+use Rattle.tile.specs.declared.rules.Rule.{Rule}
 use Rattle.tile.specs.declared.rewrite.TileSize.{TileSize}
 use Rattle.tile.specs.declared.assembly.Range.the-variants.{Kept}
 use Rattle.numbers.proofs.Choice.{by-test}
@@ -40,14 +41,14 @@ module _ (part : List ℕ) where
   unfolding patched
   patched-other e = ap (λ (b : Bool). cond b (put part 4 (bytesOf 2 0)) part) e
 
-  module _ (h : List ℕ) where
-    pub part-sot : isSot part ≡ true → partSize h part ≡ tileSize h (be 2 part 4)
+  module _ (rule : Rule) (h : List ℕ) where
+    pub part-sot : isSot part ≡ true → partSize rule h part ≡ tileSize rule h (be 2 part 4)
     unfolding partSize
-    part-sot e = ap (λ (b : Bool). cond b (tileSize h (be 2 part 4)) size.Whole) e
+    part-sot e = ap (λ (b : Bool). cond b (tileSize rule h (be 2 part 4)) size.Whole) e
 
-    pub part-other : isSot part ≡ false → partSize h part ≡ size.Whole
+    pub part-other : isSot part ≡ false → partSize rule h part ≡ size.Whole
     unfolding partSize
-    part-other e = ap (λ (b : Bool). cond b (tileSize h (be 2 part 4)) size.Whole) e
+    part-other e = ap (λ (b : Bool). cond b (tileSize rule h (be 2 part 4)) size.Whole) e
 
   of-patched : (P : List ℕ → Type 0) → P part → (6 ≤ length part → P (put part 4 (bytesOf 2 0))) → P (patched part)
   unfolding patched
@@ -91,43 +92,44 @@ length-kept s table at from to room found =
 
 -- ---- the whole
 
-pub for-room : (h : List ℕ) (parts : List (List ℕ)) → Room (sizeFor h parts) (length h)
+pub for-room : (rule : Rule) (h : List ℕ) (parts : List (List ℕ)) → Room (sizeFor rule h parts) (length h)
 unfolding sizeFor partSize Room
-for-room h [] = tt
-for-room h (part ∷ rest) = by-test (λ (s : TileSize). Room s (length h)) (isSot part) (λ _. size-room h (be 2 part 4)) (λ _. tt)
+for-room rule h [] = tt
+for-room rule h (part ∷ rest) = by-test (λ (s : TileSize). Room s (length h)) (isSot part) (λ _. size-room rule h (be 2 part 4)) (λ _. tt)
 
 -- the first part chooses
-pub for-first : (h : List ℕ) {parts rest : List (List ℕ)} {part : List ℕ} → parts ≡ part ∷ rest → sizeFor h parts ≡ partSize h part
+pub for-first : (rule : Rule) (h : List ℕ) {parts rest : List (List ℕ)} {part : List ℕ} → parts ≡ part ∷ rest → sizeFor rule h parts ≡ partSize rule h part
 unfolding sizeFor
-for-first h e = ap (sizeFor h) e
+for-first rule h e = ap (sizeFor rule h) e
 
-pub for-none : (h : List ℕ) {parts : List (List ℕ)} → parts ≡ [] → sizeFor h parts ≡ size.Whole
+pub for-none : (rule : Rule) (h : List ℕ) {parts : List (List ℕ)} → parts ≡ [] → sizeFor rule h parts ≡ size.Whole
 unfolding sizeFor
-for-none h e = ap (sizeFor h) e
+for-none rule h e = ap (sizeFor rule h) e
 
-pub assembled-is : (h : List ℕ) (parts : List (List ℕ)) → assembled h parts ≡ cutTo (sizeFor h parts) h ++ (joined parts ++ bytesOf 2 EOC)
+pub assembled-is : (rule : Rule) (h : List ℕ) (parts : List (List ℕ)) → assembled rule h parts ≡ cutTo (sizeFor rule h parts) h ++ (joined parts ++ bytesOf 2 EOC)
 unfolding assembled
-assembled-is h parts = refl
+assembled-is rule h parts = refl
 
 -- header, parts and EOC: the header as it is with no part, or with a first part that has no Isot; else rewritten for its tile
-pub assembled-none : (h : List ℕ) → assembled h [] ≡ h ++ bytesOf 2 EOC
+pub assembled-none : (rule : Rule) (h : List ℕ) → assembled rule h [] ≡ h ++ bytesOf 2 EOC
 unfolding assembled joined sizeFor cutTo
-assembled-none h = refl
+assembled-none rule h = refl
 
-module _ (h part : List ℕ) (rest : List (List ℕ)) where
-  pub assembled-tile : isSot part ≡ true → assembled h (part ∷ rest) ≡ rewritten h (be 2 part 4) ++ (joined (part ∷ rest) ++ bytesOf 2 EOC)
+module _ (rule : Rule) (h part : List ℕ) (rest : List (List ℕ)) where
+  pub assembled-tile : isSot part ≡ true → assembled rule h (part ∷ rest) ≡ rewritten rule h (be 2 part 4) ++ (joined (part ∷ rest) ++ bytesOf 2 EOC)
   unfolding assembled sizeFor rewritten
-  assembled-tile e = ap (λ (s : TileSize). cutTo s h ++ (joined (part ∷ rest) ++ bytesOf 2 EOC)) (part-sot part h e)
+  assembled-tile e = ap (λ (s : TileSize). cutTo s h ++ (joined (part ∷ rest) ++ bytesOf 2 EOC)) (part-sot part rule h e)
 
-  pub assembled-other : isSot part ≡ false → assembled h (part ∷ rest) ≡ h ++ (joined (part ∷ rest) ++ bytesOf 2 EOC)
+  pub assembled-other : isSot part ≡ false → assembled rule h (part ∷ rest) ≡ h ++ (joined (part ∷ rest) ++ bytesOf 2 EOC)
   unfolding assembled sizeFor cutTo
-  assembled-other e = ap (λ (s : TileSize). cutTo s h ++ (joined (part ∷ rest) ++ bytesOf 2 EOC)) (part-other part h e)
+  assembled-other e = ap (λ (s : TileSize). cutTo s h ++ (joined (part ∷ rest) ++ bytesOf 2 EOC)) (part-other part rule h e)
 
-pub length-assembled : (h : List ℕ) (parts : List (List ℕ)) → length (assembled h parts) ≡ length h + 2 + length (joined parts)
+-- The size needed, whatever the rule.
+pub length-assembled : (rule : Rule) (h : List ℕ) (parts : List (List ℕ)) → length (assembled rule h parts) ≡ length h + 2 + length (joined parts)
 unfolding assembled
-length-assembled h parts =
+length-assembled rule h parts =
     simp length-append
-    (omega (arith, length-cut (sizeFor h parts) h (for-room h parts), length-bytes 2 EOC))
+    (omega (arith, length-cut (sizeFor rule h parts) h (for-room rule h parts), length-bytes 2 EOC))
 
 -- ---- a size that a u64 does not hold
 

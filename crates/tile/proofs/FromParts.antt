@@ -8,6 +8,7 @@ use lib.Seq.{take-append-seam, drop-append-seam}
 use Rattle.types.specs.Row.{rowsOf}
 use Rattle.types.proofs.RowLaws.{Fits}
 use Rattle.tile.specs.Rewrite.{over}
+use Rattle.tile.specs.declared.rules.Rule.{Rule}
 use Rattle.tile.specs.Assembly.{ranges, andPart, partsIn, assembled, answerFor, assemblyAnswer, assemblyOut}
 use Rattle.tile.specs.FromParts.{lying, laid}
 use Rattle.tile.specs.declared.assembly.Range.{Range}
@@ -45,12 +46,13 @@ module _ (parts : List (List ℕ)) (fits : length (flatten parts) < 2 ^ 64) wher
   pub from-parts : partsIn (flatten parts) (ranges (rowsOf (laid 0 parts))) ≡ parts
   from-parts = ap (partsIn (flatten parts)) (ranges-back (laid-fits 0 parts (omega arith))) ∙ laid-parts [] parts
 
-  module _ (h : List ℕ) where
-    pub from-parts-answer : (room : ℕ) → assemblyAnswer h (rowsOf (laid 0 parts)) (flatten parts) room ≡ answerFor h parts room
+  module _ (rule : Rule) (h : List ℕ) where
+    pub from-parts-answer : (room : ℕ) → assemblyAnswer rule h (rowsOf (laid 0 parts)) (flatten parts) room ≡ answerFor rule h parts room
     unfolding assemblyAnswer
-    from-parts-answer room = ap (λ (ps : List (List ℕ)). answerFor h ps room) from-parts
+    from-parts-answer room = ap (λ (ps : List (List ℕ)). answerFor rule h ps room) from-parts
 
-    pub from-parts-out : (out : List ℕ) → assemblyOut h (rowsOf (laid 0 parts)) (flatten parts) out ≡ over (answerFor h parts (length out)) (assembled h parts) out
+    pub from-parts-out : (out : List ℕ)
+        → assemblyOut rule h (rowsOf (laid 0 parts)) (flatten parts) out ≡ over (answerFor rule h parts (length out)) (assembled rule h parts) out
     unfolding assemblyOut
     from-parts-out out =
-        ap₂ (λ (a : Written) (ps : List (List ℕ)). over a (assembled h ps) out) (from-parts-answer (length out)) from-parts
+        ap₂ (λ (a : Written) (ps : List (List ℕ)). over a (assembled rule h ps) out) (from-parts-answer (length out)) from-parts

@@ -1,8 +1,7 @@
--- Where tile origin and image origin are one, and a tile's sums fit 32 bits, a tile of the grid lies where B-7 to B-10 have it, and our rewrite of
--- a SIZ by the standard gives it its size by B-11. The fields are read where its rows have them (types, proofs/Iso.antt); a cell below the count of cells starts before the
--- image ends, so that no step of the rewrite fails; and the eight fields that it writes are rows again.
-use Prim.Native.Nat.{ℕ, _+_, _-_, _*_, _^_, _≤_, _<_}
-use native.Mathlib.Nat.{add-mul, one-mul, mul-comm, zero-mul, mod-lt, le-div-iff-mul-le, div-lt-iff-lt-mul, pos-of-ne-zero}
+-- Annex B's rule is B.3 itself: on every header it tells a tile exactly where B.3's premises and the index hold, and there its area is the standard's. So the
+-- rewrite of a SIZ by the standard gives a tile its size by B-11, and the eight fields that it writes are rows again. The original's rule does so where
+-- tile origin and image origin are one, and a tile's sums fit 32 bits.
+use Prim.Native.Nat.{ℕ, _+_, _*_, _/_, _%_, _^_, _≤_, _<_}
 use native.Mathlib.Omega.{arith}
 use mathlib.Core.Path.{_≡_, refl, sym, ap, ap₂, _∙_}
 use mathlib.Core.Bool.{_&&_}
@@ -12,66 +11,169 @@ use lib.Seq.{take-at, drop-at}
 use lib.Dec.{eqb}
 use Rattle.numbers.specs.Bytes.{put}
 use Rattle.numbers.specs.Rows.{Row, row, bytesOfRows, widths}
-use Rattle.numbers.specs.Ceiling.{ceilDiv}
 use Rattle.numbers.proofs.Choice.{by-test, by-bool}
 use Rattle.numbers.proofs.Rows.{length-rows}
-use Rattle.types.specs.Siz.{XSIZ, xsiz, xosiz, xtsiz}
-use Rattle.types.specs.IsoSiz.{Size, componentRows, sizRows, Ranges, TileRanges}
+use Rattle.types.specs.Refusals.{refusal}
+use Rattle.types.specs.Siz.{XSIZ, xsiz, ysiz, xosiz, yosiz, xtsiz, ytsiz, xtosiz, ytosiz}
+use Rattle.types.specs.IsoSiz.{Component, Size, componentRows, sizRows, Ranges, TileRanges}
+use Rattle.types.specs.declared.Area.{Area}
 use Rattle.types.proofs.IsoSiz.{Fields, TileFields, fields-standard, tile-fields-standard}
 use Rattle.tile.specs.Siz.{marker, pair, oneTile}
-use Rattle.tile.specs.Original.{axisOf, columnsOf, inGrid, tileArea}
+use Rattle.tile.specs.AnnexB.{across, down, sideAt, laid, cellsOf, fromOf, toOf, cellArea, onGrid, gridTile}
+use Rattle.tile.specs.Rules.{byAnnexB, placedBy}
 use Rattle.tile.specs.Rewrite.{sized, tileSize, cutTo, judged, rewritten, over, rewriteAnswer, rewriteOut}
-use Rattle.tile.specs.Iso.{numXtiles, numYtiles, columnOf, rowOf, startOf, endOf, areaOf, widthOf, heightOf, headerOf, cutSize, forTile}
-use Rattle.tile.specs.declared.original.Axis.the-variants.{Span}
-use Rattle.tile.specs.declared.original.TileArea.the-variants.{Tile}
+use Rattle.tile.specs.Iso.{Gridded, numXtiles, numYtiles, columnOf, rowOf, startOf, endOf, areaOf, widthOf, heightOf, headerOf, cutSize, forTile}
+use Rattle.tile.specs.declared.annex_b.Side.{Side}
+use Rattle.tile.specs.declared.annex_b.GridTile.the-variants.{NoGrid}
+use Rattle.tile.specs.declared.rules.Rule.{Rule}
+use Rattle.tile.specs.declared.rules.Rule.the-variants.{AnnexB, Original}
+use Rattle.tile.specs.declared.rules.Placed.the-variants.{Tile, Refused}
 use Rattle.tile.specs.declared.rewrite.TileSize.{TileSize}
 use Rattle.tile.specs.declared.rewrite.Written.the-variants.{Bytes}
-use Rattle.tile.proofs.OriginalLaws.{axis-inside, columns-some, grid-both}
+use Rattle.tile.proofs.AnnexBLaws.{Laid, laid-is, is-laid, span-some, column-inside, row-inside, grid-past, grid-inside, no-columns, no-rows, some-grid, Found}
+use Rattle.tile.proofs.RulesLaws.{annex-told}
+use Rattle.tile.proofs.RulesAgree.{original-follows}
 use Rattle.tile.proofs.RewriteLaws.{size-inside, size-siz, room-enough}
 
--- ---- one axis
+-- ---- a size, and a header that holds it
 
-module _ (end origin tileOrigin size cell : ℕ) (some : 1 ≤ size) (inside : cell < ceilDiv (end - tileOrigin) size) where
-  next : (cell + 1) * size ≡ cell * size + size
-  next = omega (arith, add-mul cell 1 size, one-mul size)
+-- along an axis
+sideX : Size → Side
+sideX z = record { end = z .Xsiz; origin = z .XOsiz; size = z .XTsiz; «tile_origin» = z .XTOsiz }
 
-  -- a cell below the count of cells starts before the image ends
-  starts-inside : tileOrigin + cell * size < end
-  unfolding ceilDiv
-  starts-inside = omega (arith, le-div-iff-mul-le some .0 inside, next)
+sideY : Size → Side
+sideY z = record { end = z .Ysiz; origin = z .YOsiz; size = z .YTsiz; «tile_origin» = z .YTOsiz }
 
-  extent-some : origin < end → origin < tileOrigin + size → 1 ≤ endOf end tileOrigin size cell - startOf origin tileOrigin size cell
-  unfolding startOf endOf
-  extent-some a b = omega (arith, starts-inside, next)
+-- the eight fields by which tiles go are the size's
+pub record Holds (z : Size) (h : List ℕ) : Type 0 where
+  pub Xsiz : xsiz h marker ≡ z .Xsiz
+  pub Ysiz : ysiz h marker ≡ z .Ysiz
+  pub XOsiz : xosiz h marker ≡ z .XOsiz
+  pub YOsiz : yosiz h marker ≡ z .YOsiz
+  pub XTsiz : xtsiz h marker ≡ z .XTsiz
+  pub YTsiz : ytsiz h marker ≡ z .YTsiz
+  pub XTOsiz : xtosiz h marker ≡ z .XTOsiz
+  pub YTOsiz : ytosiz h marker ≡ z .YTOsiz
 
-  axis-standard : tileOrigin ≡ origin → tileOrigin + (cell + 1) * size < 2 ^ 32
-      → axisOf end origin size cell ≡ Span (startOf origin tileOrigin size cell) (endOf end tileOrigin size cell)
-  unfolding startOf endOf
-  axis-standard same fits =
-      axis-inside end origin size cell (omega (arith, next)) (omega (arith, starts-inside)) ∙ ap₂ Span (omega arith) (omega (arith, next))
+-- Every header holds one; its components are not looked at.
+pub sizeHeld : List ℕ → Component → Size
+sizeHeld h c =
+    record {
+      Rsiz = 0;
+      Xsiz = xsiz h marker;
+      Ysiz = ysiz h marker;
+      XOsiz = xosiz h marker;
+      YOsiz = yosiz h marker;
+      XTsiz = xtsiz h marker;
+      YTsiz = ytsiz h marker;
+      XTOsiz = xtosiz h marker;
+      YTOsiz = ytosiz h marker;
+      first = c;
+      others = [];
+    }
 
--- ---- the grid
+pub holds-one : (h : List ℕ) (c : Component) → Holds (sizeHeld h c) h
+unfolding sizeHeld
+holds-one h c = record { Xsiz = refl; Ysiz = refl; XOsiz = refl; YOsiz = refl; XTsiz = refl; YTsiz = refl; XTOsiz = refl; YTOsiz = refl }
 
-module _ (z : Size) (tile : ℕ) (inside : tile < numXtiles z * numYtiles z) where
-  columns-positive : 0 < numXtiles z
-  columns-positive = pos-of-ne-zero (λ e. omega (arith, ap (λ (n : ℕ). n * numYtiles z) e, zero-mul (numYtiles z)))
+-- And a SIZ by the standard holds its own.
+pub holds-standard : (z : Size) (rest : List ℕ) → Ranges z → TileRanges z → Holds z (headerOf z rest)
+holds-standard z rest g t =
+    let f : Fields z (headerOf z rest) = fields-standard z rest g in
+    let k : TileFields z (headerOf z rest) = tile-fields-standard z rest g t in
+    record { Xsiz = f .Xsiz; Ysiz = f .Ysiz; XOsiz = f .XOsiz; YOsiz = f .YOsiz; XTsiz = k .XTsiz; YTsiz = k .YTsiz; XTOsiz = k .XTOsiz; YTOsiz = k .YTOsiz }
 
-  column-inside : columnOf z tile < numXtiles z
-  unfolding columnOf
-  column-inside = mod-lt tile columns-positive
+pub standard-gridded : (z : Size) → Ranges z → TileRanges z → Gridded z
+standard-gridded z g t = record { Xsiz = g .XOsiz; Ysiz = g .YOsiz; XTsiz = t .XTsiz .0; YTsiz = t .YTsiz .0; XTOsiz = t .XTOsiz; YTOsiz = t .YTOsiz }
 
-  row-inside : rowOf z tile < numYtiles z
-  unfolding rowOf
-  row-inside = div-lt-iff-lt-mul columns-positive .1 (omega (arith, mul-comm (numXtiles z) (numYtiles z)))
+module _ (z : Size) where
+  laidX : Gridded z → Laid (sideX z)
+  unfolding sideX
+  laidX g = record { first = g .XTOsiz .0; some = g .Xsiz; size = g .XTsiz; reach = g .XTOsiz .1 }
+
+  laidY : Gridded z → Laid (sideY z)
+  unfolding sideY
+  laidY g = record { first = g .YTOsiz .0; some = g .Ysiz; size = g .YTsiz; reach = g .YTOsiz .1 }
+
+  gridded : Laid (sideX z) → Laid (sideY z) → Gridded z
+  unfolding sideX sideY
+  gridded x y = record { Xsiz = x .some; Ysiz = y .some; XTsiz = x .size; YTsiz = y .size; XTOsiz = (x .first, x .reach); YTOsiz = (y .first, y .reach) }
+
+  -- the grid's cells are the standard's tiles
+  tiles-same : cellsOf (sideX z) * cellsOf (sideY z) ≡ numXtiles z * numYtiles z
+  unfolding sideX sideY cellsOf numXtiles numYtiles
+  tiles-same = refl
+
+  area-same : (tile : ℕ) → cellArea (sideX z) (sideY z) (tile % cellsOf (sideX z)) (tile / cellsOf (sideX z)) ≡ areaOf z tile
+  unfolding sideX sideY cellsOf cellArea fromOf toOf numXtiles columnOf rowOf startOf endOf areaOf
+  area-same tile = refl
 
   -- No tile of the grid is empty.
-  pub width-some : Ranges z → TileRanges z → 1 ≤ widthOf z tile
-  unfolding widthOf areaOf numXtiles
-  width-some g t = extent-some (z .Xsiz) (z .XOsiz) (z .XTOsiz) (z .XTsiz) (columnOf z tile) (t .XTsiz .0) column-inside (g .XOsiz) (t .XTOsiz .1)
+  module _ (tile : ℕ) (inside : tile < numXtiles z * numYtiles z) (g : Gridded z) where
+    below : tile < cellsOf (sideX z) * cellsOf (sideY z)
+    below = rw tiles-same inside
 
-  pub height-some : Ranges z → TileRanges z → 1 ≤ heightOf z tile
-  unfolding heightOf areaOf numYtiles
-  height-some g t = extent-some (z .Ysiz) (z .YOsiz) (z .YTOsiz) (z .YTsiz) (rowOf z tile) (t .YTsiz .0) row-inside (g .YOsiz) (t .YTOsiz .1)
+    pub width-some : 1 ≤ widthOf z tile
+    unfolding widthOf cellArea
+    width-some = rw (← area-same tile) (omega (arith, span-some (sideX z) (laidX g) _ (column-inside _ _ _ below)))
+
+    pub height-some : 1 ≤ heightOf z tile
+    unfolding heightOf cellArea
+    height-some = rw (← area-same tile) (omega (arith, span-some (sideY z) (laidY g) _ (row-inside _ _ _ below)))
+
+-- ---- Annex B's rule is B.3
+
+module _ (z : Size) (h : List ℕ) (k : Holds z h) (tile : ℕ) where
+  acrossX : across h ≡ sideX z
+  unfolding sideAt sideX
+  acrossX = λ i. record { end = k .Xsiz i; origin = k .XOsiz i; size = k .XTsiz i; «tile_origin» = k .XTOsiz i }
+
+  downY : down h ≡ sideY z
+  unfolding sideAt sideY
+  downY = λ i. record { end = k .Ysiz i; origin = k .YOsiz i; size = k .YTsiz i; «tile_origin» = k .YTOsiz i }
+
+  on-sides : placedBy AnnexB h tile ≡ byAnnexB (onGrid (sideX z) (sideY z) tile)
+  unfolding placedBy gridTile
+  on-sides = ap₂ (λ (x y : Side). byAnnexB (onGrid x y tile)) acrossX downY
+
+  -- Where B.3's premises and the index hold, the tile lies where B-7 to B-10 have it.
+  pub annex-standard : Gridded z → tile < numXtiles z * numYtiles z → placedBy AnnexB h tile ≡ Tile (areaOf z tile)
+  unfolding byAnnexB
+  annex-standard g inside =
+      on-sides
+      ∙ ap byAnnexB (some-grid _ _ tile (is-laid _ (laidX z g)) (is-laid _ (laidY z g)) ∙ grid-inside _ _ tile (below z tile inside g))
+      ∙ ap Tile (area-same z tile)
+
+  -- It is told only there.
+  pub record Standard (a : Area) : Type 0 where
+    pub gridded : Gridded z
+    pub inside : tile < numXtiles z * numYtiles z
+    pub area : a ≡ areaOf z tile
+
+  pub annex-only : (a : Area) → placedBy AnnexB h tile ≡ Tile a → Standard a
+  annex-only a e =
+      let f : Found (across h) (down h) tile a = annex-told h tile a e in
+      record {
+        gridded = gridded z (rw acrossX at (f .columns)) (rw downY at (f .rows));
+        inside = rw (← tiles-same z, ← acrossX, ← downY) (f .inside);
+        area = rw (← area-same z tile, ← acrossX, ← downY) (f .area);
+      }
+
+  -- No grid is 30, whatever the index.
+  pub annex-no-grid : (Gridded z → ⊥) → placedBy AnnexB h tile ≡ Refused (refusal 30 marker)
+  unfolding byAnnexB
+  annex-no-grid n =
+      let none : onGrid (sideX z) (sideY z) tile ≡ NoGrid =
+      by-bool (laid (sideX z))
+      (λ x. by-bool (laid (sideY z)) (λ y. absurd (n (gridded z (laid-is (sideX z) x) (laid-is (sideY z) y)))) (λ y. no-rows (sideX z) (sideY z) tile y))
+      (λ x. no-columns (sideX z) (sideY z) tile x) in
+      on-sides ∙ ap byAnnexB none
+
+  -- A grid, and an index at or past its end, is 31.
+  pub annex-no-tile : Gridded z → numXtiles z * numYtiles z ≤ tile → placedBy AnnexB h tile ≡ Refused (refusal 31 marker)
+  unfolding byAnnexB
+  annex-no-tile g past =
+      on-sides ∙ ap byAnnexB (some-grid _ _ tile (is-laid _ (laidX z g)) (is-laid _ (laidY z g)) ∙ grid-past _ _ tile (rw (tiles-same z) past))
 
 -- ---- the header after the rewrite
 
@@ -118,60 +220,59 @@ cut-ranges z width height g a b c d = (
 pub tile-ranges : (z : Size) (tile : ℕ) → tile < numXtiles z * numYtiles z → Ranges z → TileRanges z → Ranges (forTile z tile) × TileRanges (forTile z tile)
 unfolding forTile widthOf heightOf areaOf endOf
 tile-ranges z tile inside g t =
+    let s : Gridded z = standard-gridded z g t in
     by-test (λ (s : Size). Ranges s × TileRanges s) (eqb (widthOf z tile) (z .XTsiz) && eqb (heightOf z tile) (z .YTsiz)) (λ _. (g, t))
-    (λ _. cut-ranges z (widthOf z tile) (heightOf z tile) g (width-some z tile inside g t) (height-some z tile inside g t) (omega arith) (omega arith))
+    (λ _. cut-ranges z (widthOf z tile) (heightOf z tile) g (width-some z tile inside s) (height-some z tile inside s) (omega arith) (omega arith))
 
--- ---- the laws
+-- ---- the rewrite
 
-module _ (z : Size) (rest : List ℕ) (tile : ℕ) (g : Ranges z) (t : TileRanges z) (x : z .XTOsiz ≡ z .XOsiz) (y : z .YTOsiz ≡ z .YOsiz)
-    (inside : tile < numXtiles z * numYtiles z) (fitsX : z .XTOsiz + (columnOf z tile + 1) * z .XTsiz < 2 ^ 32)
-    (fitsY : z .YTOsiz + (rowOf z tile + 1) * z .YTsiz < 2 ^ 32) where
-  -- The tile lies where the standard has it: none of the steps is refused.
-  pub area-standard : tileArea (headerOf z rest) tile ≡ Tile (areaOf z tile)
-  unfolding tileArea numXtiles numYtiles columnOf rowOf areaOf
-  area-standard =
-      let h : List ℕ = headerOf z rest in
-      let f : Fields z h = fields-standard z rest g in
-      let k : TileFields z h = tile-fields-standard z rest g t in
-      let columns : columnsOf (xsiz h marker) (xosiz h marker) (xtsiz h marker) ≡ numXtiles z =
-      (λ i. columnsOf (f .Xsiz i) (f .XOsiz i) (k .XTsiz i))
-      ∙ columns-some (z .Xsiz) (z .XOsiz) (z .XTsiz) (omega arith) (λ e. omega arith)
-      ∙ ap (λ (o : ℕ). ceilDiv (z .Xsiz - o) (z .XTsiz)) (sym x) in
-      ap (λ (n : ℕ). inGrid h n tile) columns
-      ∙ grid-both h (numXtiles z) tile (λ e. omega (arith, columns-positive z tile inside)) _ _ _ _
-      ((λ i. axisOf (f .Xsiz i) (f .XOsiz i) (k .XTsiz i) (columnOf z tile))
-      ∙ axis-standard (z .Xsiz) (z .XOsiz) (z .XTOsiz) (z .XTsiz) (columnOf z tile) (t .XTsiz .0) (column-inside z tile inside) x fitsX)
-      ((λ i. axisOf (f .Ysiz i) (f .YOsiz i) (k .YTsiz i) (rowOf z tile))
-      ∙ axis-standard (z .Ysiz) (z .YOsiz) (z .YTOsiz) (z .YTsiz) (rowOf z tile) (t .YTsiz .0) (row-inside z tile inside) y fitsY)
-
-  -- So it has the standard's size.
-  pub tile-standard : tileSize (headerOf z rest) tile ≡ sized (widthOf z tile) (heightOf z tile) (z .XTsiz) (z .YTsiz)
+-- where a rule tells a tile at the standard's place, the header is cut to it
+module _ (rule : Rule) (z : Size) (rest : List ℕ) (tile : ℕ) (g : Ranges z) (t : TileRanges z) (told : placedBy rule (headerOf z rest) tile ≡ Tile (areaOf z tile)) where
+  -- The tile has the standard's size.
+  pub size-standard : tileSize rule (headerOf z rest) tile ≡ sized (widthOf z tile) (heightOf z tile) (z .XTsiz) (z .YTsiz)
   unfolding widthOf heightOf areaOf
-  tile-standard =
+  size-standard =
       let h : List ℕ = headerOf z rest in
       let f : Fields z h = fields-standard z rest g in
       let k : TileFields z h = tile-fields-standard z rest g t in
-      size-siz h tile (omega (arith, f .long)) (f .marker)
-      ∙ size-inside h tile (areaOf z tile) area-standard
+      size-siz rule h tile (omega (arith, f .long)) (f .marker)
+      ∙ size-inside rule h tile (areaOf z tile) told
       ∙ (λ i. sized (widthOf z tile) (heightOf z tile) (k .XTsiz i) (k .YTsiz i))
 
   -- With room for the header the rewrite is not refused.
-  pub rewrite-standard : (room : ℕ) → length (headerOf z rest) ≤ room → rewriteAnswer (headerOf z rest) tile room ≡ Bytes (length (headerOf z rest))
+  pub rewrite-accepts : (room : ℕ) → length (headerOf z rest) ≤ room → rewriteAnswer rule (headerOf z rest) tile room ≡ Bytes (length (headerOf z rest))
   unfolding rewriteAnswer sized judged
-  rewrite-standard room enough =
+  rewrite-accepts room enough =
       let n : ℕ = length (headerOf z rest) in
-      rw tile-standard
+      rw size-standard
       (by-test (λ (s : TileSize). judged s n room ≡ Bytes n) (eqb (widthOf z tile) (z .XTsiz) && eqb (heightOf z tile) (z .YTsiz))
       (λ _. room-enough n room enough) (λ _. room-enough n room enough))
 
-  header-standard : rewritten (headerOf z rest) tile ≡ headerOf (forTile z tile) rest
+  header-cut : rewritten rule (headerOf z rest) tile ≡ headerOf (forTile z tile) rest
   unfolding rewritten sized cutTo forTile
-  header-standard =
-      rw tile-standard
+  header-cut =
+      rw size-standard
       (by-bool (eqb (widthOf z tile) (z .XTsiz) && eqb (heightOf z tile) (z .YTsiz)) (λ e. rw e) (λ e. rw e (cut-rows z rest (widthOf z tile) (heightOf z tile))))
 
   -- What it writes is a SIZ by the standard again, with the same bytes behind it.
-  pub rewrite-standard-out : (out : List ℕ) → length (headerOf z rest) ≤ length out
-      → rewriteOut (headerOf z rest) tile out ≡ headerOf (forTile z tile) rest ++ drop (length (headerOf z rest)) out
+  pub rewrite-writes : (out : List ℕ) → length (headerOf z rest) ≤ length out
+      → rewriteOut rule (headerOf z rest) tile out ≡ headerOf (forTile z tile) rest ++ drop (length (headerOf z rest)) out
   unfolding rewriteOut over
-  rewrite-standard-out out enough = rw (rewrite-standard (length out) enough, header-standard)
+  rewrite-writes out enough = rw (rewrite-accepts (length out) enough, header-cut)
+
+module _ (z : Size) (rest : List ℕ) (tile : ℕ) (g : Ranges z) (t : TileRanges z) (inside : tile < numXtiles z * numYtiles z) where
+  -- By Annex B every tile of the grid is told so.
+  pub area-standard : placedBy AnnexB (headerOf z rest) tile ≡ Tile (areaOf z tile)
+  area-standard = annex-standard z (headerOf z rest) (holds-standard z rest g t) tile (standard-gridded z g t) inside
+
+  -- By the original's rule, where tile origin and image origin are one and the tile's sums fit 32 bits.
+  module _ (x : z .XTOsiz ≡ z .XOsiz) (y : z .YTOsiz ≡ z .YOsiz) (fitsX : z .XTOsiz + (columnOf z tile + 1) * z .XTsiz < 2 ^ 32)
+      (fitsY : z .YTOsiz + (rowOf z tile + 1) * z .YTsiz < 2 ^ 32) where
+    pub area-original : placedBy Original (headerOf z rest) tile ≡ Tile (areaOf z tile)
+    unfolding columnOf rowOf numXtiles cellsOf sideX
+    area-original =
+        let h : List ℕ = headerOf z rest in
+        let k : Holds z h = holds-standard z rest g t in
+        let columns : cellsOf (across h) ≡ numXtiles z = ap cellsOf (acrossX z h k tile) in
+        original-follows h tile (areaOf z tile) (record { x = k .XTOsiz ∙ x ∙ sym (k .XOsiz); y = k .YTOsiz ∙ y ∙ sym (k .YOsiz) }) area-standard
+        (rw (columns, k .XTOsiz, k .XTsiz) fitsX) (rw (columns, k .YTOsiz, k .YTsiz) fitsY)

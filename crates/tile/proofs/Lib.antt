@@ -1,4 +1,9 @@
 pub mod OriginalLaws
+pub mod AnnexBLaws
+pub mod AnnexBCells
+pub mod RulesLaws
+pub mod RulesPartition
+pub mod RulesAgree
 pub mod RewriteLaws
 pub mod RewriteHeader
 pub mod AssemblyRanges

@@ -16,6 +16,7 @@ use Rattle.types.specs.Markers.{SIZ}
 use Rattle.types.specs.declared.Refusal.{Refusal}
 use Rattle.tile.specs.Siz.{pair, oneTile}
 use Rattle.tile.specs.Rewrite.{sizeIn, tileSize, cutTo, Room, rewritten, withRoom, judged, over}
+use Rattle.tile.specs.declared.rules.Rule.{Rule}
 use Rattle.tile.specs.declared.rewrite.TileSize.{TileSize}
 use Rattle.tile.specs.declared.rewrite.Written.{Written}
 use Rattle.tile.specs.declared.rewrite.Written.the-variants.{Bytes, Refused}
@@ -49,12 +50,12 @@ put-one s width height h =
 
 -- ---- the header
 
-pub size-room : (h : List ℕ) (tile : ℕ) → Room (tileSize h tile) (length h)
+pub size-room : (rule : Rule) (h : List ℕ) (tile : ℕ) → Room (tileSize rule h tile) (length h)
 unfolding tileSize Room
-size-room h tile =
+size-room rule h tile =
     let P : TileSize → Type 0 = λ s. Room s (length h) in
     by-test P (leb 40 (length h))
-    (λ l. by-test P (eqb (be 2 h 2) SIZ) (λ _. long (sizeIn h tile) (length h) (leb-true _ _ l)) (λ _. tt))
+    (λ l. by-test P (eqb (be 2 h 2) SIZ) (λ _. long (sizeIn rule h tile) (length h) (leb-true _ _ l)) (λ _. tt))
     (λ _. tt)
   where
     long : (s : TileSize) (n : ℕ) → 40 ≤ n → Room s n
@@ -93,20 +94,21 @@ module _ (P : List ℕ → List ℕ → Type 0) (h : List ℕ) (same : P h h) (c
 pub length-cut : (s : TileSize) (h : List ℕ) → Room s (length h) → length (cutTo s h) ≡ length h
 length-cut s h r = of-cut (λ a b. length a ≡ length b) h refl (λ w g l. length-put h 8 (oneTile w g) (omega (arith, length-one w g))) s r
 
-pub length-rewritten : (h : List ℕ) (tile : ℕ) → length (rewritten h tile) ≡ length h
+pub length-rewritten : (rule : Rule) (h : List ℕ) (tile : ℕ) → length (rewritten rule h tile) ≡ length h
 unfolding rewritten
-length-rewritten h tile = length-cut (tileSize h tile) h (size-room h tile)
+length-rewritten rule h tile = length-cut (tileSize rule h tile) h (size-room rule h tile)
 
 -- SOC, the SIZ marker, Lsiz and Rsiz stay
-pub rewritten-front : (h : List ℕ) (tile : ℕ) → take 8 (rewritten h tile) ≡ take 8 h
+pub rewritten-front : (rule : Rule) (h : List ℕ) (tile : ℕ) → take 8 (rewritten rule h tile) ≡ take 8 h
 unfolding rewritten
-rewritten-front h tile = of-cut (λ a b. take 8 a ≡ take 8 b) h refl (λ w g l. take-put h 8 (oneTile w g) (omega arith)) (tileSize h tile) (size-room h tile)
+rewritten-front rule h tile =
+    of-cut (λ a b. take 8 a ≡ take 8 b) h refl (λ w g l. take-put h 8 (oneTile w g) (omega arith)) (tileSize rule h tile) (size-room rule h tile)
 
 -- and all from Csiz on
-pub rewritten-rest : (h : List ℕ) (tile : ℕ) → drop 40 (rewritten h tile) ≡ drop 40 h
+pub rewritten-rest : (rule : Rule) (h : List ℕ) (tile : ℕ) → drop 40 (rewritten rule h tile) ≡ drop 40 h
 unfolding rewritten
-rewritten-rest h tile =
-    of-cut (λ a b. drop 40 a ≡ drop 40 b) h refl (λ w g l. drop-put h 8 (oneTile w g) 32 (length-one w g) (omega arith)) (tileSize h tile) (size-room h tile)
+rewritten-rest rule h tile =
+    of-cut (λ a b. drop 40 a ≡ drop 40 b) h refl (λ w g l. drop-put h 8 (oneTile w g) 32 (length-one w g) (omega arith)) (tileSize rule h tile) (size-room rule h tile)
 
 -- ---- the answer and the output
 

@@ -16,10 +16,11 @@ use Rattle.types.specs.Siz.{xtsiz, ytsiz}
 use Rattle.types.specs.declared.Refusal.{Refusal}
 use Rattle.types.specs.declared.Area.{Area}
 use Rattle.tile.specs.Siz.{marker}
-use Rattle.tile.specs.Original.{tileArea}
-use Rattle.tile.specs.Rewrite.{sized, outside, sizeOf, sizeIn, tileSize, withRoom, judged}
-use Rattle.tile.specs.declared.original.TileArea.{TileArea}
-use Rattle.tile.specs.declared.original.TileArea.the-variants.{Tile, Outside}
+use Rattle.tile.specs.Rules.{placedBy}
+use Rattle.tile.specs.Rewrite.{sized, sizeOf, sizeIn, tileSize, withRoom, judged}
+use Rattle.tile.specs.declared.rules.Rule.{Rule}
+use Rattle.tile.specs.declared.rules.Placed.{Placed}
+use Rattle.tile.specs.declared.rules.Placed.the-variants.{Tile, Refused}
 use Rattle.tile.specs.declared.rewrite.TileSize.{TileSize}
 use Rattle.tile.specs.declared.rewrite.TileSize.the-variants.{Whole, Cut}
 use Rattle.tile.specs.declared.rewrite.Written.the-variants.{Bytes}
@@ -42,27 +43,26 @@ module _ (width height xt yt : ℕ) where
   unfolding sized
   sized-full e f = rw (eq-eqb _ _ e, eq-eqb _ _ f)
 
-module _ (h : List ℕ) (tile : ℕ) where
-  pub size-outside : tileArea h tile ≡ Outside → sizeIn h tile ≡ outside
+module _ (rule : Rule) (h : List ℕ) (tile : ℕ) where
+  pub size-refused : (r : Refusal) → placedBy rule h tile ≡ Refused r → sizeIn rule h tile ≡ size.Refused r
   unfolding sizeIn sizeOf
-  size-outside e = ap (λ (a : TileArea). sizeOf a (xtsiz h marker) (ytsiz h marker)) e
+  size-refused r e = ap (λ (p : Placed). sizeOf p (xtsiz h marker) (ytsiz h marker)) e
 
-  pub size-inside : (a : Area) → tileArea h tile ≡ Tile a
-      → sizeIn h tile ≡ sized (a .x1 - a .x0) (a .y1 - a .y0) (xtsiz h marker) (ytsiz h marker)
+  pub size-inside : (a : Area) → placedBy rule h tile ≡ Tile a
+      → sizeIn rule h tile ≡ sized (a .x1 - a .x0) (a .y1 - a .y0) (xtsiz h marker) (ytsiz h marker)
   unfolding sizeIn sizeOf
-  size-inside a e = ap (λ (t : TileArea). sizeOf t (xtsiz h marker) (ytsiz h marker)) e
+  size-inside a e = ap (λ (p : Placed). sizeOf p (xtsiz h marker) (ytsiz h marker)) e
 
-module _ (h : List ℕ) (tile : ℕ) where
-  pub size-short : length h < 40 → tileSize h tile ≡ Whole
+  pub size-short : length h < 40 → tileSize rule h tile ≡ Whole
   unfolding tileSize
   size-short l = rw (lt-leb _ _ l)
 
   module _ (long : 40 ≤ length h) where
-    pub size-other : (be 2 h marker ≡ SIZ → ⊥) → tileSize h tile ≡ Whole
+    pub size-other : (be 2 h marker ≡ SIZ → ⊥) → tileSize rule h tile ≡ Whole
     unfolding tileSize
     size-other n = rw (le-leb _ _ long, ne-eqb _ _ n)
 
-    pub size-siz : be 2 h marker ≡ SIZ → tileSize h tile ≡ sizeIn h tile
+    pub size-siz : be 2 h marker ≡ SIZ → tileSize rule h tile ≡ sizeIn rule h tile
     unfolding tileSize
     size-siz e = rw (le-leb _ _ long, eq-eqb _ _ e)
 

@@ -9,6 +9,7 @@ use Rattle.types.specs.Markers.{SOT, EOC}
 use Rattle.types.specs.Row.{entryAt}
 use Rattle.types.specs.declared.TilePartEntry.{TilePartEntry}
 use Rattle.tile.specs.Rewrite.{tileSize, cutTo, judged, over}
+use Rattle.tile.specs.declared.rules.Rule.{Rule}
 use Rattle.tile.specs.declared.rewrite.TileSize.{TileSize}
 use Rattle.tile.specs.declared.rewrite.TileSize.the-variants.{Whole}
 use Rattle.tile.specs.declared.rewrite.Written.{Written}
@@ -52,13 +53,13 @@ isSot part = leb 6 (length part) && eqb (be 2 part 0) SOT
 unfoldable pub patched : List ℕ → List ℕ
 patched part = cond (isSot part) (put part 4 (bytesOf 2 0)) part
 
-unfoldable pub partSize : List ℕ → List ℕ → TileSize
-partSize h part = cond (isSot part) (tileSize h (be 2 part 4)) Whole
+unfoldable pub partSize : Rule → List ℕ → List ℕ → TileSize
+partSize rule h part = cond (isSot part) (tileSize rule h (be 2 part 4)) Whole
 
 -- the first part chooses the rewrite; with no part the header stays
-unfoldable pub sizeFor : List ℕ → List (List ℕ) → TileSize
-sizeFor h [] = Whole
-sizeFor h (part ∷ rest) = partSize h part
+unfoldable pub sizeFor : Rule → List ℕ → List (List ℕ) → TileSize
+sizeFor rule h [] = Whole
+sizeFor rule h (part ∷ rest) = partSize rule h part
 
 -- ---- header, parts, EOC
 
@@ -66,15 +67,15 @@ unfoldable pub joined : List (List ℕ) → List ℕ
 joined [] = []
 joined (part ∷ rest) = patched part ++ joined rest
 
-unfoldable pub assembled : List ℕ → List (List ℕ) → List ℕ
-assembled h parts = cutTo (sizeFor h parts) h ++ (joined parts ++ bytesOf 2 EOC)
+unfoldable pub assembled : Rule → List ℕ → List (List ℕ) → List ℕ
+assembled rule h parts = cutTo (sizeFor rule h parts) h ++ (joined parts ++ bytesOf 2 EOC)
 
--- the answer of an assembly into so much room: 10, then 17, else all bytes
-unfoldable pub answerFor : List ℕ → List (List ℕ) → ℕ → Written
-answerFor h parts room = judged (sizeFor h parts) (length (assembled h parts)) room
+-- the answer of an assembly into so much room: the rewrite's refusal, then 17, else all bytes
+unfoldable pub answerFor : Rule → List ℕ → List (List ℕ) → ℕ → Written
+answerFor rule h parts room = judged (sizeFor rule h parts) (length (assembled rule h parts)) room
 
-unfoldable pub assemblyAnswer : List ℕ → List ℕ → List ℕ → ℕ → Written
-assemblyAnswer h table s room = answerFor h (partsIn s (ranges table)) room
+unfoldable pub assemblyAnswer : Rule → List ℕ → List ℕ → List ℕ → ℕ → Written
+assemblyAnswer rule h table s room = answerFor rule h (partsIn s (ranges table)) room
 
-unfoldable pub assemblyOut : List ℕ → List ℕ → List ℕ → List ℕ → List ℕ
-assemblyOut h table s out = over (assemblyAnswer h table s (length out)) (assembled h (partsIn s (ranges table))) out
+unfoldable pub assemblyOut : Rule → List ℕ → List ℕ → List ℕ → List ℕ → List ℕ
+assemblyOut rule h table s out = over (assemblyAnswer rule h table s (length out)) (assembled rule h (partsIn s (ranges table))) out

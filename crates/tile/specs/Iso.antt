@@ -1,6 +1,6 @@
 -- Tiles as ISO/IEC 15444-1 has them (B.3), by the fields of SIZ: counted from the tile origin, and clipped to the image on both sides.
--- `proofs/Iso.antt` says where our rewrite agrees.
-use Prim.Native.Nat.{ℕ, _+_, _-_, _*_, _/_, _%_, min, max}
+-- `proofs/Iso.antt` says where our rules agree.
+use Prim.Native.Nat.{ℕ, _+_, _-_, _*_, _/_, _%_, _≤_, _<_, min, max}
 use mathlib.Core.Bool.{cond, _&&_}
 use mathlib.Core.List.{List, _++_}
 use lib.Dec.{eqb}
@@ -8,6 +8,15 @@ use Rattle.numbers.specs.Rows.{bytesOfRows}
 use Rattle.numbers.specs.Ceiling.{ceilDiv}
 use Rattle.types.specs.IsoSiz.{Size, sizRows}
 use Rattle.types.specs.declared.Area.{Area}
+
+-- what B.3 asks of the fields: an image and a tile that are not empty; B-3 and B-4, a first tile that starts at or before the image and reaches into it
+pub record Gridded (z : Size) : Type 0 where
+  pub Xsiz : z .XOsiz < z .Xsiz
+  pub Ysiz : z .YOsiz < z .Ysiz
+  pub XTsiz : 1 ≤ z .XTsiz
+  pub YTsiz : 1 ≤ z .YTsiz
+  pub XTOsiz : (z .XTOsiz ≤ z .XOsiz) × (z .XOsiz < z .XTOsiz + z .XTsiz)
+  pub YTOsiz : (z .YTOsiz ≤ z .YOsiz) × (z .YOsiz < z .YTOsiz + z .YTsiz)
 
 -- B-5
 unfoldable pub numXtiles : Size → ℕ

@@ -1,5 +1,6 @@
 pub mod Siz
 pub mod Original
+pub mod AnnexB
 pub mod Rules
 pub mod Rewrite
 pub mod Assembly

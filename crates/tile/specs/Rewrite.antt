@@ -9,9 +9,10 @@ use Rattle.types.specs.Refusals.{refusal}
 use Rattle.types.specs.Markers.{SIZ}
 use Rattle.types.specs.Siz.{XSIZ, xtsiz, ytsiz}
 use Rattle.tile.specs.Siz.{marker, oneTile}
-use Rattle.tile.specs.Original.{tileArea}
-use Rattle.tile.specs.declared.original.TileArea.{TileArea}
-use Rattle.tile.specs.declared.original.TileArea.the-variants as area
+use Rattle.tile.specs.Rules.{placedBy}
+use Rattle.tile.specs.declared.rules.Rule.{Rule}
+use Rattle.tile.specs.declared.rules.Placed.{Placed}
+use Rattle.tile.specs.declared.rules.Placed.the-variants as placed
 use Rattle.tile.specs.declared.rewrite.TileSize.{TileSize}
 use Rattle.tile.specs.declared.rewrite.TileSize.the-variants as size
 use Rattle.tile.specs.declared.rewrite.Written.{Written}
@@ -23,23 +24,20 @@ use Rattle.tile.specs.declared.rewrite.Written.the-variants as answer
 unfoldable pub sized : ℕ → ℕ → ℕ → ℕ → TileSize
 sized width height xt yt = cond (eqb width xt && eqb height yt) size.Whole (size.Cut width height)
 
-abbrev pub outside : TileSize
-outside = size.Refused (refusal 10 marker)
-
 -- width and height are where the tile ends less where it starts
-unfoldable pub sizeOf : TileArea → ℕ → ℕ → TileSize
+unfoldable pub sizeOf : Placed → ℕ → ℕ → TileSize
 unfolding sized
-sizeOf (area.Tile a) xt yt = sized (a .x1 - a .x0) (a .y1 - a .y0) xt yt
-sizeOf area.Outside xt yt = outside
+sizeOf (placed.Tile a) xt yt = sized (a .x1 - a .x0) (a .y1 - a .y0) xt yt
+sizeOf (placed.Refused r) xt yt = size.Refused r
 
-unfoldable pub sizeIn : List ℕ → ℕ → TileSize
+unfoldable pub sizeIn : Rule → List ℕ → ℕ → TileSize
 unfolding sizeOf
-sizeIn h tile = sizeOf (tileArea h tile) (xtsiz h marker) (ytsiz h marker)
+sizeIn rule h tile = sizeOf (placedBy rule h tile) (xtsiz h marker) (ytsiz h marker)
 
 -- a header under 40 bytes, or no SIZ at 2: the header stays
-unfoldable pub tileSize : List ℕ → ℕ → TileSize
+unfoldable pub tileSize : Rule → List ℕ → ℕ → TileSize
 unfolding sizeIn
-tileSize h tile = cond (leb 40 (length h)) (cond (eqb (be 2 h marker) SIZ) (sizeIn h tile) size.Whole) size.Whole
+tileSize rule h tile = cond (leb 40 (length h)) (cond (eqb (be 2 h marker) SIZ) (sizeIn rule h tile) size.Whole) size.Whole
 
 -- ---- the header, the answer, the output
 
@@ -56,8 +54,8 @@ Room (size.Cut width height) n = 40 ≤ n
 Room (size.Refused r) n = Unit {0}
 
 -- the header after the rewrite
-unfoldable pub rewritten : List ℕ → ℕ → List ℕ
-rewritten h tile = cutTo (tileSize h tile) h
+unfoldable pub rewritten : Rule → List ℕ → ℕ → List ℕ
+rewritten rule h tile = cutTo (tileSize rule h tile) h
 
 -- 17 comes last; its place is the size needed, or 2^64-1
 unfoldable pub withRoom : ℕ → ℕ → Written
@@ -75,8 +73,8 @@ over (answer.Bytes n) bytes out = bytes ++ drop n out
 over (answer.Refused r) bytes out = out
 
 -- the answer of a rewrite into so much room
-unfoldable pub rewriteAnswer : List ℕ → ℕ → ℕ → Written
-rewriteAnswer h tile room = judged (tileSize h tile) (length h) room
+unfoldable pub rewriteAnswer : Rule → List ℕ → ℕ → ℕ → Written
+rewriteAnswer rule h tile room = judged (tileSize rule h tile) (length h) room
 
-unfoldable pub rewriteOut : List ℕ → ℕ → List ℕ → List ℕ
-rewriteOut h tile out = over (rewriteAnswer h tile (length out)) (rewritten h tile) out
+unfoldable pub rewriteOut : Rule → List ℕ → ℕ → List ℕ → List ℕ
+rewriteOut rule h tile out = over (rewriteAnswer rule h tile (length out)) (rewritten rule h tile) out

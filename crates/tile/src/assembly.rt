@@ -5,9 +5,10 @@ ghost use Prim.Native.Nat.{_+_, _-_, _^_, _≤_, min};
 ghost use lib.ListN.{length};
 ghost use Rattle.numbers.specs.Bytes.{put};
 ghost use Rattle.types.specs.Row.{entryAt};
-ghost use Rattle.tile.specs.Assembly.{rangeOf, isSot, patched, ranges, partsIn, joined, partSize, sizeFor, assembled, assemblyAnswer, assemblyOut};
+ghost use Rattle.tile.specs.Assembly.{rangeOf, isSot, patched, ranges, partsIn, joined, partSize, sizeFor, assemblyAnswer, assemblyOut};
 use crate::rewrite::TileSize;
 use crate::rewrite::Written;
+use crate::rules::Rule;
 use types::ROW;
 use types::markers::EOC;
 use types::markers::ISOT;
@@ -48,17 +49,17 @@ fn is_sot(part: &[u8]) -> bool
 }
 
 // The header's change for the tile of a part.
-fn part_size(header: &[u8], part: &[u8]) -> TileSize
-    ensures { λ r. ⌜ r ≡ partSize (now (header .entry)) (now (part .entry)) ⌝ }
+fn part_size(header: &[u8], part: &[u8], rule: Rule) -> TileSize
+    ensures { λ r. ⌜ r ≡ partSize rule (now (header .entry)) (now (part .entry)) ⌝ }
 {
     if is_sot(part) {
-        return crate::rewrite::tile_size(header, numbers::read_u16(part, ISOT));
+        return crate::rewrite::tile_size(header, numbers::read_u16(part, ISOT), rule);
     }
     TileSize::Whole
 }
 
-fn size_for(header: &[u8], tile_parts: &[u8], codestream: &[u8]) -> TileSize
-    ensures { λ r. ⌜ r ≡ sizeFor (now (header .entry)) (partsIn (now (codestream .entry)) (ranges (now («tile_parts» .entry)))) ⌝ }
+fn size_for(header: &[u8], tile_parts: &[u8], codestream: &[u8], rule: Rule) -> TileSize
+    ensures { λ r. ⌜ r ≡ sizeFor rule (now (header .entry)) (partsIn (now (codestream .entry)) (ranges (now («tile_parts» .entry)))) ⌝ }
 {
     let mut at: usize = 0;
     while ROW <= tile_parts.len() - at {
@@ -67,7 +68,7 @@ fn size_for(header: &[u8], tile_parts: &[u8], codestream: &[u8]) -> TileSize
         let Range::Kept { from, to } = range else {
             continue;
         };
-        return part_size(header, &codestream[from..to]);
+        return part_size(header, &codestream[from..to], rule);
     }
     TileSize::Whole
 }
@@ -79,8 +80,9 @@ fn saturated(a: u64, b: u64) -> u64
     if b <= MAX - a { a + b } else { MAX }
 }
 
+// Header, parts and EOC, whatever the rule.
 fn size_needed(header: &[u8], tile_parts: &[u8], codestream: &[u8]) -> u64
-    ensures { λ r. ⌜ r ≡ min (length (assembled (now (header .entry)) (partsIn (now (codestream .entry)) (ranges (now («tile_parts» .entry)))))) (2 ^ 64 - 1) ⌝ }
+    ensures { λ r. ⌜ r ≡ min (length (now (header .entry)) + 2 + length (joined (partsIn (now (codestream .entry)) (ranges (now («tile_parts» .entry)))))) (2 ^ 64 - 1) ⌝ }
 {
     let mut size = header.len() as u64 + 2;
     let mut at: usize = 0;
@@ -130,12 +132,13 @@ pub fn build_minimal_codestream(
     decode_header: &[u8],
     tile_parts: &[u8],
     codestream: &[u8],
+    rule: Rule,
     out: &mut [u8],
 ) -> Written
-    ensures { λ r. ⌜ r ≡ assemblyAnswer (now («decode_header» .entry)) (now («tile_parts» .entry)) (now (codestream .entry)) (length (now (out .entry))) ⌝ }
-    ensures { λ _. ⌜ now (out .exit) ≡ assemblyOut (now («decode_header» .entry)) (now («tile_parts» .entry)) (now (codestream .entry)) (now (out .entry)) ⌝ }
+    ensures { λ r. ⌜ r ≡ assemblyAnswer rule (now («decode_header» .entry)) (now («tile_parts» .entry)) (now (codestream .entry)) (length (now (out .entry))) ⌝ }
+    ensures { λ _. ⌜ now (out .exit) ≡ assemblyOut rule (now («decode_header» .entry)) (now («tile_parts» .entry)) (now (codestream .entry)) (now (out .entry)) ⌝ }
 {
-    let size = size_for(decode_header, tile_parts, codestream);
+    let size = size_for(decode_header, tile_parts, codestream, rule);
     let needed = size_needed(decode_header, tile_parts, codestream);
     let answer = crate::rewrite::judge(size, needed, out.len() as u64);
     let Written::Bytes(_) = answer else {

@@ -7,8 +7,9 @@ ghost use Rattle.numbers.specs.Bytes.{put};
 ghost use Rattle.types.specs.Siz.{XSIZ};
 ghost use Rattle.tile.specs.Siz.{marker, pair, oneTile};
 ghost use Rattle.tile.specs.Rewrite.{sized, sizeIn, tileSize, cutTo, Room, judged, rewriteAnswer, rewriteOut};
+use crate::rules::Placed;
+use crate::rules::Rule;
 use crate::siz::MARKER;
-use crate::original::TileArea;
 use types::Refusal;
 use types::markers::SIZ;
 use types::siz;
@@ -39,24 +40,21 @@ fn full_or_cut(width: u32, height: u32, xtsiz: u32, ytsiz: u32) -> TileSize
     TileSize::Whole
 }
 
-fn size_in(header: &[u8], isot: u16) -> TileSize
+fn size_in(header: &[u8], isot: u16, rule: Rule) -> TileSize
     requires { ⌜ 40 ≤ length (now header) ⌝ }
-    ensures { λ r. ⌜ r ≡ sizeIn (now (header .entry)) isot ⌝ }
+    ensures { λ r. ⌜ r ≡ sizeIn rule (now (header .entry)) isot ⌝ }
 {
-    let area = crate::original::tile_area(header, isot);
-    let TileArea::Tile(tile) = area else {
-        return TileSize::Refused(Refusal {
-            number: 10,
-            place: MARKER as u64,
-        });
+    let tile = match crate::rules::place(header, isot, rule) {
+        Placed::Tile(area) => area,
+        Placed::Refused(refusal) => return TileSize::Refused(refusal),
     };
     let xtsiz = crate::siz::field(header, siz::XTSIZ);
     let ytsiz = crate::siz::field(header, siz::YTSIZ);
     full_or_cut(tile.x1 - tile.x0, tile.y1 - tile.y0, xtsiz, ytsiz)
 }
 
-pub fn tile_size(header: &[u8], isot: u16) -> TileSize
-    ensures { λ r. ⌜ r ≡ tileSize (now (header .entry)) isot ⌝ }
+pub fn tile_size(header: &[u8], isot: u16, rule: Rule) -> TileSize
+    ensures { λ r. ⌜ r ≡ tileSize rule (now (header .entry)) isot ⌝ }
 {
     if header.len() < 40 {
         return TileSize::Whole;
@@ -64,10 +62,10 @@ pub fn tile_size(header: &[u8], isot: u16) -> TileSize
     if numbers::read_u16(header, MARKER) != SIZ {
         return TileSize::Whole;
     }
-    size_in(header, isot)
+    size_in(header, isot, rule)
 }
 
-// 10 before 17.
+// A refusal of the rule before 17.
 pub fn judge(size: TileSize, needed: u64, room: u64) -> Written
     ensures { λ r. ⌜ r ≡ judged size needed room ⌝ }
 {
@@ -115,11 +113,11 @@ pub fn write_header(header: &[u8], size: TileSize, out: &mut [u8])
     }
 }
 
-pub fn rewrite_siz_for_tile(decode_header: &[u8], isot: u16, out: &mut [u8]) -> Written
-    ensures { λ r. ⌜ r ≡ rewriteAnswer (now («decode_header» .entry)) isot (length (now (out .entry))) ⌝ }
-    ensures { λ _. ⌜ now (out .exit) ≡ rewriteOut (now («decode_header» .entry)) isot (now (out .entry)) ⌝ }
+pub fn rewrite_siz_for_tile(decode_header: &[u8], isot: u16, rule: Rule, out: &mut [u8]) -> Written
+    ensures { λ r. ⌜ r ≡ rewriteAnswer rule (now («decode_header» .entry)) isot (length (now (out .entry))) ⌝ }
+    ensures { λ _. ⌜ now (out .exit) ≡ rewriteOut rule (now («decode_header» .entry)) isot (now (out .entry)) ⌝ }
 {
-    let size = tile_size(decode_header, isot);
+    let size = tile_size(decode_header, isot, rule);
     let answer = judge(size, decode_header.len() as u64, out.len() as u64);
     let Written::Bytes(_) = answer else {
         return answer;

@@ -1,5 +1,5 @@
--- Areas of the reference grid within one another.
-use Prim.Native.Nat.{_≤_}
+-- Areas of the reference grid within one another, and their points.
+use Prim.Native.Nat.{ℕ, _≤_, _<_}
 use Rattle.types.specs.declared.Area.{Area}
 
 -- an area that lies in another and ends no sooner than it starts
@@ -10,3 +10,10 @@ pub record Inside (a b : Area) : Type 0 where
   pub top : b .y0 ≤ a .y0
   pub high : a .y0 ≤ a .y1
   pub bottom : a .y1 ≤ b .y1
+
+-- a point of an area
+pub record Has (a : Area) (x y : ℕ) : Type 0 where
+  pub left : a .x0 ≤ x
+  pub right : x < a .x1
+  pub top : a .y0 ≤ y
+  pub bottom : y < a .y1

@@ -3,12 +3,13 @@ use mathlib.Core.Path.{_≡_, ap, _∙_}
 use borrow.Author.Needs.{needs}
 use denote.Ref.{now}
 use Rattle.reader.specs.Components.{componentInTile}
+use Rattle.tile.specs.declared.rules.Rule.the-variants.{AnnexB}
 use Rattle.host.specs.Components.{oneNumber, oneBits, oneValue, signOf, left, top, right, bottom}
 use Rattle.host.proofs.components.winterhasp_component_in_tile.Statement.{statement}
 use Rattle.host.proofs.components.winterhasp_component_in_tile.Tie as tie
 
 -- the answer is that of what was asked for
-asked : (c : tie.After-component-in-tile) → let a = c .before .before .args in c .component-in-tile .result ≡ componentInTile (now (a .codestream)) (a .tile) (a .number)
+asked : (c : tie.After-component-in-tile) → let a = c .before .before .args in c .component-in-tile .result ≡ componentInTile AnnexB (now (a .codestream)) (a .tile) (a .number)
 asked c = c .component-in-tile .ensures
 
 component-in-tile-requires : tie.Need-component-in-tile-requires

@@ -3,12 +3,13 @@ use mathlib.Core.Path.{_≡_, ap, _∙_}
 use borrow.Author.Needs.{needs}
 use denote.Ref.{now}
 use Rattle.reader.specs.Components.{componentsInTile}
+use Rattle.tile.specs.declared.rules.Rule.the-variants.{AnnexB}
 use Rattle.host.specs.Components.{readNumber, readCount, readEnd, left, top, right, bottom}
 use Rattle.host.proofs.components.winterhasp_read_components_in_tile.Statement.{statement}
 use Rattle.host.proofs.components.winterhasp_read_components_in_tile.Tie as tie
 
 -- the answer is that of what was asked for
-asked : (c : tie.After-read-components-in-tile) → let a = c .before .before .args in c .read-components-in-tile .result ≡ componentsInTile (now (a .codestream)) (a .tile)
+asked : (c : tie.After-read-components-in-tile) → let a = c .before .before .args in c .read-components-in-tile .result ≡ componentsInTile AnnexB (now (a .codestream)) (a .tile)
 asked c = c .read-components-in-tile .ensures
 
 read-components-in-tile-requires : tie.Need-read-components-in-tile-requires

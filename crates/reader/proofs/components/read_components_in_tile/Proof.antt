@@ -4,7 +4,7 @@ use mathlib.Core.Path.{_≡_, sym, _∙_}
 use borrow.Author.Needs.{needs}
 use Rattle.reader.specs.Components.{componentsRead}
 use Rattle.reader.specs.declared.components.ComponentsRead.the-variants.{Components}
-use Rattle.reader.proofs.ComponentsLaws.{all-inside, accepted, tile-refused, tile-outside, tile-found}
+use Rattle.reader.proofs.ComponentsLaws.{all-inside, accepted, tile-refused, tile-untold, tile-found}
 use Rattle.reader.proofs.components.read_components_in_tile.Statement.{statement}
 use Rattle.reader.proofs.components.read_components_in_tile.Tie as tie
 
@@ -24,31 +24,28 @@ enum-told c = search needs
 returns : tie.Need-returns
 returns c =
     let d = c .before .before in
-    c .enum-told .given .1 ∙ sym (tile-refused _ _ _ (sym (d .read-components .ensures) ∙ c .enum-told .given .1))
+    c .enum-told .given .1 ∙ sym (tile-refused _ _ _ _ (sym (d .read-components .ensures) ∙ c .enum-told .given .1))
 
-tile-area-requires : tie.Need-tile-area-requires
-tile-area-requires c κs = let a = accepted _ _ (checked (c .before)) in omega (arith, all-inside _ (a .whole) (a .held) .0)
+place-requires : tie.Need-place-requires
+place-requires c κs = let a = accepted _ _ (checked (c .before)) in omega (arith, all-inside _ (a .whole) (a .held) .0)
 
-enum-known-found : tie.Need-enum-known-found
-enum-known-found c = search needs
+enum-known-area : tie.Need-enum-known-area
+enum-known-area c = search needs
 
-enum-told-2 : tie.Need-enum-told-2
-enum-told-2 c = search needs
-
-refuse-requires : tie.Need-refuse-requires
-refuse-requires c κs = search needs
+enum-known-refusal : tie.Need-enum-known-refusal
+enum-known-refusal c = search needs
 
 returns-2 : tie.Need-returns-2
 returns-2 c =
-    let e = c .before in
-    let t = e .before .before in
-    c .refuse .ensures ∙ sym (tile-outside _ _ _ (checked (t .before .before)) (sym (t .tile-area .ensures) ∙ e .enum-told2 .given .1))
+    let r = c .before in
+    let t = r .before .before in
+    sym (tile-untold _ _ _ _ (checked (t .before .before)) _ (sym (t .place .ensures) ∙ r .refusal .given .1))
 
 returns-3 : tie.Need-returns-3
 returns-3 c =
     let f = c .before in
     let t = f .before .before in
-    sym (tile-found _ _ _ (checked (t .before .before)) _ (sym (t .tile-area .ensures) ∙ f .found .given .1))
+    sym (tile-found _ _ _ _ (checked (t .before .before)) _ (sym (t .place .ensures) ∙ f .area .given .1))
 
 pub read-components-in-tile-spec : {M : Type 1} → statement M
 read-components-in-tile-spec =
@@ -58,9 +55,8 @@ read-components-in-tile-spec =
     enum-known-read
     enum-told
     returns
-    tile-area-requires
-    enum-known-found
-    enum-told-2
-    refuse-requires
+    place-requires
+    enum-known-area
+    enum-known-refusal
     returns-2
     returns-3)

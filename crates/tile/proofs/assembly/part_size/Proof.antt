@@ -17,11 +17,12 @@ tile-size-requires c κs = search needs
 returns : tie.Need-returns
 returns c =
     let t = c .before .before in
-    let e = part-sot _ (t .before .before .before .before .args .header .now) (sym (t .before .is-sot .ensures) ∙ t .if1 .taken) in
+    let a = t .before .before .before .before .args in
+    let e = part-sot _ (a .rule) (a .header .now) (sym (t .before .is-sot .ensures) ∙ t .if1 .taken) in
     cc
 
 returns-2 : tie.Need-returns-2
-returns-2 c = sym (part-other _ _ (sym (c .before .is-sot .ensures) ∙ c .if1 .left))
+returns-2 c = sym (part-other _ _ _ (sym (c .before .is-sot .ensures) ∙ c .if1 .left))
 
 pub part-size-spec : {M : Type 1} → statement M
 part-size-spec =

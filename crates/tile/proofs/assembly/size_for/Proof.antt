@@ -13,10 +13,11 @@ use Rattle.tile.proofs.assembly.size_for.Statement.{statement}
 use Rattle.tile.proofs.assembly.size_for.Tie as tie
 
 abbrev Inv-loop : tie.InvT-loop
-Inv-loop header tile-parts codestream at₀ at = (at ≤ length tile-parts) × (sizeFor header (partsFrom codestream tile-parts at) ≡ sizeFor header (partsFrom codestream tile-parts 0))
+Inv-loop header tile-parts codestream rule at₀ at =
+    (at ≤ length tile-parts) × (sizeFor rule header (partsFrom codestream tile-parts at) ≡ sizeFor rule header (partsFrom codestream tile-parts 0))
 
 abbrev μ-loop : tie.MeasureT-loop
-μ-loop header tile-parts codestream at₀ at = length tile-parts - at
+μ-loop header tile-parts codestream rule at₀ at = length tile-parts - at
 
 abbrev start : tie.At-loop Inv-loop μ-loop → tie.Start Inv-loop μ-loop
 start c = c .before .before .before .before
@@ -56,7 +57,7 @@ loop-again c =
     let l = r .before .before in
     let a = start l .args in
     let gone = parts-dropped (a .codestream .now) (a .tile-parts .now) (l .loop .at) (omega arith) (sym (r .range-at .ensures) ∙ c .enum-told .given .1) in
-    (omega arith, ap (sizeFor (a .header .now)) (sym gone) ∙ l .loop .inv .1)
+    (omega arith, ap (sizeFor (a .rule) (a .header .now)) (sym gone) ∙ l .loop .inv .1)
 
 sub-part-size : tie.Need-sub-part-size Inv-loop μ-loop
 sub-part-size c = let h = kept-inside _ _ (found (c .before)) in h .0
@@ -76,14 +77,14 @@ returns c =
     let f = c .before .before .before in
     let l = head f in
     let a = start l .args in
-    c .part-size .ensures ∙ sym (for-first (a .header .now) (parts-kept (a .codestream .now) (a .tile-parts .now) (l .loop .at) (omega arith) _ _ (found f))) ∙ l .loop .inv .1
+    c .part-size .ensures ∙ sym (for-first (a .rule) (a .header .now) (parts-kept (a .codestream .now) (a .tile-parts .now) (l .loop .at) (omega arith) _ _ (found f))) ∙ l .loop .inv .1
 
 returns-2 : tie.Need-returns-2 Inv-loop μ-loop
 unfolding ranges
 returns-2 c =
     let l = c .before in
     let a = start l .args in
-    sym (for-none (a .header .now) (parts-none (a .codestream .now) (a .tile-parts .now) (l .loop .at) (omega arith))) ∙ l .loop .inv .1
+    sym (for-none (a .rule) (a .header .now) (parts-none (a .codestream .now) (a .tile-parts .now) (l .loop .at) (omega arith))) ∙ l .loop .inv .1
 
 pub size-for-spec : {M : Type 1} → statement M
 size-for-spec =

@@ -110,7 +110,7 @@ returns c =
     let l = c .before in
     let a = start l .args in
     let none = ap length (joined-none (parts-none (a .codestream .now) (a .tile-parts .now) (l .loop .at) (omega arith))) in
-    omega (arith, l .loop .inv .total, l .loop .inv .fits, length-assembled (a .header .now) (partsFrom (a .codestream .now) (a .tile-parts .now) 0))
+    omega (arith, l .loop .inv .total, l .loop .inv .fits)
 
 pub size-needed-spec : {M : Type 1} → statement M
 size-needed-spec =

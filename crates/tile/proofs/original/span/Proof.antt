@@ -1,25 +1,22 @@
 -- A u64 holds each step; where the last sum fits 32 bits those before it do, and the tests are the definition's.
-use Prim.Native.Nat.{ℕ, _+_, _*_, _^_, _≤_, _<_}
+use Prim.Native.Nat.{_+_, _*_}
 use native.Mathlib.Omega.{arith}
-use native.Mathlib.Nat.{mul-le-mul}
 use mathlib.Core.Path.{sym, ap, _∙_}
 use borrow.Author.Needs.{needs}
+use Rattle.numbers.proofs.BytesLaws.{product-fits}
 use Rattle.tile.proofs.OriginalLaws.{axis-inside, axis-below, axis-passes}
 use Rattle.tile.specs.declared.original.Axis.the-variants.{Span}
 use Rattle.tile.proofs.original.span.Statement.{statement}
 use Rattle.tile.proofs.original.span.Tie as tie
 
-product : (a b : ℕ) → a < 2 ^ 32 → b < 2 ^ 32 → a * b ≤ 0xffffffff * 0xffffffff
-product a b h k = mul-le-mul {n₁ = a} {m₁ = b} {n₂ = 0xffffffff} {m₂ = 0xffffffff} (omega arith) (omega arith)
-
 mul-from : tie.Need-mul-from
-mul-from c = let a = c .args in omega (arith, product (a .cell) (a .size) (search needs) (search needs))
+mul-from c = let a = c .args in omega (arith, product-fits (a .cell) (a .size) (search needs) (search needs))
 
 add-from : tie.Need-add-from
-add-from c = let a = c .args in omega (arith, product (a .cell) (a .size) (search needs) (search needs))
+add-from c = let a = c .args in omega (arith, product-fits (a .cell) (a .size) (search needs) (search needs))
 
 add-to : tie.Need-add-to
-add-to c = let a = c .args in omega (arith, product (a .cell) (a .size) (search needs) (search needs))
+add-to c = let a = c .args in omega (arith, product-fits (a .cell) (a .size) (search needs) (search needs))
 
 returns : tie.Need-returns
 returns c = sym (axis-passes _ _ _ _ (omega (arith, c .if1 .taken)))

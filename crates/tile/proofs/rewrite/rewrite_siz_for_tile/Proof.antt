@@ -13,7 +13,7 @@ abbrev start : tie.After-judge → tie.Start
 start c = c .before .before .before .before
 
 answered : (c : tie.After-judge)
-    → c .judge .result ≡ rewriteAnswer (start c .args .decode-header .now) (start c .args .isot) (length (start c .args .out .now))
+    → c .judge .result ≡ rewriteAnswer (start c .args .rule) (start c .args .decode-header .now) (start c .args .isot) (length (start c .args .out .now))
 unfolding rewriteAnswer
 answered c = cc
 
@@ -38,7 +38,7 @@ returns c =
 write-header-requires : tie.Need-write-header-requires
 write-header-requires c κs =
     let j = c .before .before .before in
-    (rw (j .before .tile-size .ensures) (size-room _ _), judged-bytes _ _ _ _ (sym (j .judge .ensures) ∙ c .before .enum-told .given .1) .1)
+    (rw (j .before .tile-size .ensures) (size-room _ _ _), judged-bytes _ _ _ _ (sym (j .judge .ensures) ∙ c .before .enum-told .given .1) .1)
 
 same-length : tie.Need-same-length
 same-length c = search needs
@@ -54,7 +54,7 @@ returns-2 c =
     let n = judged-bytes _ _ _ _ (sym (j .judge .ensures) ∙ e) .0 in (
       answered j,
       c .before .before .write-header .ensures ∙ ap (λ (s : TileSize). put (a .out .now) 0 (cutTo s (a .decode-header .now))) size
-          ∙ sym (over-bytes _ _ (rewritten (a .decode-header .now) (a .isot)) _ (sym (answered j) ∙ e) (length-rewritten (a .decode-header .now) (a .isot) ∙ n)),
+          ∙ sym (over-bytes _ _ (rewritten (a .rule) (a .decode-header .now) (a .isot)) _ (sym (answered j) ∙ e) (length-rewritten (a .rule) (a .decode-header .now) (a .isot) ∙ n)),
     )
 
 pub rewrite-siz-for-tile-spec : {M : Type 1} → statement M

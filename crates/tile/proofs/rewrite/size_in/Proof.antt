@@ -1,35 +1,34 @@
--- The tile's area is the definition's, and within the image, so that neither difference falls below 0.
+-- The tile's area is the rule's, and within the image, so that neither difference falls below 0.
 use Prim.Native.Nat.{_-_}
 use mathlib.Core.Path.{_≡_, sym, _∙_}
 use borrow.Author.Needs.{needs}
 use Rattle.types.specs.Area.{Inside}
-use Rattle.tile.specs.Original.{tileArea}
-use Rattle.tile.specs.Rules.{imageArea}
+use Rattle.tile.specs.Rules.{imageArea, placedBy}
 use Rattle.tile.specs.Rewrite.{sized}
-use Rattle.tile.specs.declared.original.TileArea.the-variants.{Tile}
-use Rattle.tile.proofs.OriginalLaws.{tile-within}
-use Rattle.tile.proofs.RewriteLaws.{size-outside, size-inside}
+use Rattle.tile.specs.declared.rules.Placed.the-variants.{Tile}
+use Rattle.tile.proofs.RulesLaws.{tile-within}
+use Rattle.tile.proofs.RewriteLaws.{size-refused, size-inside}
 use Rattle.tile.proofs.rewrite.size_in.Statement.{statement}
 use Rattle.tile.proofs.rewrite.size_in.Tie as tie
 
 -- the area that was found
-found : (c : tie.After-area) → let a = c .before .before .before .before .args in tileArea (a .header .now) (a .isot) ≡ Tile (c .area .given .0 .0)
-found c = sym (c .before .before .tile-area .ensures) ∙ c .area .given .1
+found : (c : tie.After-area) → let a = c .before .before .before .before .args in placedBy (a .rule) (a .header .now) (a .isot) ≡ Tile (c .area .given .0 .0)
+found c = sym (c .before .before .place .ensures) ∙ c .area .given .1
 
 within : (c : tie.After-area) → Inside (c .area .given .0 .0) (imageArea (c .before .before .before .before .args .header .now))
-within c = tile-within _ _ _ (found c)
+within c = tile-within _ _ _ _ (found c)
 
-tile-area-requires : tie.Need-tile-area-requires
-tile-area-requires c κs = search needs
+place-requires : tie.Need-place-requires
+place-requires c κs = search needs
 
 enum-known-area : tie.Need-enum-known-area
 enum-known-area c = search needs
 
-enum-told : tie.Need-enum-told
-enum-told c = search needs
+enum-known-refusal : tie.Need-enum-known-refusal
+enum-known-refusal c = search needs
 
 returns : tie.Need-returns
-returns c = sym (size-outside _ _ (sym (c .before .before .tile-area .ensures) ∙ c .enum-told .given .1))
+returns c = let r = c .before in sym (size-refused _ _ _ _ (sym (r .before .before .place .ensures) ∙ r .refusal .given .1))
 
 field-requires : tie.Need-field-requires
 field-requires c κs = search needs
@@ -53,15 +52,15 @@ returns-2 c =
     let a = e .area .given .0 .0 in
     c .full-or-cut .ensures
     ∙ (λ i. sized (a .x1 - a .x0) (a .y1 - a .y0) (s .before .before .field .ensures i) (s .before .field2 .ensures i))
-    ∙ sym (size-inside _ _ _ (found e))
+    ∙ sym (size-inside _ _ _ _ (found e))
 
 pub size-in-spec : {M : Type 1} → statement M
 size-in-spec =
     tie.close
     (tie.spec
-    tile-area-requires
+    place-requires
     enum-known-area
-    enum-told
+    enum-known-refusal
     returns
     field-requires
     field-requires-2
