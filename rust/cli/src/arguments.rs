@@ -2,7 +2,7 @@
 
 use std::path::PathBuf;
 
-use clap::{value_parser, Args, Parser, Subcommand};
+use clap::{value_parser, Args, Parser, Subcommand, ValueEnum};
 use clap_complete::Shell;
 
 const EXAMPLES: &str = "\
@@ -46,6 +46,7 @@ Examples:
   winterhasp tile flight.jp2 5                writes flight.tile5.j2k
   winterhasp tile flight.jp2 5 -o five.j2k
   winterhasp tile flight.jp2 5 -o - | opj_decompress ..
+  winterhasp tile flight.jp2 5 --rule original    to compare with the ported program
 
 OUT is written beside and renamed when it is whole; it is never the file that is read.";
 
@@ -122,6 +123,26 @@ pub struct Tile {
     /// current folder]
     #[arg(short, long, value_name = "OUT")]
     pub out: Option<PathBuf>,
+    /// annex-b counts tiles from the tiles' origin, as the standard does. original counts them from the
+    /// image's origin, as the ported program does
+    #[arg(long, value_enum, default_value_t)]
+    pub rule: Rule,
+}
+
+#[derive(Clone, Copy, Default, ValueEnum)]
+pub enum Rule {
+    #[default]
+    AnnexB,
+    Original,
+}
+
+impl From<Rule> for winterhasp::Rule {
+    fn from(rule: Rule) -> Self {
+        match rule {
+            Rule::AnnexB => winterhasp::Rule::AnnexB,
+            Rule::Original => winterhasp::Rule::Original,
+        }
+    }
 }
 
 #[derive(Args)]
@@ -144,4 +165,38 @@ fn index(word: &str) -> Result<u16, String> {
     let digits = word.bytes().all(|byte| byte.is_ascii_digit());
     let number = word.parse().ok().filter(|_| digits);
     number.ok_or_else(|| "a number from 0 to 65535 is needed, in plain digits".to_string())
+}
+
+#[cfg(test)]
+mod tests {
+    use clap::{CommandFactory, Parser};
+
+    use super::{Arguments, Command};
+
+    fn rule(words: &[&str]) -> Option<winterhasp::Rule> {
+        let words = ["winterhasp", "tile", "flight.jp2", "5"]
+            .iter()
+            .chain(words);
+        let arguments = Arguments::try_parse_from(words).ok()?;
+        match arguments.command {
+            Command::Tile(tile) => Some(tile.rule.into()),
+            _ => None,
+        }
+    }
+
+    #[test]
+    fn the_standards_rule_is_the_default() {
+        assert_eq!(rule(&[]), Some(winterhasp::Rule::default()));
+        assert_eq!(rule(&["--rule", "annex-b"]), Some(winterhasp::Rule::AnnexB));
+        assert_eq!(rule(&["--rule=original"]), Some(winterhasp::Rule::Original));
+        for wrong in ["", "annex", "AnnexB", "annex_b", "Original", "2"] {
+            assert_eq!(rule(&["--rule", wrong]), None, "{wrong}");
+        }
+        assert_eq!(rule(&["--rule"]), None);
+    }
+
+    #[test]
+    fn the_words_fit_together() {
+        Arguments::command().debug_assert();
+    }
 }

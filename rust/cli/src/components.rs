@@ -3,7 +3,7 @@
 use serde::Serialize;
 use winterhasp::{Area, Component, Components, FileOffset, Refusal};
 
-use crate::siz::{box_text, Siz};
+use crate::siz::box_text;
 use crate::tiles::range_text;
 use crate::trouble::Refused;
 
@@ -126,49 +126,24 @@ fn area_text(area: &Area) -> String {
 /// The components in one tile.
 #[derive(Serialize)]
 pub struct InTile {
-    index: u16,
-    /// What has to be known of these sizes.
-    note: Option<&'static str>,
+    pub index: u16,
     #[serde(flatten)]
-    sizes: Sizes,
+    pub sizes: Sizes,
 }
 
 impl InTile {
-    pub fn of(index: u16, siz: &Siz, sizes: Sizes) -> Self {
-        InTile {
-            index,
-            note: note(index, siz),
-            sizes,
-        }
-    }
-
     /// The tile itself, and the components in it.
     pub fn lines(&self) -> Vec<Line> {
         let index = self.index;
-        let (mut tile, mut lines) = match &self.sizes {
+        let (tile, mut lines) = match &self.sizes {
             Sizes::Read { area, .. } => {
                 let components = self.sizes.lines(format!("in tile {index}"));
                 (area_text(area), components)
             }
             Sizes::Refused { refused } => (refused_text(refused), Vec::new()),
         };
-        if let Some(note) = self.note {
-            tile = format!("{tile}; note: {note}");
-        }
         lines.insert(0, (format!("tile {index}"), tile));
         lines
-    }
-}
-
-/// The rules give sizes where the standard has no such tile, or another.
-fn note(index: u16, siz: &Siz) -> Option<&'static str> {
-    match siz.grid() {
-        None => Some("the tiles make no grid"),
-        Some(grid) if grid.tiles() <= index.into() => Some("the grid has no such tile"),
-        Some(_) if siz.origin != siz.tile_origin => {
-            Some("counted from the image's origin, as it is cut, and not from the tiles' origin")
-        }
-        Some(_) => None,
     }
 }
 

@@ -155,16 +155,16 @@ impl Report {
             tile: None,
             grid: None,
             components: components.map(|read| Sizes::of(read, start)),
-            in_tile: None,
+            in_tile: tile.zip(in_tile).map(|(index, read)| InTile {
+                index,
+                sizes: Sizes::of(read, start),
+            }),
             tile_parts: None,
             tiles: None,
             scan_ended: None,
         };
         if let Some(siz) = &siz {
             report.add_siz(siz);
-            let in_tile = tile.zip(in_tile);
-            report.in_tile =
-                in_tile.map(|(tile, read)| InTile::of(tile, siz, Sizes::of(read, start)));
         }
         if let Some(codestream) = stages.codestream {
             let parts = stages.parts;

@@ -1,5 +1,6 @@
-//! Image and tiles by SIZ, and the grid of tiles by ISO/IEC 15444-1, B.3. The grid is computed here
-//! only until the library gives it proved; then this goes.
+//! Image and tiles by SIZ, and the grid of tiles by ISO/IEC 15444-1, B.3. The library is proved to refuse
+//! a tile by that grid, and tells no columns and rows: these are computed here, unproved, for words and
+//! pictures, and a test holds them to its refusals. They go when the library gives them.
 
 use winterhasp::Components;
 
@@ -53,6 +54,11 @@ impl Siz {
         Grid::of(self)
     }
 
+    /// Whether the first tile is smaller than a full one, since the tiles start before the image.
+    pub fn starts_clipped(&self) -> bool {
+        self.grid().is_some() && self.origin != self.tile_origin
+    }
+
     /// Why a tile that is moved to the origin may decode to other pixels; nothing where it may not. The
     /// components are none where they are refused.
     pub fn moved(&self, components: Option<Components>) -> Option<&'static str> {
@@ -84,12 +90,14 @@ pub struct Grid {
 }
 
 impl Grid {
-    /// Nothing where a tile has no width or height, or the image ends before the first tile starts.
+    /// Nothing where the library refuses every tile (30): on each axis the first tile starts at or before
+    /// the image, which is not empty, and reaches into it.
     fn of(siz: &Siz) -> Option<Self> {
         let along = |axis: usize| {
-            let reach = siz.size[axis].checked_sub(siz.tile_origin[axis])?;
-            let count = reach.checked_add(siz.tile[axis].checked_sub(1)?)? / siz.tile[axis];
-            (count > 0).then_some(count)
+            let (start, end) = (siz.origin[axis], siz.size[axis]);
+            let (first, side) = (siz.tile_origin[axis], siz.tile[axis]);
+            let laid = first <= start && start < end && side > 0 && start < first + side;
+            laid.then(|| (end - first).div_ceil(side))
         };
         Some(Grid {
             columns: along(0)?,
@@ -105,7 +113,7 @@ impl Grid {
 
 #[cfg(test)]
 mod tests {
-    use winterhasp::Components;
+    use winterhasp::{rewrite_siz_for_tile, Components};
 
     use super::{Grid, Siz};
 
@@ -135,24 +143,77 @@ mod tests {
 
     #[test]
     fn the_grid_is_counted_from_the_tiles_origin() {
-        let grid = |size, tile, tile_origin| {
+        let grid = |size, origin, tile, tile_origin| {
             let siz = Siz {
                 size,
+                origin,
                 tile,
                 tile_origin,
-                ..siz()
             };
             siz.grid().map(|Grid { columns, rows }| (columns, rows))
         };
-        assert_eq!(grid([10, 6], [4, 4], [0, 0]), Some((3, 2)));
-        assert_eq!(grid([8, 8], [4, 4], [0, 0]), Some((2, 2)));
-        assert_eq!(grid([9, 9], [4, 4], [1, 1]), Some((2, 2)));
-        assert_eq!(grid([9, 9], [4, 4], [0, 1]), Some((3, 2)));
+        assert_eq!(grid([10, 6], [0, 0], [4, 4], [0, 0]), Some((3, 2)));
+        assert_eq!(grid([8, 8], [0, 0], [4, 4], [0, 0]), Some((2, 2)));
+        assert_eq!(grid([9, 9], [1, 1], [4, 4], [1, 1]), Some((2, 2)));
+        assert_eq!(grid([9, 9], [1, 1], [4, 4], [0, 1]), Some((3, 2)));
         let most = u64::from(u32::MAX);
-        assert_eq!(grid([most, most], [1, 1], [0, 0]), Some((most, most)));
-        assert_eq!(grid([10, 6], [0, 4], [0, 0]), None);
-        assert_eq!(grid([10, 6], [4, 4], [10, 0]), None);
-        assert_eq!(grid([10, 6], [4, 4], [0, 7]), None);
+        let all = Some((most, most));
+        assert_eq!(grid([most, most], [0, 0], [1, 1], [0, 0]), all);
+        let one = Some((1, 1));
+        let last = [most - 1, most - 1];
+        assert_eq!(grid([most, most], last, [most, most], last), one);
+    }
+
+    /// Fields from 0 to 3 on one axis, with the other's at 0 to 1 in a tile of 1, and then on both.
+    #[test]
+    fn the_grid_is_the_one_by_which_the_library_refuses() {
+        let axes: Vec<_> = (0..256_u32)
+            .map(|all| [0, 2, 4, 6].map(|at| all >> at & 3))
+            .collect();
+        let plain = [1, 0, 1, 0];
+        let pairs = axes
+            .iter()
+            .flat_map(|&axis| [[axis, plain], [plain, axis], [axis, axis]]);
+        let mut grids = 0;
+        for [x, y] in pairs {
+            let mut header = SAMPLE.to_vec();
+            for number in 0..4 {
+                for (at, field) in [(8, x[number]), (12, y[number])] {
+                    let at = at + 8 * number;
+                    header[at..at + 4].copy_from_slice(&field.to_be_bytes());
+                }
+            }
+            let refused = |tile| {
+                let refusal = rewrite_siz_for_tile(&header, tile).err();
+                refusal.map(|refusal| refusal.number())
+            };
+            let grid = Siz::of(&header).expect("a whole SIZ").grid();
+            grids += u32::from(grid.is_some());
+            for tile in [0, 1, 2, 3, 8, 9, u16::MAX] {
+                let wanted = match grid {
+                    None => Some(30),
+                    Some(grid) => (grid.tiles() <= tile.into()).then_some(31),
+                };
+                assert_eq!(refused(tile), wanted, "{x:?} {y:?} {tile}");
+            }
+        }
+        assert!(grids > 0);
+    }
+
+    #[test]
+    fn the_first_tile_is_smaller_where_tiles_start_before_the_image() {
+        let clipped = |origin, tile_origin| {
+            let siz = Siz {
+                origin,
+                tile_origin,
+                ..siz()
+            };
+            siz.starts_clipped()
+        };
+        assert!(!clipped([0, 0], [0, 0]) && !clipped([3, 1], [3, 1]));
+        assert!(clipped([1, 0], [0, 0]) && clipped([3, 3], [3, 2]));
+        // no grid
+        assert!(!clipped([0, 0], [1, 0]) && !clipped([4, 0], [0, 0]));
     }
 
     #[test]
