@@ -11,6 +11,7 @@ import argparse
 import concurrent.futures
 import json
 import os
+import re
 import resource
 import shutil
 import struct
@@ -35,6 +36,7 @@ TOO_LARGE = "File too large (os error 27)"
 CHANGED = "the file changed while it was read: wait until nobody writes to it, then try again"
 SAME = "this is the file that is read, and it is not written over"
 NOT_AN_INDEX = "a number from 0 to 65535 is needed, in plain digits"
+ANNEX_B, ORIGINAL = RULES_OF_TILES = ["annex-b", "original"]
 
 # What was in OUT before, where something was.
 KEPT = b"kept"
@@ -82,7 +84,6 @@ def of_components(out):
 def measured(area, components):
     """What JSON has of them in an area, by the standard's own sums."""
     names = ["x0", "y0", "x1", "y1"]
-    up = lambda number, divisor: -(-number // divisor)
     described = [
         {"bits": depth % 128 + 1, "signed": depth >= 128, "xrsiz": dx, "yrsiz": dy}
         | {name: up(edge, apart) for name, edge, apart in zip(names, area, (dx, dy, dx, dy))}
@@ -116,6 +117,70 @@ def with_header(*segments, parts):
     return SOC + b"".join(segments) + parts + EOC
 
 
+# Tiles by either rule, in a codestream without TLM whose SIZ is whole
+
+FIELDS = ["Xsiz", "Ysiz", "XOsiz", "YOsiz", "XTsiz", "YTsiz", "XTOsiz", "YTOsiz"]
+
+
+def edited(content, **fields):
+    """A codestream with other numbers in SIZ."""
+    for name, number in fields.items():
+        at = 8 + 4 * FIELDS.index(name)
+        content = content[:at] + struct.pack(">I", number) + content[at + 4 :]
+    return content
+
+
+def up(number, divisor):
+    return -(-number // divisor)
+
+
+def annex_b(axes, tile):
+    """((x0, x1), (y0, y1)) of a tile by the standard, or the number of the refusal."""
+    for end, origin, size, first in axes:
+        if not (first <= origin < end and size >= 1 and first + size > origin):
+            return 30
+    columns, rows = (up(end - first, size) for end, _, size, first in axes)
+    if tile >= columns * rows:
+        return 31
+    places = zip(axes, (tile % columns, tile // columns))
+    return [(max(first + at * size, origin), min(first + (at + 1) * size, end)) for (end, origin, size, first), at in places]
+
+
+def original(axes, tile):
+    """The same by the rule of the original, in 32 bits."""
+    (x_end, x_origin, x_size, _), _ = axes
+    if x_end <= x_origin or x_size == 0:
+        return 10
+    columns = up(x_end - x_origin, x_size)
+    found = []
+    for (end, origin, size, _), at in zip(axes, (tile % columns, tile // columns)):
+        start = origin + at * size
+        if start > end or start + size >= 2**32:
+            return 10
+        found.append((start, min(start + size, end)))
+    return found
+
+
+def cut_of(content, tile, rule):
+    """The codestream that a tile has to be cut to, or the number of the refusal."""
+    numbers = struct.unpack_from(">8I", content, 8)
+    area = {ANNEX_B: annex_b, ORIGINAL: original}[rule]([numbers[0::2], numbers[1::2]], tile)
+    if isinstance(area, int):
+        return area
+    first = content.index(b"\xff\x90\0\x0a")
+    header, at, parts = content[:first], first, b""
+    width, height = (end - start for start, end in area)
+    if (width, height) != numbers[4:6]:
+        sizes = [width, height, 0, 0, width, height, 0, 0]
+        header = edited(header, **dict(zip(FIELDS, sizes)))
+    while content[at : at + 2] != EOC:
+        index, length = struct.unpack_from(">HI", content, at + 4)
+        if index == tile:
+            parts += content[at : at + 4] + bytes(2) + content[at + 6 : at + length]
+        at += length
+    return header + parts + EOC
+
+
 # Sample A: tiles of 4 by 4, and of tile 5 the image has 2 by 2
 SAMPLE = (ROOT / "crates/tileparts/stdin").read_bytes()
 SAMPLE_LISTED = [(0, 57, 14), (5, 71, 16)]
@@ -133,7 +198,7 @@ _, THREE_PARTS = codestream([], [14, 40, 14])
 SHORT_PSOT = THREE_PARTS[: SECOND + 9] + b"\x1e" + THREE_PARTS[SECOND + 10 :]
 # the last part says nothing of its length
 OPEN = TWO_PARTS[: SECOND + 9] + b"\0" + TWO_PARTS[SECOND + 10 :]
-# a grid by which the rules refuse a tile that is there
+# a grid by which the original's rule refuses a tile that is there
 FAR = size_segment((2, 6), (2**32 - 1, 4), origin=(1, 0))
 MANY = 12_000
 COMPONENTS = [(7, 1, 1), (7, 2, 3), (7, 2, 3), (0x8B, 1, 1)]
@@ -163,8 +228,11 @@ FILES = {
     "most-alike.j2k": with_header(size_segment((10, 6), (4, 4), components=COMPONENTS[1:2] * MOST_COMPONENTS), parts=part(0, 14)),
     "most.j2k": with_header(size_segment((10, 6), (4, 4), components=ALL_DIFFERENT), parts=part(0, 14)),
     "not-held.jp2": jp2(with_header(siz().replace(bytes([0, 1, 7, 1, 1]), bytes([0, 2, 7, 1, 1])), parts=part(0, 14))),
-    "0-apart.j2k": with_header(size_segment((8, 8), (4, 4), components=COMPONENTS + [(7, 1, 0)]), parts=part(0, 14)),
-    "origins.j2k": with_header(size_segment((9, 8), (4, 4), (1, 0)), parts=part(1, 14)),
+    "0-apart.j2k": with_header(size_segment((8, 8), (4, 4), components=COMPONENTS + [(7, 1, 0)]), parts=part(1, 14)),
+    "before.j2k": with_header(size_segment((11, 8), (4, 4), (3, 0), (1, 0)), parts=b"".join(part(tile, 14) for tile in range(6))),
+    "behind-it.jp2": jp2(with_header(size_segment((9, 8), (4, 4), (1, 0), (2, 0)), parts=part(0, 14))),
+    "not-reached.j2k": with_header(size_segment((9, 8), (4, 4), (4, 0)), parts=part(0, 14)),
+    "empty.j2k": with_header(size_segment((4, 4), (4, 4), (4, 0)), parts=part(0, 14)),
     "flat.j2k": with_header(size_segment((8, 8), (4, 0)), parts=part(0, 14)),
     "too-many.j2k": with_header(size_segment((65_536, 1), (1, 1)), parts=part(65_535, 14)),
     "no-grid.j2k": with_header(size_segment((8, 8), (0, 4)), parts=part(0, 14)),
@@ -241,6 +309,20 @@ def canvas(tile, size):
     )
 
 
+def smaller(tile):
+    return (
+        f"note: tile {tile} has full size and keeps the whole image's header, whose tile 0 is smaller, as the tiles start before "
+        f"the image: it decodes wrong, so decode tile {tile} of the whole file (opj_decompress -t {tile})"
+    )
+
+
+def elsewhere(tile):
+    return (
+        f"note: by --rule original tile {tile} is counted from the image's origin, and not from the tiles' origin: "
+        f"it may be another piece of ground than the standard's tile {tile}"
+    )
+
+
 def moved(tile, why):
     return f"note: tile {tile} is moved to the origin and may decode to other pixels than in the whole image, since {why}"
 
@@ -292,6 +374,10 @@ SHOWS = {
     "moved.j2k": ["image       8 by 8, from 1, 0 on", "tiles       4 by 4, from 1, 0 on; 4 in a grid of 2 by 2"],
     "too-many.j2k": ["present     1 of 65536 tiles", "missing     65535; more tiles than an index can name"],
     "no-grid.j2k": ["tiles       0 by 4, from 0, 0 on; they make no grid"],
+    "before.j2k": ["image       8 by 8, from 3, 0 on", "tiles       4 by 4, from 1, 0 on; 6 in a grid of 3 by 2"],
+    "behind-it.jp2": ["tiles       4 by 4, from 2, 0 on; they make no grid"],
+    "not-reached.j2k": ["tiles       4 by 4, from 0, 0 on; they make no grid"],
+    "empty.j2k": ["image       0 by 4, from 4, 0 on", "tiles       4 by 4, from 0, 0 on; they make no grid"],
 }
 
 
@@ -418,10 +504,10 @@ class Runs:
             status, out, error = self.run("show", "--json", *words, "components.j2k")
             found = json.loads(out)
             self.hold(f"show --json {words}", (status, found["components"], error), (0, measured(areas[None], COMPONENTS), ""))
-            wanted = None if tile is None else {"index": tile, "note": None} | measured(area, COMPONENTS)
+            wanted = None if tile is None else {"index": tile} | measured(area, COMPONENTS)
             self.hold(f"show --json {words}", found["in_tile"], wanted)
         self.components_refused()
-        self.components_noted()
+        self.tile_refused()
         self.most_components()
 
     def components_refused(self):
@@ -449,27 +535,27 @@ class Runs:
         _, out, said = self.run("show", "--tile", "0", "siz-back.j2k")
         self.hold("show --tile 0 siz-back.j2k", (of_components(out), said), ([], about("siz-back.j2k", sentence(22, 2))))
 
-    def components_noted(self):
-        """A tile that is refused, that the grid does not have, or that the standard has elsewhere."""
-        none, no_grid = "the grid has no such tile", "the tiles make no grid"
-        elsewhere = "counted from the image's origin, as it is cut, and not from the tiles' origin"
-        for file, tile, start, note in (
-            ("a.j2k", 6, 0, none), ("a.jp2", 65_535, START, none), ("far.jp2", 0, START, elsewhere), ("no-grid.j2k", 0, 0, no_grid),
+    def tile_refused(self):
+        """A tile that the grid does not have, or of tiles that make no grid: all else is shown, and the status is 1."""
+        for file, tile, start, number in (
+            ("a.j2k", 6, 0, 31), ("a.jp2", 65_535, START, 31), ("third.j2k", 4, 0, 31), ("before.j2k", 6, 0, 31),
+            ("no-grid.j2k", 0, 0, 30), ("flat.j2k", 1, 0, 30), ("behind-it.jp2", 0, START, 30), ("not-reached.j2k", 7, 0, 30),
+            ("empty.j2k", 0, 0, 30),
         ):  # fmt: skip
             status, out, said = self.run("show", "--tile", str(tile), file)
-            line = f"{f'tile {tile}':<11} refused {refused_line(10, 2)}; note: {note}"
+            line = f"{f'tile {tile}':<11} refused {refused_line(number, 2)}"
             saw = status, of_components(out)[1:], out.splitlines()[-1], said
-            wanted = 1, [line], f"refused     {refused_line(10, 2)}", about(file, f"tile {tile}: {sentence(10, 2, start)}")
+            wanted = 1, [line], f"refused     {refused_line(number, 2)}", about(file, f"tile {tile}: {sentence(number, 2, start)}")
             self.hold(f"show --tile {tile} {file}", saw, wanted)
-            found = json.loads(self.run("show", "--json", "--tile", str(tile), file)[1])["in_tile"]
-            self.hold(f"show --json --tile {tile} {file}", (found["refused"]["number"], found["note"]), (10, note))
-        for file, tile, size, note in (
-            ("third.j2k", 4, "4 by 0, from 0, 8", none), ("origins.j2k", 1, "4 by 4, from 5, 0", elsewhere),
-            ("flat.j2k", 1, "4 by 0, from 4, 0", no_grid),
-        ):  # fmt: skip
-            status, out, _ = self.run("show", "--tile", str(tile), file)
-            line = f"tile {tile}      {size} on; note: {note}"
-            self.hold(f"show --tile {tile} {file}", (status, of_components(out)[1]), (0, line))
+            status, out, _ = self.run("show", "--json", "--tile", str(tile), file)
+            found = json.loads(out)
+            words = WORDS[number]
+            why = {"number": number, "name": words.name, "place": 2, "counts_from": words.origin, "file_offset": start + 2}
+            why |= {"wrong": words.wrong, "remedy": words.remedy}
+            saw = status, found["status"], found["refused"], found["in_tile"], found["grid"] is None
+            self.hold(f"show --json --tile {tile} {file}", saw, (1, "refused", why, {"index": tile, "refused": why}, number == 30))
+            # without the tile it is accepted
+            self.hold(f"show {file}", self.run("show", file)[0], 0)
 
     def most_components(self):
         """As many as there may be, and quickly, emulator and all: each is read once."""
@@ -486,29 +572,29 @@ class Runs:
         print(f"command: show most.j2k: {took:.2f} s")
         found = json.loads(self.run("show", "--json", "--tile", "5", "most.j2k")[1])
         self.hold("show --json most.j2k", found["components"], measured((0, 0, 10, 6), ALL_DIFFERENT))
-        self.hold("show --json most.j2k", found["in_tile"], {"index": 5, "note": None} | measured((8, 4, 10, 6), ALL_DIFFERENT))
+        self.hold("show --json most.j2k", found["in_tile"], {"index": 5} | measured((8, 4, 10, 6), ALL_DIFFERENT))
 
     def tiles(self):
         absent = "tile {} has no tile-part; `winterhasp show` lists the tiles that are missing"
         outside = "tile {} lies outside the grid of 3 by 2 tiles, which are 0 to 5; check the index"
-        for file in "a.j2k", "a.jp2":
-            for index, why in ("1", absent), ("4", absent), ("6", outside), ("65535", outside):
-                self.cases([Case(["tile", file, index, "-o", OUT], 1, error=about(file, why.format(index)))])
-        self.cases([Case(["tile", "outside.j2k", "6", "-o", OUT], 1, error=about("outside.j2k", outside.format(6)))])
-        far = f"tile 0: {sentence(10, 2, START)}"
-        self.cases([Case(["tile", "far.jp2", "0", "-o", OUT], 1, error=about("far.jp2", far))])
+        for rule in [], *(["--rule", rule] for rule in RULES_OF_TILES):
+            for file in "a.j2k", "a.jp2":
+                for index, why in ("1", absent), ("4", absent), ("6", outside), ("65535", outside):
+                    self.cases([Case(["tile", file, index, "-o", OUT, *rule], 1, error=about(file, why.format(index)))])
+            self.cases([Case(["tile", "outside.j2k", "6", "-o", OUT, *rule], 1, error=about("outside.j2k", outside.format(6)))])
         origin = "the image or its tiles do not start at 0"
         notes = {
             "odd.j2k": [moved(1, "the sides of its tiles are not powers of two"), canvas(1, (9, 3))],
             "moved.j2k": [moved(1, origin), canvas(1, (8, 8))],
             "third.j2k": [moved(1, "its subsampling is not by powers of two"), canvas(1, (8, 8))],
-            "0-apart.j2k": [moved(0, "its size segment (SIZ) does not tell the subsampling"), canvas(0, (8, 8))],
+            "0-apart.j2k": [moved(1, "its size segment (SIZ) does not tell the subsampling"), canvas(1, (8, 8))],
             "one.j2k": [],
         }
         for file, said in notes.items():
-            index = "0" if file in ("one.j2k", "0-apart.j2k") else "1"
+            index = "0" if file == "one.j2k" else "1"
             error = "".join(about(file, note) for note in said)
-            self.hold(f"tile {file}", self.run("tile", file, index, "-o", OUT), (0, "", error))
+            for rule in RULES_OF_TILES:
+                self.hold(f"tile {file} {rule}", self.run("tile", file, index, "--rule", rule, "-o", OUT), (0, "", error))
         # standard output, and a name made of the file's and the index
         ended = subprocess.run([self.program, "tile", "a.j2k", "5", "-o", "-"], cwd=self.folder, capture_output=True)
         self.hold("tile a.j2k 5 -o -", (ended.returncode, ended.stdout, ended.stderr), (0, TILES[5], b""))
@@ -520,6 +606,92 @@ class Runs:
         self.run("tile", "twice.j2k", "0", "-o", OUT)
         joined = HEADER + part(0, 14) + part(0, 15) + EOC
         self.hold("tile twice.j2k 0", (self.folder / OUT).read_bytes(), joined)
+
+    def rules(self):
+        """Tiles by either rule, where tiles start before the image: built here, by editing sample A, and of OpenJPEG, as it is and with
+        a damaged SIZ."""
+        origin = "the image or its tiles do not start at 0"
+        # 3 columns from 1 on, and the image from 3 on: the first is 2 wide, the next has full size, and the last is 2 wide
+        notes = {
+            ANNEX_B: {0: [moved(0, origin)], 1: [smaller(1)], 2: [moved(2, origin)]},
+            ORIGINAL: {0: [elsewhere(0), canvas(0, (8, 8))], 1: [elsewhere(1), moved(1, origin), canvas(1, (8, 8))]},
+        }
+        for rule, of_tiles in notes.items():
+            for tile, said in of_tiles.items():
+                error = "".join(about("before.j2k", note) for note in said)
+                words = ["tile", "before.j2k", str(tile), "-o", OUT, "--rule", rule]
+                self.cases([Case(words, error=error, made=cut_of(FILES["before.j2k"], tile, rule))])
+        far = f"tile 0: {sentence(10, 2, START)}"
+        self.cases([Case(["tile", "far.jp2", "0", "-o", OUT, "--rule", ORIGINAL], 1, error=about("far.jp2", far))])
+        self.by_rules("far.jp2", FILES["far.jp2"][START:], [0])
+        self.by_rules("before.j2k", FILES["before.j2k"], range(6))
+        changes = [{"XOsiz": 3, "XTOsiz": 1}, {"YOsiz": 1}, {"XOsiz": 1, "YOsiz": 3}, {"XOsiz": 9, "XTOsiz": 8}]
+        changes += [{"XOsiz": 2**32 - 6, "XTOsiz": 2**32 - 8, "Xsiz": 2**32 - 1}, {"XTOsiz": 1}, {"YOsiz": 4}, {"YTsiz": 0}]
+        without_tlm = SAMPLE[:45] + SAMPLE[57:]
+        for number, fields in enumerate(changes):
+            self.by_rules(f"edited{number}.j2k", edited(without_tlm, **fields), [0, 5])
+        self.rules_of_openjpeg()
+
+    def rules_of_openjpeg(self):
+        width, height = 130, 100
+        slope = bytes(x * 3 + y * 5 & 255 for y in range(height) for x in range(width))
+        (self.folder / "slope.pgm").write_bytes(f"P5\n{width} {height}\n255\n".encode() + slope)
+        words = "opj_compress -i slope.pgm -o started.j2k -t 64,64 -n 3 -d 37,35 -T 5,3"
+        made = subprocess.run(words.split(), cwd=self.folder, capture_output=True)
+        self.hold(words, made.returncode, 0)
+        content = (self.folder / "started.j2k").read_bytes()
+        self.by_rules("started.j2k", content, range(10))
+        self.by_rules("started.jp2", content, [0, 4, 8])
+        # what is cut by the standard's rule decodes to the tile's size, and where that is full to the first one's
+        for tile, size in (0, (32, 32)), (1, (64, 32)), (2, (34, 32)), (4, (32, 32)), (8, (34, 4)):
+            self.run("tile", "started.j2k", str(tile), "-o", OUT)
+            decoded = subprocess.run(["opj_decompress", "-i", OUT, "-o", "tile.pgm", "-t", "0"], cwd=self.folder, capture_output=True)
+            head = (self.folder / "tile.pgm").read_bytes().split(b"\n255\n")[0].split()[-2:]
+            self.hold(f"tile {tile} of started.j2k, decoded", (decoded.returncode, tuple(map(int, head))), (0, size))
+        # a field by which there is no grid, and its neighbour by which there is one
+        edges = [("XTOsiz", 38, 37), ("YTOsiz", 36, 35), ("XTsiz", 32, 33), ("YTsiz", 32, 33), ("Xsiz", 37, 38), ("Ysiz", 35, 36)]
+        for field, number, neighbour in [*edges, ("XTsiz", 0, 64), ("YTsiz", 0, 64)]:
+            name = f"{field}-{number}.jp2"
+            self.by_rules(name, edited(content, **{field: number}), [0])
+            for tile in "0", "9":
+                said = about(name, f"tile {tile}: {sentence(30, 2, START)}")
+                self.cases([Case(["tile", name, tile, "-o", OUT], 1, error=said)])
+            self.hold(f"list {name}", self.run("list", name)[0], 0)
+            self.by_rules(f"{field}-{neighbour}.jp2", edited(content, **{field: neighbour}), [0])
+        # a row of tiles is left, and the tile-parts of the others
+        self.by_rules("fewer.j2k", edited(content, Ysiz=67), [0, 2, 3, 8])
+        outside = about("fewer.j2k", "tile 3 lies outside the grid of 3 by 1 tiles, which are 0 to 2; check the index")
+        self.cases([Case(["tile", "fewer.j2k", "3", "-o", OUT], 1, error=outside)])
+        shown = self.run("show", "fewer.j2k")[1].splitlines()
+        self.hold("show fewer.j2k", "outside     tile-parts of tiles that the grid does not have: 3-8" in shown, True)
+
+    def by_rules(self, file, content, tiles):
+        """Tiles of a codestream, bare or in a JP2 by the file's name: what is cut by no rule and by either, and what `show` tells."""
+        (self.folder / file).write_bytes(jp2(content) if file.endswith(".jp2") else content)
+        numbers = struct.unpack_from(">8I", content, 8)
+        for tile in tiles:
+            area = annex_b([numbers[0::2], numbers[1::2]], tile)
+            for rule in None, ANNEX_B, ORIGINAL:
+                # no tile outside the standard's grid is cut by any rule
+                wanted = 31 if area == 31 else cut_of(content, tile, rule or ANNEX_B)
+                wanted = (1, None, wanted) if isinstance(wanted, int) else (0, wanted, None)
+                self.hold(f"tile {file} {tile} {rule}", self.cut(file, tile, rule), wanted)
+            status, out, _ = self.run("show", "--json", "--tile", str(tile), file)
+            found = json.loads(out)["in_tile"]
+            if isinstance(area, int):
+                self.hold(f"show --tile {tile} {file}", (status, found["refused"]["number"]), (1, area))
+            else:
+                (x0, x1), (y0, y1) = area
+                wanted = {"index": tile} | measured((x0, y0, x1, y1), [(7, 1, 1)])
+                self.hold(f"show --tile {tile} {file}", (status, found), (0, wanted))
+
+    def cut(self, file, tile, rule):
+        """Status, what is made, and the number of the refusal."""
+        (self.folder / OUT).unlink(missing_ok=True)
+        status, _, said = self.run("tile", file, str(tile), "-o", OUT, *([f"--rule={rule}"] if rule else []))
+        made = (self.folder / OUT).read_bytes() if (self.folder / OUT).exists() else None
+        number = re.search(r"\(refusal (\d+)\)|lies outside the grid", said)
+        return status, made, int(number[1] or 31) if number else None
 
     def never_over_the_input(self):
         content = FILES["a.j2k"]
@@ -615,7 +787,8 @@ class Runs:
         many = "its grid has 65536 tiles, more than the 65535 that an index can name; nothing is drawn"
         self.case(Case(["grid", "too-many.j2k", "-o", OUT], 1, error=about("too-many.j2k", many)))
         none = "its tiles make no grid; nothing is drawn"
-        self.case(Case(["grid", "no-grid.j2k", "-o", OUT], 1, error=about("no-grid.j2k", none)))
+        for file in "no-grid.j2k", "behind-it.jp2", "not-reached.j2k":
+            self.case(Case(["grid", file, "-o", OUT], 1, error=about(file, none)))
         short = "SIZ ends before its tiles; nothing is drawn"
         self.case(Case(["grid", "siz-cut.j2k", "-o", OUT], 1, error=about("siz-cut.j2k", short)))
 
@@ -636,6 +809,7 @@ class Runs:
         many = [["show", "a.j2k", "a.j2k"], ["tile", "a.j2k", "0", "1"], ["grid", "a.j2k", "a.j2k", "-o", OUT]]
         unknown = [["part", "a.j2k"], ["LIST", "a.j2k"], [b"\xff", "a.j2k"], ["list", "--what", "a.j2k"]]
         unknown += [["list", "-j", number, "a.j2k"] for number in ("0", "-1", "x", "65")] + [["completions", "sh"]]
+        unknown += [["tile", "a.j2k", "5", "--rule"], ["show", "a.j2k", "--tile", "5", "--rule", ORIGINAL]]
         for words in few + many + unknown:
             status, out, error = self.run(*words)
             self.hold(f"{words}", (status, out, "Usage" in error or "error" in error), (2, "", True))
@@ -645,13 +819,23 @@ class Runs:
             self.hold(f"INDEX {index}", (status, out, why, (self.folder / OUT).exists()), (2, "", True, False))
             status, out, error = self.run("show", "--tile", index, "a.j2k")
             self.hold(f"show --tile {index}", (status, out, NOT_AN_INDEX in error or why), (2, "", True))
+        for rule in "x", "", "annex", "Annex-B", "annex_b", "ORIGINAL", "0", b"\xff":
+            status, out, error = self.run("tile", "a.j2k", "5", "-o", OUT, "--rule", rule)
+            why = "[possible values: annex-b, original]" in error or rule == b"\xff"
+            self.hold(f"--rule {rule}", (status, out, why, (self.folder / OUT).exists()), (2, "", True, False))
+        twice = self.run("tile", "a.j2k", "5", "-o", OUT, "--rule", ANNEX_B, "--rule", ORIGINAL)
+        self.hold("--rule twice", (twice[0], (self.folder / OUT).exists()), (2, False))
+        help_text = self.run("tile", "--help")[1]
+        for words in "annex-b counts tiles from the tiles' origin, as the standard does.", "[default: annex-b]":
+            self.hold(f"tile --help: {words}", words in help_text, True)
         self.hold("--version", self.run("--version"), (0, "winterhasp 0.1.0\n", ""))
         for words in [], *([command] for command in COMMANDS):
             status, out, error = self.run(*words, "--help")
             self.hold(f"{words} --help", (status, f"  winterhasp {words[0] if words else 'list'} " in out, error), (0, True, ""))
         status, out, _ = self.run("completions", "bash")
         judged = subprocess.run(["bash", "-n"], input=out.encode(), capture_output=True)
-        self.hold("completions bash", (status, judged.returncode, all(word in out for word in COMMANDS)), (0, 0, True))
+        words = [*COMMANDS, "--rule", "annex-b original"]
+        self.hold("completions bash", (status, judged.returncode, [word for word in words if word not in out]), (0, 0, []))
 
     def not_written(self):
         places = ("directory", A_DIRECTORY), ("missing/out.j2k", NOT_THERE), ("/dev/full", DEVICE_FULL)
@@ -725,7 +909,11 @@ class Runs:
                 for name in contents
                 if name.startswith("not")
                 for file in [f"damaged/{name}"]
-                for words in (["show", "--tile", "5", file], ["tile", file, "5", "-o", "-"], ["grid", file, "-o", "-"])
+                for words in (
+                    ["show", "--tile", "5", file],
+                    *(["tile", file, "5", "-o", "-", "--rule", rule] for rule in RULES_OF_TILES),
+                    ["grid", file, "-o", "-"],
+                )
             ]
             quiet = lambda words: subprocess.run([self.program, *words], cwd=self.folder, capture_output=True)
             for words, ended in zip(asked, workers.map(quiet, asked)):
@@ -887,8 +1075,9 @@ class Runs:
 
 
 GROUPS = [
-    Runs.accepted, Runs.refused, Runs.components, Runs.tiles, Runs.never_over_the_input, Runs.machines, Runs.pictures, Runs.not_read,
-    Runs.words, Runs.not_written, Runs.streams, Runs.damaged, Runs.folders, Runs.large, Runs.shrinking, Runs.encoders,
+    Runs.accepted, Runs.refused, Runs.components, Runs.tiles, Runs.rules, Runs.never_over_the_input, Runs.machines, Runs.pictures,
+    Runs.not_read, Runs.words, Runs.not_written, Runs.streams, Runs.damaged, Runs.folders, Runs.large, Runs.shrinking,
+    Runs.encoders,
 ]  # fmt: skip
 
 
