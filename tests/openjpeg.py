@@ -3,16 +3,22 @@
 
 Makes small images, compresses them by opj_compress over a grid of options, and for each file holds
   the tile-parts that `winterhasp list` lists to those that OpenJPEG meets as it decodes,
-  each tile that `winterhasp tile` cuts, decoded, to the crop of the whole picture, decoded,
+  each tile that `winterhasp tile` cuts, by either rule, decoded, to the crop of the whole picture, decoded,
   the components that `winterhasp show` tells to those that opj_dump tells, and
-  their sizes and places, in the image and in some tiles, to OpenJPEG's as it decodes.
-A tile is moved to the origin as it is cut. Where image and tile origin are 0 and tile sides and
-subsampling are powers of two, a side at least 2^levels times the subsampling, every tile has to be
-equal; elsewhere right and wrong ones are counted by kind of grid.
+  their sizes and places, in the image and in some tiles, and these tiles' own, to OpenJPEG's as it decodes.
+A tile is moved to the origin as it is cut, by both rules, so that pixels may be wrong: right and wrong tiles
+are counted by kind of grid and by rule. What has to hold:
+  By both rules every tile is equal where image and tile origin are 0 and tile sides and subsampling are
+  powers of two, a side at least 2^levels times the subsampling.
+  By Annex B's rule so is every tile but those of full size where the image starts half a side behind the
+  tiles, if half a side is as large.
+  Where image and tile origin are equal both rules cut the same.
+  By Annex B's rule every tile is cut, on every grid, and decodes to its own size, moved: to the origin, or
+  if it has full size, and so keeps its header, to where that has tile 0. In samples that is another size
+  than its own where the subsampling falls otherwise there, or where that header's tile 0 is smaller.
+  Of a tile that decodes wrong `tile` has said so, but where a side is too small.
 What is cut is decoded twice: tile 0 of it, and plainly, all of it. A tile of full size keeps the
 whole image's size, so there the plain picture is that large, and the tile is its upper left corner.
-Sizes in a tile have to be equal where image and tile origin are; elsewhere the tile is counted from
-another place, and `show` has to say so.
 Status 1 if anything differs that must not, or if too little was compared; 2 if the run can't be made.
 """
 
@@ -37,12 +43,20 @@ from typing import NamedTuple
 ROOT = Path(__file__).resolve().parent.parent
 SEED = 15444
 WORKERS = 2
-MUST = "origin 0, powers of two, large enough"
-# Of that kind, in a run of 100 seconds. A slow machine with an emulator does twice as much.
-LEAST_FILES = 20
-LEAST_TILES = 150
-# In which components are held, where image and tile origin are equal.
+ANNEX_B, ORIGINAL = RULES = ["annex-b", "original"]
+MUST = "origins 0, powers of two, large enough"
+HALF = "image half a side behind the tiles, powers of two, large enough"
+# There have to be so many in a run of 100 seconds; with the command under an emulator there are some twice as many.
+# Files of the first kind, and tiles that are equal by each rule.
+LEAST_FILES = 15
+LEAST_TILES = 100
+# Tiles of the second kind that are equal by Annex B's rule.
+LEAST_HALF = 20
+# Tiles with their own size by Annex B's rule, of all grids whose tiles start before the image.
+LEAST_APART = 40
+# Tiles in which components are held, where image and tile origin are equal, and where they differ.
 LEAST_SIZED = 60
+LEAST_SIZED_APART = 20
 
 
 class Image(NamedTuple):
@@ -120,6 +134,26 @@ GRIDS = [
     Grid(GRAY_12, (64, 64), 4, subsampling=(2, 2)),
     Grid(COLOUR, (64, 64), 5, subsampling=(2, 1)),
     Grid(GRAY_12, (128, 64), 4, subsampling=(4, 4)),
+    # tiles that start before the image: by half a side
+    Grid(GRAY, (64, 64), 3, origin=(32, 32)),
+    Grid(GRAY, (64, 64), 5, origin=(32, 0)),
+    Grid(COLOUR, (32, 32), 4, origin=(0, 16)),
+    Grid(CHROMA_HALVED, (64, 64), 4, origin=(32, 32)),
+    Grid(GRAY_12, (64, 32), 2, origin=(32, 16), subsampling=(2, 2)),
+    # by another number
+    Grid(GRAY, (64, 64), 3, origin=(5, 3)),
+    Grid(GRAY, (64, 64), 0, origin=(5, 3)),
+    Grid(GRAY, (256, 256), 5, origin=(3, 1)),
+    Grid(GRAY_12, (32, 32), 2, origin=(8, 20)),
+    Grid(COLOUR, (64, 64), 5, origin=(7, 9), tile_origin=(3, 5)),
+    Grid(SIGNED, (32, 32), 3, origin=(40, 40), tile_origin=(24, 24)),
+    Grid(CHROMA_HALVED, (64, 64), 4, origin=(2, 2)),
+    Grid(GRAY_12, (50, 40), 2, origin=(11, 9)),
+    Grid(GRAY_12, (50, 40), 2, origin=(9, 8), tile_origin=(5, 3), subsampling=(3, 2)),
+]
+
+# Both rules cut the same here, and pixels may be wrong: fewer files.
+GRIDS_COUNTED = [
     # side too small; opj_compress refuses one below 2^levels by itself
     Grid(CHROMA_HALVED, (32, 32), 5),
     Grid(HALF_WIDTH, (16, 16), 4),
@@ -137,12 +171,11 @@ GRIDS = [
     Grid(GRAY, (50, 50), 0),
     Grid(CHROMA_HALVED, (48, 48), 3),
     Grid(GRAY_12, (96, 96), 5, subsampling=(3, 3)),
-    # origin not 0
-    Grid(GRAY, (64, 64), 3, origin=(5, 3)),
+    # origins equal, and not 0
     Grid(GRAY, (64, 64), 3, origin=(64, 64), tile_origin=(64, 64)),
     Grid(GRAY, (64, 64), 3, origin=(32, 32), tile_origin=(32, 32)),
-    Grid(COLOUR, (64, 64), 5, origin=(7, 9), tile_origin=(3, 5)),
-    Grid(CHROMA_HALVED, (64, 64), 4, origin=(2, 2)),
+    Grid(GRAY, (64, 64), 3, origin=(5, 3), tile_origin=(5, 3)),
+    Grid(CHROMA_HALVED, (64, 64), 4, origin=(2, 2), tile_origin=(2, 2)),
     Grid(GRAY_12, (50, 30), 2, origin=(11, 0), tile_origin=(11, 0)),
     Grid(GRAY_12, (50, 40), 2, origin=(7, 9), tile_origin=(7, 9), subsampling=(3, 2)),
 ]
@@ -166,6 +199,7 @@ SUFFIXES = ["j2k", "jp2"]
 LAYERS = [[], ["-r", "20,5,1"]]
 EXTRAS = [[], ["-I"], ["-b", "32,16"], ["-SOP"], ["-PLT"], ["-c", "[128,128]"]]
 FILES_OF_A_GRID = 10
+FILES_OF_A_COUNTED_GRID = 6
 
 
 def cases():
@@ -174,7 +208,8 @@ def cases():
     ways = list(itertools.product(PROGRESSIONS, DIVISIONS, TLM, LAYERS, EXTRAS, SUFFIXES))
     chance.shuffle(ways)
     found = []
-    for grid, way in zip(GRIDS * FILES_OF_A_GRID + [MANY_TILES] * 2, ways):
+    grids = GRIDS * FILES_OF_A_GRID + GRIDS_COUNTED * FILES_OF_A_COUNTED_GRID + [MANY_TILES] * 2
+    for grid, way in zip(grids, ways):
         progression, *options, suffix = way
         found.append((grid, ["-p", progression, *itertools.chain(*options)], suffix))
     chance.shuffle(found)
@@ -222,7 +257,7 @@ def write_image(image, folder):
 def write_images(folder):
     """The words for each image of the grids."""
     words = {}
-    for image in {grid.image for grid in GRIDS + GRIDS_OF_COMPONENTS + [MANY_TILES]}:
+    for image in {grid.image for grid in GRIDS + GRIDS_COUNTED + GRIDS_OF_COMPONENTS + [MANY_TILES]}:
         place = folder / f"image{len(words)}"
         place.mkdir()
         words[image] = write_image(image, place)
@@ -310,12 +345,12 @@ class Library:
             return True
 
     def components(self, path, tile=None):
-        """In the image, or in a tile, which is decoded; none if it can't be."""
+        """The area of the image, or of a tile, which is decoded, and its components; none if it can't be."""
         with self.opened(path) as opened:
             if not opened or tile is not None and not self.opj.opj_get_decoded_tile(*opened, tile):
                 return None
             image = opened[2].contents
-            return [
+            return (image.x0, image.y0, image.x1, image.y1), [
                 Component(one.prec, one.sgnd == 1, (one.dx, one.dy), (one.x0, one.y0, one.x0 + one.w, one.y0 + one.h))
                 for one in image.comps[: image.numcomps]
             ]
@@ -383,18 +418,30 @@ def is_power_of_two(number):
     return number & (number - 1) == 0
 
 
+TOO_SMALL = "side too small"
+
+
 def kind(siz, levels):
-    """What keeps tiles from being moved to the origin without loss, or MUST."""
+    """What keeps tiles from being moved to the origin without loss, or MUST, or HALF."""
     needed = [max(factors) << levels for factors in zip(*siz.components)]
     reasons = []
-    if siz.origin != (0, 0) or siz.tile_origin != (0, 0):
-        reasons.append("origin not 0")
     if not all(map(is_power_of_two, siz.tile)):
         reasons.append("side not a power of two")
     if not all(map(is_power_of_two, sum(siz.components, ()))):
         reasons.append("subsampling not a power of two")
     if any(side < least for side, least in zip(siz.tile, needed)):
-        reasons.append("side too small")
+        reasons.append(TOO_SMALL)
+    if siz.origin != siz.tile_origin:
+        halves = [side // 2 for side in siz.tile]
+        large = all(half >= least for half, least in zip(halves, needed))
+        behind = all(start in (0, half) for start, half in zip(siz.origin, halves))
+        if siz.tile_origin == (0, 0) and behind and large and not reasons:
+            return HALF
+        reasons.insert(0, "tiles start before the image")
+    elif siz.origin != (0, 0):
+        reasons.insert(0, "origins equal, not 0")
+    elif reasons:
+        reasons.insert(0, "origins 0")
     return ", ".join(reasons) or MUST
 
 
@@ -411,6 +458,22 @@ def bounds(siz, tile):
         end = min(start + siz.tile[axis], siz.size[axis])
         found.append((max(start, siz.origin[axis]), end))
     return found
+
+
+def samples_in(siz, area):
+    """(columns, rows) of each component in ((x0, x1), (y0, y1)) of the reference grid."""
+    return [tuple(up(end, apart) - up(start, apart) for (start, end), apart in zip(area, factors)) for factors in siz.components]
+
+
+def is_full(siz, tile):
+    return tuple(end - start for start, end in bounds(siz, tile)) == siz.tile
+
+
+def moved(siz, tile):
+    """Where the standard has the tile once it is cut: at the origin, or if it keeps its header at that one's tile 0."""
+    if is_full(siz, tile):
+        return bounds(siz, 0)
+    return [(0, end - start) for start, end in bounds(siz, tile)]
 
 
 def rectangle(plane, left, top, columns, rows):
@@ -494,29 +557,66 @@ def view(shown, tile, whole):
 ONLY_COMPONENTS = "components alone"
 NOT_MADE = "not compressed by opj_compress"
 LISTS_DIFFER = "tile-parts differ"
-# Outcomes of a tile that was cut as it should be, and that there is something to hold to.
-DECODABLE = ["equal", "different", "not decoded"]
+
+# Outcomes of a tile that was cut, and that there is something to hold to.
+EQUAL = "equal"
+WRONG = OTHER_PIXELS, OTHER_SIZE, NOT_DECODED = ["other pixels", "other size", "not decoded"]
+# Outcomes of one that was not, or that there is nothing to hold to.
+NOT_CUT = "not cut"
+NOT_HELD = [NOT_CUT, "cut with TLM", "whole not decoded"]
+# Parts of the notes by which `tile` tells of a wrong one before it is decoded.
+MAY_BE_WRONG, IS_WRONG = "may decode to other pixels", "decodes wrong"
+
+
+class Cut(NamedTuple):
+    """A tile that was cut: its file, what that holds, or nothing if it was refused, and what was said."""
+
+    path: Path
+    content: bytes
+    said: str
+
+
+class Held(NamedTuple):
+    """What came of a tile that was cut: its outcome, the sizes that it decodes to, and what a plain decode shows."""
+
+    outcome: str
+    sizes: list = None
+    view: str = None
+
+
+# What is counted of tiles that have to be as they are.
+OWN_SIZE = "own size"
 
 
 class Seen(NamedTuple):
-    """What came of one file: tiles counted under their outcome, under what a plain decode of them
-    shows, and under what came of the sizes in them; troubles as text."""
+    """What came of one file: tiles counted by rule under their outcome, and under what a plain decode of them
+    shows; those that had to be as they are; some counted under what came of the sizes in them; troubles as text."""
 
     kind: str
     outcomes: Counter
     views: Counter
+    bound: Counter
     sized: Counter
     troubles: list
 
     @classmethod
     def empty(cls, kind):
-        return cls(kind, Counter(), Counter(), Counter(), [])
+        return cls(kind, *(Counter() for _ in range(4)), [])
 
     @classmethod
     def without_tiles(cls, kind, name):
         seen = cls.empty(kind)
         seen.troubles.append(f"{kind}: {name}")
         return seen
+
+
+def told_wrong(cut, held, kind):
+    """What `tile` should have said of a tile, or should not."""
+    warned = MAY_BE_WRONG in cut.said or IS_WRONG in cut.said
+    if held.outcome in WRONG and not warned and not kind.endswith(TOO_SMALL):
+        yield f"{held.outcome}, and nothing was said"
+    if held.outcome == EQUAL and IS_WRONG in cut.said:
+        yield f"equal, and it was said: {cut.said}"
 
 
 class Run:
@@ -566,36 +666,80 @@ class Run:
             return seen
         planes = decoded(codestream)
         for tile in tiles:
-            cut = path.with_name(f"tile{tile}.j2k")
-            expected = planes and crop(siz, tile, planes)
-            outcome = self.outcome(path, tile, cut, expected)
-            seen.outcomes[outcome] += 1
-            if seen.kind == MUST and outcome != "equal":
-                seen.troubles.append(f"tile {tile} {outcome}: {name}")
-            if outcome not in DECODABLE:
-                continue
-            shown = view(decoded(cut), expected, planes)
-            seen.views[shown] += 1
-            if seen.kind == MUST and shown == SOMETHING_ELSE:
-                seen.troubles.append(f"tile {tile} {shown}: {name}")
+            for what in self.tile(path, siz, tile, planes, seen):
+                seen.troubles.append(f"tile {tile} {what}: {name}")
         return seen
+
+    def tile(self, path, siz, tile, planes, seen):
+        """Counts what came of a tile by either rule; gives what must not be and is."""
+        cuts = {rule: self.cut(path, tile, rule) for rule in RULES}
+        same = cuts[ANNEX_B].content == cuts[ORIGINAL].content
+        if siz.origin == siz.tile_origin and not same:
+            yield "is cut otherwise by the other rule"
+        expected = planes and crop(siz, tile, planes)
+        for rule, cut in cuts.items():
+            if rule == ANNEX_B or not same:
+                held = self.held(cut, expected, planes)
+            seen.outcomes[rule, held.outcome] += 1
+            seen.views[rule, held.view] += 1
+            troubles = [*self.bound(rule, siz, tile, held, seen), *told_wrong(cut, held, seen.kind)]
+            if rule == ANNEX_B:
+                troubles += self.sized(siz, tile, cut, held, seen)
+            yield from (f"by {rule} {what}" for what in troubles)
+
+    def bound(self, rule, siz, tile, held, seen):
+        """Where pixels have to be equal."""
+        if seen.kind == MUST or seen.kind == HALF and rule == ANNEX_B and not is_full(siz, tile):
+            seen.bound[rule, seen.kind] += held.outcome == EQUAL
+            if held.outcome != EQUAL:
+                yield held.outcome
+            if held.view == SOMETHING_ELSE:
+                yield held.view
+
+    def sized(self, siz, tile, cut, held, seen):
+        """What has to hold by Annex B's rule on every grid."""
+        if held.outcome == NOT_CUT:
+            yield f"refused: {cut.said}"
+        if held.sizes:
+            own = held.sizes == samples_in(siz, bounds(siz, tile))
+            seen.bound[OWN_SIZE] += own and siz.origin != siz.tile_origin
+            if held.sizes != samples_in(siz, moved(siz, tile)):
+                yield f"has the size {held.sizes}"
+
+    def cut(self, path, tile, rule):
+        out = path.with_name(f"tile{tile}.{rule}.j2k")
+        words = [self.winterhasp, "tile", path, tile, "--rule", rule, "-o", out]
+        ended = subprocess.run([str(word) for word in words], capture_output=True, text=True)
+        return Cut(out, out.read_bytes() if ended.returncode == 0 else None, ended.stderr.strip())
+
+    def held(self, cut, expected, whole):
+        if cut.content is None:
+            return Held(NOT_CUT)
+        if TLM_MARKER in markers(cut.content):
+            return Held("cut with TLM")
+        planes = decoded(cut.path, "-t", "0")
+        if not expected:
+            return Held("whole not decoded", planes and sizes(planes))
+        shown = view(decoded(cut.path), expected, whole)
+        if not planes:
+            return Held(NOT_DECODED, None, shown)
+        if sizes(planes) != sizes(expected):
+            return Held(OTHER_SIZE, sizes(planes), shown)
+        return Held(EQUAL if planes == expected else OTHER_PIXELS, sizes(planes), shown)
 
     def components(self, path, siz, tiles, sized):
         """Counts what came of the components in each of these tiles; gives what must not differ and does."""
-        area, components = read_components(self.shown(path)["components"])
+        shown = [(tile, self.shown(path, "--tile", tile)) for tile in tiles]
+        area, components = read_components(shown[0][1]["components"])
         if dumped(path) != (area, [one._replace(area=None) for one in components]):
             yield "components differ from opj_dump's"
-        if self.library.components(path) != components:
+        if self.library.components(path) != (area, components):
             yield "sizes of components differ"
-        must = siz.origin == siz.tile_origin
-        for tile in tiles:
-            inside = self.shown(path, "--tile", tile)["in_tile"]
-            outcome = self.outcome_inside(path, tile, inside)
-            sized[must, outcome] += 1
-            if must and outcome in ("different", "refused"):
+        for tile, fields in shown:
+            outcome = self.outcome_inside(path, tile, fields["in_tile"])
+            sized[siz.origin == siz.tile_origin, outcome] += 1
+            if outcome in ("different", "refused"):
                 yield f"components in tile {tile} {outcome}"
-            if must != (inside["note"] is None):
-                yield f"the note of tile {tile} is {inside['note']}"
 
     def outcome_inside(self, path, tile, inside):
         if "refused" in inside:
@@ -603,7 +747,7 @@ class Run:
         wanted = self.library.components(path, tile)
         if wanted is None:
             return "not decoded"
-        return "equal" if read_components(inside)[1] == wanted else "different"
+        return "equal" if read_components(inside) == wanted else "different"
 
     def shown(self, path, *words):
         """What `show` tells, also where it refuses a tile."""
@@ -617,34 +761,28 @@ class Run:
             found[word.decode()].append(tuple(map(int, numbers)))
         return found
 
-    def outcome(self, path, tile, cut, expected):
-        if told([self.winterhasp, "tile", path, tile, "-o", cut]) is None:
-            return "not cut"
-        if TLM_MARKER in markers(cut.read_bytes()):
-            return "cut with TLM"
-        if not expected:
-            return "whole not decoded"
-        planes = decoded(cut, "-t", "0")
-        if not planes:
-            return "not decoded"
-        return "equal" if planes == expected else "different"
-
 
 # All of them
 
 
 def table(seen):
-    columns = [*DECODABLE, "not cut", "cut with TLM", "whole not decoded"]
+    """A row for each kind of grid and rule, or for both rules where all is counted alike."""
+    columns = [EQUAL, *WRONG, *NOT_HELD]
     views = [THE_TILE, AT_THE_CORNER, SOMETHING_ELSE]
-    print("| kind of grid | files | tiles | " + " | ".join(columns + views) + " |")
-    print("|---|" + "---:|" * (2 + len(columns + views)))
+    print("| kind of grid | rule | files | tiles | " + " | ".join(columns + views) + " |")
+    print("|---|---|" + "---:|" * (2 + len(columns + views)))
     for sort in sorted({one.kind for one in seen}, key=lambda sort: (sort != MUST, sort)):
         chosen = [one for one in seen if one.kind == sort]
         sums = sum((one.outcomes for one in chosen), Counter())
         shown = sum((one.views for one in chosen), Counter())
-        cells = [len(chosen), sum(sums.values()), *(sums[column] for column in columns)]
-        cells += [shown[column] for column in views]
-        print(f"| {sort} | " + " | ".join(map(str, cells)) + " |")
+        rows = {}
+        for rule in RULES:
+            outcomes = [sums[rule, column] for column in columns]
+            rows[rule] = [len(chosen), sum(outcomes), *outcomes, *(shown[rule, column] for column in views)]
+        if rows[ANNEX_B] == rows[ORIGINAL]:
+            rows = {"both": rows[ANNEX_B]}
+        for rule, cells in rows.items():
+            print(f"| {sort} | {rule} | " + " | ".join(map(str, cells)) + " |")
 
 
 def summary(results):
@@ -656,21 +794,25 @@ def summary(results):
     if None in results:
         print(f"{results.count(None)} files left out, as time was up")
     troubles = list(itertools.chain(*(one.troubles for one in seen)))
+    outcomes = sum((one.outcomes for one in seen), Counter())
+    tiles = sum(count for (rule, _), count in outcomes.items() if rule == ANNEX_B)
+    right = ", ".join(f"{outcomes[rule, EQUAL]} by {rule}" for rule in RULES)
     same = sum(one.kind != LISTS_DIFFER for one in seen)
-    bound = [one for one in seen if one.kind == MUST]
-    equal = sum(one.outcomes["equal"] for one in bound)
-    print(
-        f"openjpeg: {len(seen)} files, {same} tile-part lists equal, {equal} tiles of {len(bound)} files "
-        f"equal where they must be (needed: {LEAST_TILES} of {LEAST_FILES}), {len(troubles)} different"
-    )
+    print(f"openjpeg: {len(seen)} files, {same} tile-part lists equal, {tiles} tiles, equal: {right}; {len(troubles)} troubles")
+    bound = sum((one.bound for one in seen), Counter())
     sized = sum((one.sized for one in seen), Counter())
-    outcomes = ["equal", "different", "refused", "not decoded"]
-    counts = lambda must: ", ".join(f"{sized[must, outcome]} {outcome}" for outcome in outcomes)
-    print(
-        f"openjpeg: components in tiles: {counts(True)} (needed: {LEAST_SIZED} equal); "
-        f"where image and tile origin differ: {counts(False)}"
-    )
-    enough = len(bound) >= LEAST_FILES and equal >= LEAST_TILES and sized[True, "equal"] >= LEAST_SIZED
+    files = sum(one.kind == MUST for one in seen)
+    least = [
+        (f"files: {MUST}", files, LEAST_FILES),
+        *((f"tiles equal by {rule}: {MUST}", bound[rule, MUST], LEAST_TILES) for rule in RULES),
+        (f"tiles equal by {ANNEX_B}: {HALF}", bound[ANNEX_B, HALF], LEAST_HALF),
+        (f"tiles with their own size by {ANNEX_B}, where tiles start before the image", bound[OWN_SIZE], LEAST_APART),
+        ("tiles with equal components, where origins are equal", sized[True, "equal"], LEAST_SIZED),
+        ("tiles with equal components, where tiles start before the image", sized[False, "equal"], LEAST_SIZED_APART),
+    ]
+    for what, count, needed in least:
+        print(f"openjpeg: {count} {what} (needed: {needed})")
+    enough = all(count >= needed for _, count, needed in least)
     if not enough:
         print("openjpeg: too few files or tiles were compared where they must be equal")
     return enough and not troubles
@@ -685,6 +827,8 @@ def binary(folder):
     for command in ["list", "show", "tile"]:
         if f"winterhasp {command} " not in help_text:
             give_up(f"{path} has no command {command}")
+    if "--rule" not in subprocess.run([path, "tile", "--help"], capture_output=True, text=True).stdout:
+        give_up(f"{path} cuts tiles by one rule")
     return path
 
 
