@@ -34,7 +34,6 @@ use Rattle.header.specs.Parse as parse
 use Rattle.header.specs.declared.parse.MainHeader.the-variants as main
 use Rattle.parts.specs.Scan as scan
 use Rattle.parts.specs.declared.scan.Scanned.the-variants as scans
-use Rattle.tile.specs.Rewrite as rewrite
 use Rattle.tile.specs.declared.rewrite.TileSize.the-variants as size
 use Rattle.tile.specs.declared.rewrite.Written.the-variants as writes
 

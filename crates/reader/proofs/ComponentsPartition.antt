@@ -1,7 +1,6 @@
 -- A component in the tiles that Annex B tells: its extents adjoin along each axis, from one end of its extent in the image to the other, and each of its
 -- samples lies in one tile. The tiles' areas do so (tile, proofs/AnnexBCells.antt and RulesPartition.antt), and both ends are divided by the same steps.
 use Prim.Native.Nat.{ℕ, _+_, _/_, _%_, _<_}
-use native.Mathlib.Omega.{arith}
 use mathlib.Core.Path.{_≡_, refl, sym, ap, _∙_}
 use mathlib.Core.Bool.{true}
 use mathlib.Core.List.{List}

@@ -5,7 +5,6 @@ use mathlib.Core.List.{List}
 use lib.Dec.{leb, ltb, eqb}
 use Rattle.numbers.specs.Ceiling.{ceilDiv}
 use Rattle.types.specs.Siz.{xsiz, ysiz, xosiz, yosiz, xtsiz, ytsiz}
-use Rattle.types.specs.declared.Area.{Area}
 use Rattle.tile.specs.Siz.{marker}
 use Rattle.tile.specs.declared.original.Axis.{Axis}
 use Rattle.tile.specs.declared.original.Axis.the-variants.{Span, Outside}

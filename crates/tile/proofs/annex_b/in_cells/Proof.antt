@@ -1,7 +1,7 @@
 -- Columns and rows fit 32 bits, so that a u64 holds their product; an index below it has its column and its row in the grid.
 use Prim.Native.Nat.{ℕ, _*_, _/_, _%_, _^_, _≤_, _<_}
 use native.Mathlib.Omega.{arith}
-use mathlib.Core.Path.{_≡_, sym, ap, _∙_}
+use mathlib.Core.Path.{sym, ap, _∙_}
 use Rattle.numbers.proofs.BytesLaws.{product-fits}
 use Rattle.tile.specs.AnnexB.{cellsOf, cellArea}
 use Rattle.tile.specs.declared.annex_b.GridTile.the-variants.{Tile}

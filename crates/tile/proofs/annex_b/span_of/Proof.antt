@@ -1,6 +1,6 @@
 -- The cell starts before the image ends, so that a u64 holds where it ends.
 use native.Mathlib.Omega.{arith}
-use mathlib.Core.Path.{ap, sym, _∙_}
+use mathlib.Core.Path.{ap, _∙_}
 use Prim.Native.Nat.{ℕ, _+_, _*_, _<_, min}
 use Rattle.tile.specs.AnnexB.{fromOf, toOf}
 use Rattle.tile.proofs.AnnexBLaws.{laid-is, next-cell, cell-starts}

@@ -5,7 +5,7 @@ use mathlib.Core.List.{List}
 use mathlib.Core.Path.{_≡_, refl, sym, ap, _∙_}
 use lib.ListN.{length}
 use borrow.Author.Needs.{needs}
-use Rattle.tile.proofs.AssemblyLaws.{joined-none, length-kept, length-assembled}
+use Rattle.tile.proofs.AssemblyLaws.{joined-none, length-kept}
 use Rattle.tile.proofs.AssemblyRanges.{kept-inside, partsFrom, parts-none, parts-dropped}
 use Rattle.tile.specs.Assembly.{rangeOf, ranges, joined}
 use Rattle.tile.specs.declared.assembly.Range.the-variants.{Kept, Dropped}
