@@ -9,11 +9,16 @@ use Rattle.host.specs.Components.{oneNumber, oneBits, oneValue, signOf, 
 use Rattle.host.proofs.components.winterhasp_component_in_tile_by_rule.Statement.{statement}
 use Rattle.host.proofs.components.winterhasp_component_in_tile_by_rule.Tie as tie
 
--- the answer is that of what was asked for
+-- the rule is the one given
+named : (c : tie.After-rule-of) → c .rule-of .result ≡ ruleOf (c .before .before .args .rule)
+named c = c .rule-of .ensures
+
+-- and the answer that of what was asked for
+told : (c : tie.After-component-in-tile) → let a = c .before .before .before .args in c .component-in-tile .result ≡ componentInTile (c .before .rule-of .result) (now (a .codestream)) (a .tile) (a .number)
+told c = c .component-in-tile .ensures
+
 asked : (c : tie.After-component-in-tile) → let a = c .before .before .before .args in c .component-in-tile .result ≡ componentInTile (ruleOf (a .rule)) (now (a .codestream)) (a .tile) (a .number)
-asked c =
-    let a = c .before .before .before .args in
-    c .component-in-tile .ensures ∙ ap (λ (r : Rule). componentInTile r (now (a .codestream)) (a .tile) (a .number)) (c .before .rule-of .ensures)
+asked c = let a = c .before .before .before .args in told c ∙ ap (λ (r : Rule). componentInTile r (now (a .codestream)) (a .tile) (a .number)) (named (c .before))
 
 rule-of-requires : tie.Need-rule-of-requires
 rule-of-requires c κs = search needs

@@ -9,11 +9,16 @@ use Rattle.host.specs.Components.{readNumber, readCount, readEnd, left, 
 use Rattle.host.proofs.components.winterhasp_read_components_in_tile_by_rule.Statement.{statement}
 use Rattle.host.proofs.components.winterhasp_read_components_in_tile_by_rule.Tie as tie
 
--- the answer is that of what was asked for
+-- the rule is the one given
+named : (c : tie.After-rule-of) → c .rule-of .result ≡ ruleOf (c .before .before .args .rule)
+named c = c .rule-of .ensures
+
+-- and the answer that of what was asked for
+told : (c : tie.After-read-components-in-tile) → let a = c .before .before .before .args in c .read-components-in-tile .result ≡ componentsInTile (c .before .rule-of .result) (now (a .codestream)) (a .tile)
+told c = c .read-components-in-tile .ensures
+
 asked : (c : tie.After-read-components-in-tile) → let a = c .before .before .before .args in c .read-components-in-tile .result ≡ componentsInTile (ruleOf (a .rule)) (now (a .codestream)) (a .tile)
-asked c =
-    let a = c .before .before .before .args in
-    c .read-components-in-tile .ensures ∙ ap (λ (r : Rule). componentsInTile r (now (a .codestream)) (a .tile)) (c .before .rule-of .ensures)
+asked c = let a = c .before .before .before .args in told c ∙ ap (λ (r : Rule). componentsInTile r (now (a .codestream)) (a .tile)) (named (c .before))
 
 rule-of-requires : tie.Need-rule-of-requires
 rule-of-requires c κs = search needs
