@@ -3,7 +3,7 @@ use Prim.Native.Nat.{ℕ, _+_, _-_, _*_, _/_, _%_, _≤_, _<_}
 use native.Mathlib.Nat.{le-mul-of-pos-right, add-mul, one-mul, mul-comm, zero-mul, mod-lt, le-div-iff-mul-le, div-lt-iff-lt-mul, pos-of-ne-zero}
 use native.Mathlib.Omega.{arith}
 use mathlib.Core.Path.{_≡_, sym, ap}
-use mathlib.Core.Bool.{true, false, _&&_, and-eq-true-iff, and-false}
+use mathlib.Core.Bool.{Bool, true, false, cond, _&&_, and-eq-true-iff, and-false}
 use lib.Dec.{leb, ltb}
 use borrow.Author.Tests.{le-leb, lt-leb, lt-ltb, le-ltb, leb-true, ltb-true}
 use Rattle.numbers.specs.Ceiling.{ceilDiv}
@@ -103,13 +103,17 @@ module _ (columns rows tile : ℕ) (inside : tile < columns * rows) where
   row-inside = div-lt-iff-lt-mul columns-positive .1 (omega (arith, mul-comm columns rows))
 
 module _ (x y : Side) (tile : ℕ) where
+  -- the tile, or none, as the index is below columns * rows
+  told : Bool → GridTile
+  told below = cond below (Tile (cellArea x y (tile % cellsOf x) (tile / cellsOf x))) NoTile
+
   pub grid-past : cellsOf x * cellsOf y ≤ tile → inCells x y tile ≡ NoTile
-  unfolding inCells
-  grid-past h = rw (le-ltb _ _ h)
+  unfolding inCells told
+  grid-past h = ap told (le-ltb tile (cellsOf x * cellsOf y) h)
 
   pub grid-inside : tile < cellsOf x * cellsOf y → inCells x y tile ≡ Tile (cellArea x y (tile % cellsOf x) (tile / cellsOf x))
-  unfolding inCells
-  grid-inside h = rw (lt-ltb _ _ h)
+  unfolding inCells told
+  grid-inside h = ap told (lt-ltb tile (cellsOf x * cellsOf y) h)
 
   pub no-columns : laid x ≡ false → onGrid x y tile ≡ NoGrid
   unfolding onGrid
