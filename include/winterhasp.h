@@ -51,10 +51,18 @@ extern "C" {
 #define WINTERHASP_LISTING_TOO_LONG            23 /* the file is too long for the listing program */
 #define WINTERHASP_COMPONENTS_NOT_HELD         24 /* the image size segment (SIZ) does not hold the components that it counts */
 #define WINTERHASP_SUBSAMPLING_OF_0            25 /* a component's samples lie 0 apart */
+#define WINTERHASP_NO_GRID                     30 /* the image size segment (SIZ) lays no grid of tiles over the image */
+#define WINTERHASP_NO_SUCH_TILE                31 /* the grid has no tile of this index */
 
 /* No refusal: what is returned where there is no component of the number that was asked for. */
 
 enum { WINTERHASP_NO_SUCH_COMPONENT = 256 };
+
+/* The rule by which a tile's place is told: the standard's (Annex B), which all functions go by that take no rule, or the one of
+   the program that this library is ported from, which counts tiles from the image origin. Any other number means the standard's.
+   By the standard's the refusals of a tile are 30, then 31, and by the original's 10. */
+
+enum { WINTERHASP_RULE_ANNEX_B = 0, WINTERHASP_RULE_ORIGINAL = 1 };
 
 /* A table is lent as bytes, and has a row for each 18: a tile's index (2 bytes), the tile-part's offset in the codestream
    (8) and its length (8), big-endian. Bytes behind the last whole row are none. */
@@ -126,9 +134,14 @@ uint32_t winterhasp_pixel_type(uint8_t bits, uint32_t signed_samples);
 uint32_t winterhasp_read_components(const uint8_t *codestream, size_t codestream_len, uint64_t *components, uint64_t *x0,
                                     uint64_t *y0, uint64_t *x1, uint64_t *y1);
 
-/* "Components". The same with the area of a tile. Refusals: 1, 2, 3, 24, 25, 22, 10. */
+/* "Components". The same with the area of a tile. Refusals: 1, 2, 3, 24, 25, 22, 30, 31. */
 uint32_t winterhasp_read_components_in_tile(const uint8_t *codestream, size_t codestream_len, uint16_t tile,
                                             uint64_t *components, uint64_t *x0, uint64_t *y0, uint64_t *x1, uint64_t *y1);
+
+/* "Components". The same by a rule, which WINTERHASP_RULE_.. names. Refusals: 1, 2, 3, 24, 25, 22; then 30, 31, or 10. */
+uint32_t winterhasp_read_components_in_tile_by_rule(const uint8_t *codestream, size_t codestream_len, uint16_t tile,
+                                                    uint32_t rule, uint64_t *components, uint64_t *x0, uint64_t *y0,
+                                                    uint64_t *x1, uint64_t *y1);
 
 /* "Components". The component of a number, from 0: the bits of a sample, 1 where samples have a sign, how many columns and rows
    of the reference grid lie from sample to sample, and the component's area: `x1` - `x0` samples in each of `y1` - `y0` rows.
@@ -137,13 +150,19 @@ uint32_t winterhasp_component(const uint8_t *codestream, size_t codestream_len, 
                               uint64_t *signed_samples, uint64_t *xrsiz, uint64_t *yrsiz, uint64_t *x0, uint64_t *y0,
                               uint64_t *x1, uint64_t *y1);
 
-/* "Components". The same in a tile. Refusals: 1, 2, 3, 24, 25, 22, 10. WINTERHASP_NO_SUCH_COMPONENT as above. */
+/* "Components". The same in a tile. Refusals: 1, 2, 3, 24, 25, 22, 30, 31. WINTERHASP_NO_SUCH_COMPONENT as above. */
 uint32_t winterhasp_component_in_tile(const uint8_t *codestream, size_t codestream_len, uint16_t tile, uint64_t number,
                                       uint64_t *bits, uint64_t *signed_samples, uint64_t *xrsiz, uint64_t *yrsiz,
                                       uint64_t *x0, uint64_t *y0, uint64_t *x1, uint64_t *y1);
 
-/* "Components". The same in any area, in constant time, for who takes all components, one by one: the two functions that read
-   components have checked them, and tell how many there are and the area. The two above read all of SIZ in each call.
+/* "Components". The same in a tile by a rule, which WINTERHASP_RULE_.. names. Refusals: 1, 2, 3, 24, 25, 22; then 30, 31, or 10.
+   WINTERHASP_NO_SUCH_COMPONENT as above. */
+uint32_t winterhasp_component_in_tile_by_rule(const uint8_t *codestream, size_t codestream_len, uint16_t tile, uint32_t rule,
+                                              uint64_t number, uint64_t *bits, uint64_t *signed_samples, uint64_t *xrsiz,
+                                              uint64_t *yrsiz, uint64_t *x0, uint64_t *y0, uint64_t *x1, uint64_t *y1);
+
+/* "Components". The same in any area, in constant time, for who takes all components, one by one: the functions that read
+   components have checked them, and tell how many there are and the area. The three above read all of SIZ in each call.
    Never refuses: 0, or WINTERHASP_NO_SUCH_COMPONENT, and all numbers stay. */
 uint32_t winterhasp_component_within(const uint8_t *codestream, size_t codestream_len, uint32_t area_x0, uint32_t area_y0,
                                      uint32_t area_x1, uint32_t area_y1, uint64_t number, uint64_t *bits,
@@ -169,16 +188,26 @@ uint32_t winterhasp_split_at(const uint8_t *tile, size_t tile_len, uint64_t at, 
                              uint64_t *value);
 
 /* "SIZ rewrite". The decode header with a SIZ that speaks of tile `isot` alone goes to `out`, its length to `value`. Of a tile of
-   full size it stays the same. Refusals: 10, 17. */
+   full size it stays the same. Refusals: 30, 31, 17. */
 uint32_t winterhasp_rewrite_siz_for_tile(const uint8_t *decode_header, size_t decode_header_len, uint16_t isot, uint8_t *out,
                                          size_t out_len, uint64_t *value);
 
+/* "SIZ rewrite". The same by a rule, which WINTERHASP_RULE_.. names. Refusals: 30, 31, or 10; then 17. */
+uint32_t winterhasp_rewrite_siz_for_tile_by_rule(const uint8_t *decode_header, size_t decode_header_len, uint16_t isot,
+                                                 uint32_t rule, uint8_t *out, size_t out_len, uint64_t *value);
+
 /* "Assembly". A codestream of one tile, as tile 0, goes to `out`, its length to `value`: header, the tile-parts that the rows of
    `tile_parts` give of `codestream`, EOC. Rows are as the scan writes them, of one tile; their index is not looked at.
-   Refusals: 10, 17. */
+   Refusals: 30, 31, 17. */
 uint32_t winterhasp_build_minimal_codestream(const uint8_t *decode_header, size_t decode_header_len,
                                              const uint8_t *tile_parts, size_t tile_parts_len, const uint8_t *codestream,
                                              size_t codestream_len, uint8_t *out, size_t out_len, uint64_t *value);
+
+/* "Assembly". The same by a rule, which WINTERHASP_RULE_.. names. Refusals: 30, 31, or 10; then 17. */
+uint32_t winterhasp_build_minimal_codestream_by_rule(const uint8_t *decode_header, size_t decode_header_len,
+                                                     const uint8_t *tile_parts, size_t tile_parts_len,
+                                                     const uint8_t *codestream, size_t codestream_len, uint32_t rule,
+                                                     uint8_t *out, size_t out_len, uint64_t *value);
 
 #ifdef __cplusplus
 }

@@ -43,7 +43,7 @@ TEXTS = re.compile(r"\bREFUSALS:\s*&\[Words\]\s*=\s*&\[(.*?)\n?\s*\];", re.S)
 LABEL = re.compile(r'"refused (\d+)"')
 LABELS = re.compile(r"\blabels!\[([\d\s]*)\]")
 LISTS = re.compile(r"\brefused\(.*?, (\d+), ")
-GIVEN = re.compile(r"\bRefusal\s*\{\s*number:\s*(\d+)|\brefuse\(\s*(\d+),")
+GIVEN = re.compile(r"\bRefusal\s*\{\s*number:\s*(\d+)|\brefuse\(\s*(\d+)[,)]")
 RETURNED = re.compile(r"\breturn (\d+);")
 
 

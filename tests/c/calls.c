@@ -68,7 +68,7 @@ static void components(const uint8_t *sample)
     CHECK(count == 1 && x0 == 0 && y0 == 0 && x1 == 10 && y1 == 6);
     CHECK(winterhasp_read_components_in_tile(sample, SAMPLE_BYTES, 5, &count, &x0, &y0, &x1, &y1) == 0);
     CHECK(count == 1 && x0 == 8 && y0 == 4 && x1 == 10 && y1 == 6);
-    CHECK(winterhasp_read_components_in_tile(sample, SAMPLE_BYTES, 6, &count, &x0, &y0, &x1, &y1) == WINTERHASP_TILE_OUTSIDE);
+    CHECK(winterhasp_read_components_in_tile(sample, SAMPLE_BYTES, 6, &count, &x0, &y0, &x1, &y1) == WINTERHASP_NO_SUCH_TILE);
     CHECK(count == 2 && x0 == 8 && y0 == 4 && x1 == 10 && y1 == 6);
 
     CHECK(winterhasp_component(sample, SAMPLE_BYTES, 1, &bits, &sign, &xrsiz, &yrsiz, &x0, &y0, &x1, &y1) ==
@@ -85,7 +85,7 @@ static void components(const uint8_t *sample)
     CHECK(winterhasp_component_in_tile(fewer, sizeof fewer, 5, 0, &bits, &sign, &xrsiz, &yrsiz, &x0, &y0, &x1, &y1) == 0);
     CHECK(bits == 12 && sign == 1 && xrsiz == 3 && yrsiz == 4 && x0 == 3 && y0 == 1 && x1 == 4 && y1 == 2);
     CHECK(winterhasp_component_in_tile(fewer, sizeof fewer, 6, 1, &bits, &sign, &xrsiz, &yrsiz, &x0, &y0, &x1, &y1) ==
-          WINTERHASP_TILE_OUTSIDE);
+          WINTERHASP_NO_SUCH_TILE);
     CHECK(bits == 2 && sign == 1 && xrsiz == 3 && yrsiz == 4 && x0 == 3 && y0 == 1 && x1 == 4 && y1 == 2);
     CHECK(winterhasp_component_within(fewer, sizeof fewer, 1, 2, UINT32_MAX, 9, 0, &bits, &sign, &xrsiz, &yrsiz, &x0, &y0, &x1,
                                       &y1) == 0);
@@ -100,6 +100,53 @@ static void components(const uint8_t *sample)
     fewer[41] = 2;
     CHECK(winterhasp_read_components(fewer, sizeof fewer, &count, &x0, &y0, &x1, &y1) == WINTERHASP_COMPONENTS_NOT_HELD);
     CHECK(count == 2 && x0 == 1);
+}
+
+/* The image from 3 and the tiles from 1 on: tile 0 is the part from 3 to 5 by the standard's rule, and to 7 by the original's. */
+static void moved(const uint8_t *sample, uint8_t *header)
+{
+    memcpy(header, sample, 45);
+    header[19] = 3;
+    header[35] = 1;
+}
+
+static void components_by_rule(const uint8_t *sample)
+{
+    static const uint32_t standard[] = { WINTERHASP_RULE_ANNEX_B, 2, UINT32_MAX };
+    uint8_t header[45];
+    uint64_t count = 7, x0 = 7, y0 = 7, x1 = 7, y1 = 7, bits = 7, sign = 7, xrsiz = 7, yrsiz = 7;
+    moved(sample, header);
+    for (size_t i = 0; i < sizeof standard / sizeof *standard; i++) {
+        uint32_t rule = standard[i];
+        CHECK(winterhasp_read_components_in_tile_by_rule(header, 45, 0, rule, &count, &x0, &y0, &x1, &y1) == 0);
+        CHECK(count == 1 && x0 == 3 && y0 == 0 && x1 == 5 && y1 == 4);
+        CHECK(winterhasp_read_components_in_tile_by_rule(header, 45, 6, rule, &count, &x0, &y0, &x1, &y1) ==
+              WINTERHASP_NO_SUCH_TILE);
+        CHECK(count == 2 && x0 == 3 && y0 == 0 && x1 == 5 && y1 == 4);
+        CHECK(winterhasp_component_in_tile_by_rule(header, 45, 2, rule, 0, &bits, &sign, &xrsiz, &yrsiz, &x0, &y0, &x1, &y1) == 0);
+        CHECK(bits == 8 && sign == 0 && xrsiz == 1 && yrsiz == 1 && x0 == 9 && y0 == 0 && x1 == 10 && y1 == 4);
+        CHECK(winterhasp_component_in_tile_by_rule(header, 45, 2, rule, 1, &bits, &sign, &xrsiz, &yrsiz, &x0, &y0, &x1, &y1) ==
+              WINTERHASP_NO_SUCH_COMPONENT);
+        CHECK(winterhasp_component_in_tile_by_rule(header, 45, 6, rule, 1, &bits, &sign, &xrsiz, &yrsiz, &x0, &y0, &x1, &y1) ==
+              WINTERHASP_NO_SUCH_TILE);
+        CHECK(bits == 2 && sign == 0 && x0 == 9 && y0 == 0 && x1 == 10 && y1 == 4);
+    }
+    CHECK(winterhasp_read_components_in_tile_by_rule(header, 45, 0, WINTERHASP_RULE_ORIGINAL, &count, &x0, &y0, &x1, &y1) == 0);
+    CHECK(count == 1 && x0 == 3 && y0 == 0 && x1 == 7 && y1 == 4);
+    CHECK(winterhasp_read_components_in_tile_by_rule(header, 45, 4, WINTERHASP_RULE_ORIGINAL, &count, &x0, &y0, &x1, &y1) ==
+          WINTERHASP_TILE_OUTSIDE);
+    CHECK(count == 2 && x1 == 7);
+    CHECK(winterhasp_component_in_tile_by_rule(header, 45, 1, WINTERHASP_RULE_ORIGINAL, 0, &bits, &sign, &xrsiz, &yrsiz, &x0, &y0,
+                                               &x1, &y1) == 0);
+    CHECK(bits == 8 && x0 == 7 && y0 == 0 && x1 == 10 && y1 == 4);
+    CHECK(winterhasp_component_in_tile_by_rule(header, 45, 4, WINTERHASP_RULE_ORIGINAL, 0, &bits, &sign, &xrsiz, &yrsiz, &x0, &y0,
+                                               &x1, &y1) == WINTERHASP_TILE_OUTSIDE);
+
+    /* the tiles from 4 on, which is past the image's origin */
+    header[35] = 4;
+    CHECK(winterhasp_read_components_in_tile(header, 45, 0, &count, &x0, &y0, &x1, &y1) == WINTERHASP_NO_GRID);
+    CHECK(winterhasp_component_in_tile(header, 45, 0, 0, &bits, &sign, &xrsiz, &yrsiz, &x0, &y0, &x1, &y1) == WINTERHASP_NO_GRID);
+    CHECK(count == 2 && bits == 2 && x0 == 7 && x1 == 10);
 }
 
 /* The decode header is the sample's first 45 bytes. */
@@ -156,7 +203,7 @@ static void tile(const uint8_t *sample, const uint8_t *decode_header)
     uint8_t table[2 * WINTERHASP_ROW_BYTES], out[64];
     uint64_t value;
     memset(out, HELD, sizeof out);
-    CHECK(winterhasp_rewrite_siz_for_tile(decode_header, 45, 6, out, sizeof out, &value) == WINTERHASP_TILE_OUTSIDE);
+    CHECK(winterhasp_rewrite_siz_for_tile(decode_header, 45, 6, out, sizeof out, &value) == WINTERHASP_NO_SUCH_TILE);
     CHECK(value == 2 && all_held(out, sizeof out));
     CHECK(winterhasp_rewrite_siz_for_tile(decode_header, 45, 5, out, sizeof out, &value) == 0 && value == 45);
     CHECK(winterhasp_big_endian(out + 8, 4) == 2 && winterhasp_big_endian(out + 12, 4) == 2 && out[45] == HELD);
@@ -173,6 +220,64 @@ static void tile(const uint8_t *sample, const uint8_t *decode_header)
     CHECK(winterhasp_big_endian(out + 49, 2) == 0 && memcmp(out + 51, sample + 77, 10) == 0);
 }
 
+/* Whether a header says that the image is a single tile of this size, from 0, 0 on. */
+static int says(const uint8_t *header, uint64_t width, uint64_t height)
+{
+    return winterhasp_big_endian(header + 8, 4) == width && winterhasp_big_endian(header + 12, 4) == height &&
+           winterhasp_big_endian(header + 16, 8) == 0 && winterhasp_big_endian(header + 24, 4) == width &&
+           winterhasp_big_endian(header + 28, 4) == height && winterhasp_big_endian(header + 32, 8) == 0;
+}
+
+static void tile_by_rule(const uint8_t *sample)
+{
+    static const uint32_t standard[] = { WINTERHASP_RULE_ANNEX_B, 2, UINT32_MAX };
+    /* the sample's first part, which is of tile 0 */
+    static const uint8_t row[WINTERHASP_ROW_BYTES] = { [9] = FIRST_SOT, [17] = 14 };
+    uint8_t header[45], out[64];
+    uint64_t value;
+    moved(sample, header);
+    for (size_t i = 0; i < sizeof standard / sizeof *standard; i++) {
+        uint32_t rule = standard[i];
+        memset(out, HELD, sizeof out);
+        CHECK(winterhasp_rewrite_siz_for_tile_by_rule(header, 45, 6, rule, NULL, 0, &value) == WINTERHASP_NO_SUCH_TILE);
+        CHECK(value == 2);
+        CHECK(winterhasp_rewrite_siz_for_tile_by_rule(header, 45, 0, rule, out, 44, &value) == WINTERHASP_OUTPUT_TOO_SMALL);
+        CHECK(value == 45 && all_held(out, sizeof out));
+        CHECK(winterhasp_rewrite_siz_for_tile_by_rule(header, 45, 0, rule, out, sizeof out, &value) == 0 && value == 45);
+        CHECK(says(out, 2, 4) && all_held(out + 45, sizeof out - 45));
+        CHECK(winterhasp_rewrite_siz_for_tile_by_rule(header, 45, 1, rule, out, sizeof out, &value) == 0);
+        CHECK(memcmp(out, header, 45) == 0);
+
+        memset(out, HELD, sizeof out);
+        CHECK(winterhasp_build_minimal_codestream_by_rule(header, 45, row, sizeof row, sample, SAMPLE_BYTES, rule, out, 60,
+                                                          &value) == WINTERHASP_OUTPUT_TOO_SMALL);
+        CHECK(value == 61 && all_held(out, sizeof out));
+        CHECK(winterhasp_build_minimal_codestream_by_rule(header, 45, row, sizeof row, sample, SAMPLE_BYTES, rule, out,
+                                                          sizeof out, &value) == 0);
+        CHECK(value == 61 && says(out, 2, 4) && memcmp(out + 45, sample + FIRST_SOT, 14) == 0 && out[61] == HELD);
+    }
+    CHECK(winterhasp_rewrite_siz_for_tile_by_rule(header, 45, 0, WINTERHASP_RULE_ORIGINAL, out, sizeof out, &value) == 0);
+    CHECK(memcmp(out, header, 45) == 0);
+    CHECK(winterhasp_rewrite_siz_for_tile_by_rule(header, 45, 1, WINTERHASP_RULE_ORIGINAL, out, sizeof out, &value) == 0);
+    CHECK(says(out, 3, 4));
+    CHECK(winterhasp_rewrite_siz_for_tile_by_rule(header, 45, 4, WINTERHASP_RULE_ORIGINAL, out, sizeof out, &value) ==
+          WINTERHASP_TILE_OUTSIDE);
+    CHECK(value == 2);
+    CHECK(winterhasp_build_minimal_codestream_by_rule(header, 45, row, sizeof row, sample, SAMPLE_BYTES, WINTERHASP_RULE_ORIGINAL,
+                                                      out, 60, &value) == WINTERHASP_OUTPUT_TOO_SMALL);
+    CHECK(winterhasp_build_minimal_codestream_by_rule(header, 45, row, sizeof row, sample, SAMPLE_BYTES, WINTERHASP_RULE_ORIGINAL,
+                                                      out, sizeof out, &value) == 0);
+    CHECK(value == 61 && memcmp(out, header, 45) == 0);
+
+    /* no grid: the tiles from 4 on, which is past the image's origin */
+    header[35] = 4;
+    memset(out, HELD, sizeof out);
+    CHECK(winterhasp_rewrite_siz_for_tile(header, 45, 0, out, sizeof out, &value) == WINTERHASP_NO_GRID && value == 2);
+    CHECK(winterhasp_build_minimal_codestream(header, 45, row, sizeof row, sample, SAMPLE_BYTES, out, sizeof out, &value) ==
+          WINTERHASP_NO_GRID);
+    CHECK(value == 2 && all_held(out, sizeof out));
+}
+
 int main(void)
 {
     static uint8_t sample[SAMPLE_BYTES + 1], decode_header[45];
@@ -181,8 +286,10 @@ int main(void)
     places();
     headers(sample);
     components(sample);
+    components_by_rule(sample);
     main_header(sample, decode_header);
     parts(sample);
     tile(sample, decode_header);
+    tile_by_rule(sample);
     return differs ? EXIT_FAILURE : EXIT_SUCCESS;
 }

@@ -104,7 +104,7 @@ const REFUSALS: &[Words] = &[
         name: "TILE_OUTSIDE",
         wrong: "the tile lies outside the image, or a sum on the way to its size is too large",
         origin: Origin::Codestream,
-        remedy: "check the tile's index and SIZ; near 2^32, and where tile and image origin differ, a tile that is there is refused too",
+        remedy: "check the tile's index and SIZ, or ask by Annex B's rule, which refuses no tile that is there",
     },
     Words {
         number: 11,
@@ -210,6 +210,20 @@ const REFUSALS: &[Words] = &[
         wrong: "a component's samples lie 0 apart",
         origin: Origin::Codestream,
         remedy: "ask for the file again: its size segment is damaged",
+    },
+    Words {
+        number: 30,
+        name: "NO_GRID",
+        wrong: "the image size segment (SIZ) lays no grid of tiles over the image",
+        origin: Origin::Codestream,
+        remedy: "ask for the file again: its size segment is damaged",
+    },
+    Words {
+        number: 31,
+        name: "NO_SUCH_TILE",
+        wrong: "the grid has no tile of this index",
+        origin: Origin::Codestream,
+        remedy: "check the tile's index: the grid of tiles ends before it",
     },
 ];
 
