@@ -65,6 +65,16 @@ mod archive {
             value: *mut u64,
         ) -> u32;
 
+        pub fn winterhasp_rewrite_siz_for_tile_by_rule(
+            decode_header: *const u8,
+            decode_header_len: usize,
+            isot: u16,
+            rule: u32,
+            out: *mut u8,
+            out_len: usize,
+            value: *mut u64,
+        ) -> u32;
+
         pub fn winterhasp_build_minimal_codestream(
             decode_header: *const u8,
             decode_header_len: usize,
@@ -72,6 +82,19 @@ mod archive {
             tile_parts_len: usize,
             codestream: *const u8,
             codestream_len: usize,
+            out: *mut u8,
+            out_len: usize,
+            value: *mut u64,
+        ) -> u32;
+
+        pub fn winterhasp_build_minimal_codestream_by_rule(
+            decode_header: *const u8,
+            decode_header_len: usize,
+            tile_parts: *const u8,
+            tile_parts_len: usize,
+            codestream: *const u8,
+            codestream_len: usize,
+            rule: u32,
             out: *mut u8,
             out_len: usize,
             value: *mut u64,
@@ -117,6 +140,18 @@ mod archive {
             y1: *mut u64,
         ) -> u32;
 
+        pub fn winterhasp_read_components_in_tile_by_rule(
+            codestream: *const u8,
+            codestream_len: usize,
+            tile: u16,
+            rule: u32,
+            components: *mut u64,
+            x0: *mut u64,
+            y0: *mut u64,
+            x1: *mut u64,
+            y1: *mut u64,
+        ) -> u32;
+
         pub fn winterhasp_component(
             codestream: *const u8,
             codestream_len: usize,
@@ -135,6 +170,22 @@ mod archive {
             codestream: *const u8,
             codestream_len: usize,
             tile: u16,
+            number: u64,
+            bits: *mut u64,
+            signed: *mut u64,
+            xrsiz: *mut u64,
+            yrsiz: *mut u64,
+            x0: *mut u64,
+            y0: *mut u64,
+            x1: *mut u64,
+            y1: *mut u64,
+        ) -> u32;
+
+        pub fn winterhasp_component_in_tile_by_rule(
+            codestream: *const u8,
+            codestream_len: usize,
+            tile: u16,
+            rule: u32,
             number: u64,
             bits: *mut u64,
             signed: *mut u64,
@@ -268,6 +319,11 @@ pub fn split_at(tile: &[u8], at: u64, out: &mut [u8], value: &mut u64) -> u32 {
     }
 }
 
+/// The rules by which a tile's place is told, as the functions take them that end in `by_rule`; any
+/// other number means the standard's, by which all other functions go.
+pub const ANNEX_B: u32 = 0;
+pub const ORIGINAL: u32 = 1;
+
 /// The header goes to `out`, its length to `value`.
 pub fn rewrite_siz_for_tile(
     decode_header: &[u8],
@@ -281,6 +337,28 @@ pub fn rewrite_siz_for_tile(
             decode_header.as_ptr(),
             decode_header.len(),
             isot,
+            out.as_mut_ptr(),
+            out.len(),
+            value,
+        )
+    }
+}
+
+/// The same by a rule.
+pub fn rewrite_siz_for_tile_by_rule(
+    decode_header: &[u8],
+    isot: u16,
+    rule: u32,
+    out: &mut [u8],
+    value: &mut u64,
+) -> u32 {
+    // SAFETY: as at the top of this file.
+    unsafe {
+        archive::winterhasp_rewrite_siz_for_tile_by_rule(
+            decode_header.as_ptr(),
+            decode_header.len(),
+            isot,
+            rule,
             out.as_mut_ptr(),
             out.len(),
             value,
@@ -305,6 +383,32 @@ pub fn build_minimal_codestream(
             tile_parts.len(),
             codestream.as_ptr(),
             codestream.len(),
+            out.as_mut_ptr(),
+            out.len(),
+            value,
+        )
+    }
+}
+
+/// The same by a rule.
+pub fn build_minimal_codestream_by_rule(
+    decode_header: &[u8],
+    tile_parts: &[u8],
+    codestream: &[u8],
+    rule: u32,
+    out: &mut [u8],
+    value: &mut u64,
+) -> u32 {
+    // SAFETY: as at the top of this file.
+    unsafe {
+        archive::winterhasp_build_minimal_codestream_by_rule(
+            decode_header.as_ptr(),
+            decode_header.len(),
+            tile_parts.as_ptr(),
+            tile_parts.len(),
+            codestream.as_ptr(),
+            codestream.len(),
+            rule,
             out.as_mut_ptr(),
             out.len(),
             value,
@@ -380,7 +484,30 @@ pub fn read_components_in_tile(
     }
 }
 
-/// What the three functions below answer where there is no component of that number; the numbers lent
+/// The same numbers, by a rule.
+pub fn read_components_in_tile_by_rule(
+    codestream: &[u8],
+    tile: u16,
+    rule: u32,
+    [components, x0, y0, x1, y1]: &mut [u64; 5],
+) -> u32 {
+    // SAFETY: as at the top of this file.
+    unsafe {
+        archive::winterhasp_read_components_in_tile_by_rule(
+            codestream.as_ptr(),
+            codestream.len(),
+            tile,
+            rule,
+            components,
+            x0,
+            y0,
+            x1,
+            y1,
+        )
+    }
+}
+
+/// What the four functions below answer where there is no component of that number; the numbers lent
 /// are then as they were.
 pub const NO_SUCH_COMPONENT: u32 = 256;
 
@@ -421,6 +548,34 @@ pub fn component_in_tile(
             codestream.as_ptr(),
             codestream.len(),
             tile,
+            number,
+            bits,
+            signed,
+            xrsiz,
+            yrsiz,
+            x0,
+            y0,
+            x1,
+            y1,
+        )
+    }
+}
+
+/// The same numbers, of the component in a tile by a rule.
+pub fn component_in_tile_by_rule(
+    codestream: &[u8],
+    tile: u16,
+    rule: u32,
+    number: u64,
+    [bits, signed, xrsiz, yrsiz, x0, y0, x1, y1]: &mut [u64; 8],
+) -> u32 {
+    // SAFETY: as at the top of this file.
+    unsafe {
+        archive::winterhasp_component_in_tile_by_rule(
+            codestream.as_ptr(),
+            codestream.len(),
+            tile,
+            rule,
             number,
             bits,
             signed,

@@ -5,6 +5,7 @@ use std::ops::Range;
 use crate::boundary;
 use crate::lent::accepted;
 use crate::refusal::Refusal;
+use crate::rule::Rule;
 use crate::siz::{pixel_type_from_siz, SampleType};
 
 /// A part of a grid: from `x0`, `y0` on, to `x1`, `y1`, which no longer belong to it.
@@ -131,7 +132,7 @@ impl<'a> Components<'a> {
         })
     }
 
-    /// With their sizes in one tile.
+    /// With their sizes in one tile, by the standard's rule ([`Rule::AnnexB`]).
     ///
     /// ```
     /// use winterhasp::{Area, Components};
@@ -141,12 +142,36 @@ impl<'a> Components<'a> {
     /// assert_eq!(Components::read_in_tile(&codestream, 5)?.area(), area);
     ///
     /// let refusal = Components::read_in_tile(&codestream, 6).unwrap_err();
-    /// assert_eq!((refusal.number(), refusal.place()), (10, 2));
+    /// assert_eq!((refusal.number(), refusal.place()), (31, 2));
     /// # Ok::<(), Box<dyn std::error::Error>>(())
     /// ```
     pub fn read_in_tile(codestream: &'a [u8], tile: u16) -> Result<Self, Refusal> {
         Self::checked(codestream, |numbers| {
             boundary::read_components_in_tile(codestream, tile, numbers)
+        })
+    }
+
+    /// With their sizes in one tile, by a [`Rule`].
+    ///
+    /// ```
+    /// use winterhasp::{Components, Rule};
+    ///
+    /// let mut codestream = std::fs::read("sample-a.j2k")?;
+    /// // tiles from 1 on, where the image starts at 0
+    /// codestream[35] = 1;
+    /// let refusal = Components::read_in_tile_by_rule(&codestream, 5, Rule::AnnexB).unwrap_err();
+    /// assert_eq!((refusal.number(), refusal.place()), (30, 2));
+    /// let area = Components::read_in_tile_by_rule(&codestream, 5, Rule::Original)?.area();
+    /// assert_eq!((area.x0, area.x1), (8, 10));
+    /// # Ok::<(), Box<dyn std::error::Error>>(())
+    /// ```
+    pub fn read_in_tile_by_rule(
+        codestream: &'a [u8],
+        tile: u16,
+        rule: Rule,
+    ) -> Result<Self, Refusal> {
+        Self::checked(codestream, |numbers| {
+            boundary::read_components_in_tile_by_rule(codestream, tile, rule.number(), numbers)
         })
     }
 
@@ -299,7 +324,7 @@ pub fn component(codestream: &[u8], number: u64) -> Result<Option<Component>, Re
     found(|numbers| boundary::component(codestream, number, numbers))
 }
 
-/// The same, with its size in one tile.
+/// The same, with its size in one tile by the standard's rule ([`Rule::AnnexB`]).
 ///
 /// ```
 /// use winterhasp::{component_in_tile, Area};
@@ -310,7 +335,7 @@ pub fn component(codestream: &[u8], number: u64) -> Result<Option<Component>, Re
 /// let first = component_in_tile(&codestream, 5, 0)?.ok_or("no component")?;
 /// assert_eq!(first.area, Area { x0: 3, y0: 1, x1: 4, y1: 2 });
 /// assert_eq!(component_in_tile(&codestream, 5, 1)?, None);
-/// assert_eq!(component_in_tile(&codestream, 6, 1).unwrap_err().number(), 10);
+/// assert_eq!(component_in_tile(&codestream, 6, 1).unwrap_err().number(), 31);
 /// # Ok::<(), Box<dyn std::error::Error>>(())
 /// ```
 pub fn component_in_tile(
@@ -319,6 +344,33 @@ pub fn component_in_tile(
     number: u64,
 ) -> Result<Option<Component>, Refusal> {
     found(|numbers| boundary::component_in_tile(codestream, tile, number, numbers))
+}
+
+/// The same, with its size in one tile by a [`Rule`].
+///
+/// ```
+/// use winterhasp::{component_in_tile_by_rule, Rule};
+///
+/// let mut codestream = std::fs::read("sample-a.j2k")?;
+/// // the image from 3 and the tiles from 1 on, in columns
+/// (codestream[19], codestream[35]) = (3, 1);
+/// let width = |rule| {
+///     let found = component_in_tile_by_rule(&codestream, 0, rule, 0)?;
+///     Ok::<_, winterhasp::Refusal>(found.map(|component| component.area.width()))
+/// };
+/// assert_eq!(width(Rule::AnnexB)?, Some(2));
+/// assert_eq!(width(Rule::Original)?, Some(4));
+/// # Ok::<(), Box<dyn std::error::Error>>(())
+/// ```
+pub fn component_in_tile_by_rule(
+    codestream: &[u8],
+    tile: u16,
+    rule: Rule,
+    number: u64,
+) -> Result<Option<Component>, Refusal> {
+    found(|numbers| {
+        boundary::component_in_tile_by_rule(codestream, tile, rule.number(), number, numbers)
+    })
 }
 
 /// That there is no such component is no refusal.
@@ -332,7 +384,10 @@ fn found(call: impl FnOnce(&mut [u64; 8]) -> u32) -> Result<Option<Component>, R
 
 #[cfg(test)]
 mod tests {
-    use super::{component, component_in_tile, Area, Component, Components};
+    use super::{
+        component, component_in_tile, component_in_tile_by_rule, Area, Component, Components,
+    };
+    use crate::rule::Rule;
 
     const SAMPLE: &[u8] = include_bytes!("../sample-a.j2k");
     const MOST: u16 = 16_384;
@@ -432,14 +487,47 @@ mod tests {
         assert_eq!(component_in_tile(&codestream, 5, 3), Ok(None));
         for outside in [6, u16::MAX] {
             let refusal = Components::read_in_tile(&codestream, outside).unwrap_err();
-            assert_eq!((refusal.number(), refusal.place()), (10, 2));
+            assert_eq!((refusal.number(), refusal.place()), (31, 2));
         }
+    }
+
+    #[test]
+    fn the_rules_part() {
+        let read = |codestream: &[u8], tile, rule| {
+            let read = Components::read_in_tile_by_rule(codestream, tile, rule);
+            let alone = component_in_tile_by_rule(codestream, tile, rule, 0);
+            assert_eq!(alone, read.map(|read| read.get(0)));
+            if rule == Rule::default() {
+                assert_eq!(Components::read_in_tile(codestream, tile), read);
+                assert_eq!(component_in_tile(codestream, tile, 0), alone);
+            }
+            read.map(|read| [read.area.x0, read.area.y0, read.area.x1, read.area.y1])
+                .map_err(|refusal| (refusal.number(), refusal.place()))
+        };
+        let both = |codestream: &[u8], tile| {
+            [Rule::AnnexB, Rule::Original].map(|rule| read(codestream, tile, rule))
+        };
+        for tile in 0..6 {
+            let [standard, original] = both(SAMPLE, tile);
+            assert!(standard.is_ok());
+            assert_eq!(standard, original);
+        }
+        assert_eq!(both(SAMPLE, 6), [Err((31, 2)), Err((10, 2))]);
         // a row that starts where the image ends
         let flat = with(15, &[4]);
-        let below = Components::read_in_tile(&flat, 3).expect("accepted by the rules");
-        let area = below.area();
-        assert_eq!((area.width(), area.height()), (4, 0));
-        assert_eq!(below.get(0).map(|component| component.area), Some(area));
+        assert_eq!(both(&flat, 3), [Err((31, 2)), Ok([0, 4, 4, 4])]);
+        // the image from 5 on, and tiles of 4 that end with it, reach into it, start with it and
+        // past it
+        let mut moved = with(19, &[5]);
+        for (tile_origin, standard) in [
+            (1, Err((30, 2))),
+            (2, Ok([5, 0, 6, 4])),
+            (5, Ok([5, 0, 9, 4])),
+            (6, Err((30, 2))),
+        ] {
+            moved[35] = tile_origin;
+            assert_eq!(both(&moved, 0), [standard, Ok([5, 0, 9, 4])]);
+        }
     }
 
     #[test]

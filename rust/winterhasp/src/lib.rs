@@ -35,6 +35,7 @@ mod header;
 mod lent;
 mod offsets;
 mod refusal;
+mod rule;
 mod scan;
 mod search;
 mod siz;
@@ -42,17 +43,23 @@ mod split;
 mod tile;
 mod tile_part;
 
-pub use components::{component, component_in_tile, Area, Component, ComponentIter, Components};
+pub use components::{
+    component, component_in_tile, component_in_tile_by_rule, Area, Component, ComponentIter,
+    Components,
+};
 pub use extent::{main_header_extent, MainHeaderExtent};
 pub use growth::{grow_header_region, next_region, HeaderRegion};
 pub use header::{parse_main_header, MainHeader};
 pub use offsets::{CodestreamOffset, FileOffset};
 pub use refusal::{Origin, Refusal};
+pub use rule::Rule;
 pub use scan::scan_sot_markers;
 pub use search::{find_codestream, Codestream};
 pub use siz::{parse_siz_marker, pixel_type_from_siz, SampleType, Siz};
 pub use split::{split_tile_parts, Parts};
 pub use tile::{
-    build_minimal_codestream, build_minimal_codestream_from_parts, rewrite_siz_for_tile,
+    build_minimal_codestream, build_minimal_codestream_by_rule,
+    build_minimal_codestream_from_parts, build_minimal_codestream_from_parts_by_rule,
+    rewrite_siz_for_tile, rewrite_siz_for_tile_by_rule,
 };
 pub use tile_part::{TilePart, TilePartBytes, TileParts};
