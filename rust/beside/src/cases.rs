@@ -4,7 +4,7 @@
 use std::collections::BTreeSet;
 
 use crate::caught::caught;
-use crate::model::Entry;
+use crate::model::{Entry, Refusal};
 use crate::random::Random;
 
 /// One kind of case.
@@ -68,6 +68,11 @@ impl List {
 pub fn listed(entries: &[Entry]) -> String {
     let text = |(index, offset, length): &Entry| format!(" {index} {offset} {length}");
     entries.iter().map(text).collect()
+}
+
+/// ` refused NUMBER PLACE`, of what the model answers.
+pub fn refused(Refusal { number, place }: Refusal) -> String {
+    format!(" refused {number} {place}")
 }
 
 #[cfg(test)]

@@ -38,6 +38,14 @@ impl<A> Told<A> {
         }
     }
 
+    /// The same, or that it wasn't asked.
+    pub fn only_if(self, asked: bool) -> Self {
+        match asked {
+            true => self,
+            false => Told::Nothing,
+        }
+    }
+
     /// What `more` makes of an answer; all else stays.
     pub fn and_then<B>(self, more: impl FnOnce(A) -> Told<B>) -> Told<B> {
         match self {
@@ -192,6 +200,8 @@ mod tests {
     fn where_the_original_says_nothing_the_document_decides() {
         assert!(holds(lent(0, 5), Told::Nothing, Ok(5)));
         assert!(!holds(lent(0, 4), Told::Nothing, Ok(5)));
+        assert!(holds(lent(0, 5), Told::Accepted(4).only_if(false), Ok(5)));
+        assert!(!holds(lent(0, 5), Told::Accepted(4).only_if(true), Ok(5)));
         let too_small = Refusal::new(17, 3);
         assert!(holds(lent(17, 3), Told::Accepted(5), Err(too_small)));
         assert!(!holds(lent(0, 5), Told::Accepted(5), Err(too_small)));

@@ -84,17 +84,62 @@ pub const SPLIT_BY_POSITION: Wanted = Wanted {
     answers: &[(WALK, 70_000), SPLIT_AT.answers[0], SPLIT_AT.answers[1]],
 };
 
+/// Of functions that write one tile by Annex B's rule: the original's answers count where the rules
+/// have to agree.
+const BY_ANNEX_B: &[Answer] = &[
+    (ACCEPTED, 60_000),
+    ("refused 17", 0),
+    ("refused 30", 0),
+    ("refused 31", 0),
+];
+/// By any rule, where the original isn't asked.
+const BY_ANY_RULE: &[Answer] = &[
+    (ACCEPTED, 0),
+    ("refused 10", 0),
+    ("refused 17", 0),
+    ("refused 30", 0),
+    ("refused 31", 0),
+];
+
 pub const REWRITE: Wanted = Wanted {
     name: "rewrite_siz_for_tile",
+    answers: BY_ANNEX_B,
+};
+pub const REWRITE_BY_RULE: Wanted = Wanted {
+    name: "rewrite_siz_for_tile_by_rule",
+    answers: BY_ANY_RULE,
+};
+pub const REWRITE_BY_ANNEX_B: Wanted = Wanted {
+    name: "rewrite_siz_for_tile_by_rule, Annex B's",
+    answers: BY_ANNEX_B,
+};
+pub const REWRITE_BY_ORIGINAL: Wanted = Wanted {
+    name: "rewrite_siz_for_tile_by_rule, the original's",
     answers: &[(ACCEPTED, 150_000), ("refused 10", 0), ("refused 17", 0)],
 };
 
 pub const ASSEMBLY: Wanted = Wanted {
     name: "build_minimal_codestream",
+    answers: BY_ANNEX_B,
+};
+pub const ASSEMBLY_BY_RULE: Wanted = Wanted {
+    name: "build_minimal_codestream_by_rule",
+    answers: BY_ANY_RULE,
+};
+pub const ASSEMBLY_BY_ANNEX_B: Wanted = Wanted {
+    name: "build_minimal_codestream_by_rule, Annex B's",
+    answers: BY_ANNEX_B,
+};
+pub const ASSEMBLY_BY_ORIGINAL: Wanted = Wanted {
+    name: "build_minimal_codestream_by_rule, the original's",
     answers: &[(ACCEPTED, 100_000), ("refused 10", 0), ("refused 17", 0)],
 };
 pub const FROM_PARTS: Wanted = Wanted {
     name: "build_minimal_codestream_from_parts",
+    answers: &[(ACCEPTED, 120_000), ("refused 30", 0), ("refused 31", 0)],
+};
+pub const FROM_PARTS_BY_ORIGINAL: Wanted = Wanted {
+    name: "build_minimal_codestream_from_parts_by_rule, the original's",
     answers: &[(ACCEPTED, 200_000), ("refused 10", 0)],
 };
 
@@ -185,6 +230,23 @@ pub const READ_COMPONENTS: Wanted = Wanted {
 };
 pub const READ_COMPONENTS_IN_TILE: Wanted = Wanted {
     name: "read_components_in_tile",
+    answers: &or_refused::<9>(&[(ACCEPTED, 25_000), ("refused 30", 0), ("refused 31", 0)]),
+};
+pub const READ_COMPONENTS_BY_RULE: Wanted = Wanted {
+    name: "read_components_in_tile_by_rule",
+    answers: &or_refused::<10>(&[
+        (ACCEPTED, 0),
+        ("refused 10", 0),
+        ("refused 30", 0),
+        ("refused 31", 0),
+    ]),
+};
+pub const READ_COMPONENTS_BY_ANNEX_B: Wanted = Wanted {
+    name: "read_components_in_tile_by_rule, Annex B's",
+    ..READ_COMPONENTS_IN_TILE
+};
+pub const READ_COMPONENTS_BY_ORIGINAL: Wanted = Wanted {
+    name: "read_components_in_tile_by_rule, the original's",
     answers: &or_refused::<8>(&[(ACCEPTED, 100_000), ("refused 10", 0)]),
 };
 
@@ -195,6 +257,29 @@ pub const COMPONENT: Wanted = Wanted {
 };
 pub const COMPONENT_IN_TILE: Wanted = Wanted {
     name: "component_in_tile",
+    answers: &or_refused::<10>(&[
+        (ACCEPTED, 20_000),
+        (NONE, 5_000),
+        ("refused 30", 0),
+        ("refused 31", 0),
+    ]),
+};
+pub const COMPONENT_BY_RULE: Wanted = Wanted {
+    name: "component_in_tile_by_rule",
+    answers: &or_refused::<11>(&[
+        (ACCEPTED, 0),
+        (NONE, 0),
+        ("refused 10", 0),
+        ("refused 30", 0),
+        ("refused 31", 0),
+    ]),
+};
+pub const COMPONENT_BY_ANNEX_B: Wanted = Wanted {
+    name: "component_in_tile_by_rule, Annex B's",
+    ..COMPONENT_IN_TILE
+};
+pub const COMPONENT_BY_ORIGINAL: Wanted = Wanted {
+    name: "component_in_tile_by_rule, the original's",
     answers: &or_refused::<9>(&[(ACCEPTED, 70_000), (NONE, 30_000), ("refused 10", 0)]),
 };
 pub const COMPONENT_WITHIN: Wanted = Wanted {

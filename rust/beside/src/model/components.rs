@@ -1,7 +1,7 @@
 //! "Component sizes".
 
 use super::header::opens_with_siz;
-use super::tile::tile_area;
+use super::rules::{tile_area, Rule};
 use super::{read, Area, Refusal};
 
 /// How many, and the area of the image or of a tile of it.
@@ -55,9 +55,13 @@ pub fn read_components(codestream: &[u8]) -> Result<Components, Refusal> {
     Ok((csiz, area))
 }
 
-pub fn read_components_in_tile(codestream: &[u8], tile: u16) -> Result<Components, Refusal> {
+pub fn read_components_in_tile(
+    codestream: &[u8],
+    tile: u16,
+    rule: Rule,
+) -> Result<Components, Refusal> {
     let (count, _) = read_components(codestream)?;
-    Ok((count, tile_area(codestream, tile)?))
+    Ok((count, tile_area(codestream, tile, rule)?))
 }
 
 /// Of the component `k`, if they are all there.
@@ -100,8 +104,9 @@ pub fn component(codestream: &[u8], number: u64) -> Result<Option<Component>, Re
 pub fn component_in_tile(
     codestream: &[u8],
     tile: u16,
+    rule: Rule,
     number: u64,
 ) -> Result<Option<Component>, Refusal> {
-    let (_, area) = read_components_in_tile(codestream, tile)?;
+    let (_, area) = read_components_in_tile(codestream, tile, rule)?;
     Ok(component_within(codestream, area, number))
 }

@@ -1,21 +1,19 @@
 //! "SIZ rewrite", "Assembly".
 
-use super::{number, read, Area, Range, Refusal};
-use crate::sample::codestream::{EOC, SIZ, SOT};
+use super::rules::{field, has_siz, tile_area, Rule, ORIGIN, SIZE, TILE, TILE_ORIGIN};
+use super::{read, Range, Refusal};
+use crate::sample::codestream::{EOC, SOT};
 
-const SHORTEST_HEADER: usize = 40;
-/// The fields' offsets, from the header's start: each group is one field of x and one of y.
-const SIZE: usize = 8;
-const ORIGIN: usize = 16;
-const TILE: usize = 24;
-const TILE_ORIGIN: usize = 32;
-
-pub fn rewrite_siz_for_tile(decode_header: &[u8], isot: u16) -> Result<Vec<u8>, Refusal> {
+pub fn rewrite_siz_for_tile(
+    decode_header: &[u8],
+    isot: u16,
+    rule: Rule,
+) -> Result<Vec<u8>, Refusal> {
     let mut header = decode_header.to_vec();
-    if header.len() < SHORTEST_HEADER || read(&header, 2, 2) != Some(SIZ.into()) {
+    if !has_siz(&header) {
         return Ok(header);
     }
-    let [x0, y0, x1, y1] = tile_area(&header, isot)?;
+    let [x0, y0, x1, y1] = tile_area(&header, isot, rule)?;
     let (width, height) = (x1 - x0, y1 - y0);
     if [width, height].map(u64::from) != [field(&header, TILE), field(&header, TILE + 4)] {
         for (at, x, y) in [
@@ -31,47 +29,14 @@ pub fn rewrite_siz_for_tile(decode_header: &[u8], isot: u16) -> Result<Vec<u8>, 
     Ok(header)
 }
 
-fn field(header: &[u8], at: usize) -> u64 {
-    number(&header[at..at + 4])
-}
-
-/// Of a header that holds the fields: 10 where a step falls below 0, passes 2^32-1 or divides by 0.
-pub fn tile_area(header: &[u8], isot: u16) -> Result<Area, Refusal> {
-    steps(header, isot).ok_or(Refusal::new(10, 2))
-}
-
-fn steps(header: &[u8], isot: u16) -> Option<Area> {
-    let (size, origin) = (field(header, SIZE), field(header, ORIGIN));
-    let tile = field(header, TILE);
-    let across = size.checked_sub(origin)?;
-    let columns = across.checked_add(tile.checked_sub(1)?)? / tile;
-    let column = u64::from(isot).checked_rem(columns)?;
-    let row = u64::from(isot) / columns;
-    let (x0, x1) = extent(size, origin, tile, column)?;
-    let (y0, y1) = extent(
-        field(header, SIZE + 4),
-        field(header, ORIGIN + 4),
-        field(header, TILE + 4),
-        row,
-    )?;
-    Some([x0, y0, x1, y1])
-}
-
-/// Where the tile that is `nth` in one direction starts and ends.
-fn extent(size: u64, origin: u64, tile: u64, nth: u64) -> Option<(u32, u32)> {
-    let within = |sum: u64| u32::try_from(sum).ok();
-    let start = within(origin + u64::from(within(nth * tile)?))?;
-    let end = within(u64::from(start) + tile)?.min(within(size)?);
-    (start <= end).then_some((start, end))
-}
-
 pub fn build_minimal_codestream(
     decode_header: &[u8],
     ranges: &[Range],
     codestream: &[u8],
+    rule: Rule,
     room: usize,
 ) -> Result<Vec<u8>, Refusal> {
-    build_from_parts(decode_header, &kept(ranges, codestream), room)
+    build_from_parts(decode_header, &kept(ranges, codestream), rule, room)
 }
 
 /// The parts of ranges; one that passes the end is dropped.
@@ -86,14 +51,14 @@ pub fn kept<'a>(ranges: &[Range], codestream: &'a [u8]) -> Vec<&'a [u8]> {
 pub fn build_from_parts(
     decode_header: &[u8],
     parts: &[&[u8]],
+    rule: Rule,
     room: usize,
 ) -> Result<Vec<u8>, Refusal> {
     let header = match parts.first().and_then(|part| isot(part)) {
-        Some(isot) => rewrite_siz_for_tile(decode_header, isot)?,
+        Some(isot) => rewrite_siz_for_tile(decode_header, isot, rule)?,
         None => decode_header.to_vec(),
     };
-    let part_bytes: u128 = parts.iter().map(|part| part.len() as u128).sum();
-    Refusal::unless_it_holds(room, header.len() as u128 + part_bytes + 2)?;
+    Refusal::unless_it_holds(room, needed(decode_header, parts))?;
     let mut out = header;
     for part in parts {
         let at = out.len();
@@ -104,6 +69,12 @@ pub fn build_from_parts(
     }
     out.extend(EOC.to_be_bytes());
     Ok(out)
+}
+
+/// Bytes of header, parts and EOC.
+pub fn needed(decode_header: &[u8], parts: &[&[u8]]) -> u128 {
+    let part_bytes: u128 = parts.iter().map(|part| part.len() as u128).sum();
+    decode_header.len() as u128 + part_bytes + 2
 }
 
 /// Of a part that begins with FF90 and has 6 bytes.

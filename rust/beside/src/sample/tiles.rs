@@ -2,9 +2,9 @@
 
 use super::codestream::Codestream;
 use super::parts::{sot, tile_parts};
-use super::sizes::{header, header_and_index, SAMPLE_A};
+use super::sizes::{header, header_and_index, MOVED, SAMPLE_A};
 use super::{sample_a, SAMPLE_A_FIRST_SOT};
-use crate::model::tile::build_minimal_codestream;
+use crate::model::tile::{kept, needed};
 use crate::model::{rows, Range, ROW};
 use crate::random::Random;
 
@@ -29,15 +29,10 @@ impl Input {
         rows
     }
 
-    /// Bytes of output; some where the assembly is refused.
+    /// Bytes of output, if the assembly isn't refused.
     pub fn needed(&self) -> usize {
-        let Input {
-            header,
-            ranges,
-            codestream,
-        } = self;
-        let built = build_minimal_codestream(header, ranges, codestream, usize::MAX);
-        built.map_or(50, |built| built.len())
+        let parts = kept(&self.ranges, &self.codestream);
+        needed(&self.header, &parts) as usize
     }
 }
 
@@ -64,11 +59,50 @@ pub fn inputs(random: &mut Random) -> Vec<Input> {
     inputs
 }
 
+/// Tiles of a grid whose tile and image origin differ, and those behind it.
+pub fn inputs_of_annex_b(random: &mut Random) -> Vec<Input> {
+    let mut inputs = Vec::new();
+    for isot in (0..18).chain([255, 65_535]) {
+        let part = [&sot(isot, 14)[..], &[0xFF, 0x93]].concat();
+        inputs.push(Input {
+            header: header(MOVED),
+            ranges: vec![(0, 14), (0, 12), (0, 15), (0, 6)],
+            codestream: part,
+        });
+    }
+    for range in edges() {
+        inputs.push(Input {
+            header: header(MOVED),
+            ranges: vec![range, (71, 16)],
+            codestream: sample_a(),
+        });
+    }
+    inputs.extend((0..320).map(|_| random_input(random)));
+    inputs
+}
+
 /// Pairs of ranges at every edge of sample A and its parts.
 fn on_sample_a() -> Vec<Input> {
+    let input = |ranges: &[Range]| Input {
+        header: header(SAMPLE_A),
+        ranges: ranges.to_vec(),
+        codestream: sample_a(),
+    };
+    let mut inputs = vec![input(&[])];
+    for first in edges() {
+        inputs.push(input(&[first]));
+        for second in edges() {
+            inputs.push(input(&[first, second]));
+        }
+    }
+    inputs
+}
+
+/// At every edge of sample A and its parts.
+fn edges() -> [Range; 20] {
     let end = sample_a().len() as u64;
     let first_sot = SAMPLE_A_FIRST_SOT as u64;
-    let ranges = [
+    [
         (first_sot, 14),
         (71, 16),
         (first_sot, 5),
@@ -89,20 +123,7 @@ fn on_sample_a() -> Vec<Input> {
         (u64::MAX, 0),
         (0, u64::MAX),
         (u64::MAX - 14, 14),
-    ];
-    let input = |ranges: &[Range]| Input {
-        header: header(SAMPLE_A),
-        ranges: ranges.to_vec(),
-        codestream: sample_a(),
-    };
-    let mut inputs = vec![input(&[])];
-    for first in ranges {
-        inputs.push(input(&[first]));
-        for second in ranges {
-            inputs.push(input(&[first, second]));
-        }
-    }
-    inputs
+    ]
 }
 
 /// Parts of a tile or of several, whole or not, and ranges that mostly have to do with them.

@@ -1,4 +1,6 @@
-//! The comparison: bytes written, refusals, and the output beyond.
+//! The comparison: bytes written, refusals, and the output beyond. By the original's rule beside
+//! the original, and by Annex B's beside the model, and beside the original where the rules have to
+//! agree.
 
 use original::markers;
 use probe::host;
@@ -7,14 +9,15 @@ use super::from_parts;
 use crate::compare::{self, Comparison};
 use crate::judge::{Case, Told};
 use crate::lent::{room, Lent};
+use crate::model::rules::{have_to_agree, Rule};
 use crate::model::tile::build_minimal_codestream;
 use crate::model::{Range, Refusal};
 use crate::sample::damage::damage;
 use crate::sample::parts::{many, sot};
-use crate::sample::sizes::{header, SAMPLE_A};
-use crate::sample::tiles::{inputs, random_input, rows_of, Input};
+use crate::sample::sizes::{annex_b_number, header, MOVED, SAMPLE_A};
+use crate::sample::tiles::{inputs, inputs_of_annex_b, random_input, rows_of, Input};
 use crate::sample::zeros::zeros;
-use crate::tally::hex;
+use crate::tally::{hex, Tally};
 use crate::wanted;
 
 type Build = fn(&[u8], &[Range], &[u8]) -> Vec<u8>;
@@ -29,8 +32,13 @@ pub struct Original {
 pub type Run = compare::Run<Original>;
 
 pub const COMPARISON: Comparison<Original> = Comparison {
-    wanted: wanted::ASSEMBLY,
-    also: &[wanted::FROM_PARTS],
+    wanted: wanted::ASSEMBLY_BY_ORIGINAL,
+    also: &[
+        wanted::ASSEMBLY,
+        wanted::ASSEMBLY_BY_ANNEX_B,
+        wanted::FROM_PARTS_BY_ORIGINAL,
+        wanted::FROM_PARTS,
+    ],
     minimum: 1_000_000,
     original: Original {
         build: markers::build_minimal_codestream,
@@ -42,7 +50,9 @@ pub const COMPARISON: Comparison<Original> = Comparison {
 
 fn fixed(run: &mut Run) {
     past_4_gigabytes(run);
-    run.each(inputs, every_room);
+    for make in [inputs, inputs_of_annex_b] {
+        run.each(make, every_room);
+    }
     long_parts(run);
 }
 
@@ -60,30 +70,58 @@ fn every_room(run: &mut Run, input: &Input) {
     from_parts::check(run, input);
 }
 
+/// By a rule's number, or without one.
+pub fn built(
+    rule: Option<u32>,
+    header: &[u8],
+    rows: &[u8],
+    codestream: &[u8],
+    out: &mut [u8],
+    value: &mut u64,
+) -> u32 {
+    match rule {
+        None => host::build_minimal_codestream(header, rows, codestream, out, value),
+        Some(rule) => {
+            host::build_minimal_codestream_by_rule(header, rows, codestream, rule, out, value)
+        }
+    }
+}
+
 fn check_with(run: &mut Run, input: &Input, size: usize) {
     let Input {
         header,
         ranges,
         codestream,
     } = input;
+    let document = |rule| build_minimal_codestream(header, ranges, codestream, rule, size);
+    let original = document(Rule::Original);
+    let passes = |&(offset, length): &Range| offset.checked_add(length).is_none();
+    let panics = ranges.iter().any(passes) || original.as_ref().is_err_and(Refusal::is_its_panic);
+    let build = run.original.build;
+    let told = Told::by_or_panic(panics, || Some(build(header, ranges, codestream)));
+    let agreed = told.clone().only_if(have_to_agree(header));
+
     let rows = input.rows_and_more(&mut run.random);
     let before = Lent::preset(&mut run.random, [size]);
-    let document = build_minimal_codestream(header, ranges, codestream, size);
-    let passes = |&(offset, length): &Range| offset.checked_add(length).is_none();
-    let panics = ranges.iter().any(passes) || document.as_ref().is_err_and(Refusal::is_its_panic);
-    let build = run.original.build;
-    let case = Case {
-        ours: before.left_by(|[out], [value]| {
-            host::build_minimal_codestream(header, &rows, codestream, out, value)
-        }),
-        before,
-        told: Told::by_or_panic(panics, || Some(build(header, ranges, codestream))),
-        document,
+    let judge = |tally: &mut Tally, rule, told, document| {
+        let case = Case {
+            ours: before
+                .left_by(|[out], [value]| built(rule, header, &rows, codestream, out, value)),
+            before: before.clone(),
+            told,
+            document,
+        };
+        case.judge(tally, || {
+            let [header, codestream] = [header, codestream].map(|bytes| hex(bytes));
+            let lent = format!("header {header}, ranges {ranges:?}, codestream {codestream}");
+            format!("{lent}, rule {rule:?}, output {size}")
+        });
     };
-    case.judge(&mut run.tally, || {
-        let [header, codestream] = [header, codestream].map(|bytes| hex(bytes));
-        format!("header {header}, ranges {ranges:?}, codestream {codestream}, output {size}")
-    });
+    judge(&mut run.tally, Some(host::ORIGINAL), told, original);
+    let standard = document(Rule::AnnexB);
+    judge(&mut run.also[0], None, agreed.clone(), standard.clone());
+    let number = annex_b_number(&mut run.random);
+    judge(&mut run.also[1], Some(number), agreed, standard);
 }
 
 /// Sizes needed that pass 2^32 and 2^33, and parts that lie past 2^32, in 5 GB of zeros. For a size
@@ -96,7 +134,6 @@ fn past_4_gigabytes(run: &mut Run) {
     };
     let sot = sot(5, 14);
     codestream[FAR..FAR + sot.len()].copy_from_slice(&sot);
-    let header = header(SAMPLE_A);
     let far = FAR as u64;
     let whole = (0, LENGTH);
     for (ranges, size) in [
@@ -112,15 +149,21 @@ fn past_4_gigabytes(run: &mut Run) {
     ] {
         let rows = rows_of(&ranges, 9);
         let before = Lent::preset(&mut run.random, [size]);
-        let case = Case {
-            ours: before.left_by(|[out], [value]| {
-                host::build_minimal_codestream(&header, &rows, &codestream, out, value)
-            }),
-            before,
-            told: Told::Nothing,
-            document: build_minimal_codestream(&header, &ranges, &codestream, size),
+        let judge = |tally: &mut Tally, rule: Option<u32>, fields| {
+            let header = header(fields);
+            let by = rule.map_or(Rule::AnnexB, Rule::of);
+            let case = Case {
+                ours: before
+                    .left_by(|[out], [value]| built(rule, &header, &rows, &codestream, out, value)),
+                before: before.clone(),
+                told: Told::Nothing,
+                document: build_minimal_codestream(&header, &ranges, &codestream, by, size),
+            };
+            case.judge(tally, || format!("{ranges:?} of 5 GB, rule {rule:?}"));
         };
-        case.judge(&mut run.tally, || format!("{ranges:?} of 5 GB"));
+        judge(&mut run.tally, Some(host::ORIGINAL), SAMPLE_A);
+        judge(&mut run.also[0], None, MOVED);
+        judge(&mut run.also[1], Some(host::ANNEX_B), MOVED);
     }
 }
 

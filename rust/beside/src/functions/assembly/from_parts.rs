@@ -4,32 +4,38 @@
 
 use probe::host;
 
-use super::compare::Run;
+use super::compare::{built, Run};
 use crate::judge::{Case, Told};
 use crate::lent::Lent;
+use crate::model::rules::{have_to_agree, Rule};
 use crate::model::tile::{build_from_parts, kept};
 use crate::model::Refusal;
 use crate::sample::tiles::{joined, Input};
-use crate::tally::hex;
+use crate::tally::{hex, Tally};
 
 pub fn check(run: &mut Run, input: &Input) {
     let header = &input.header;
     let parts = kept(&input.ranges, &input.codestream);
-    let document = build_from_parts(header, &parts, usize::MAX);
-    let panics = document.as_ref().is_err_and(Refusal::is_its_panic);
-    let size = document.as_ref().map_or(0, Vec::len);
-    let before = Lent::preset(&mut run.random, [size]);
+    let document = |rule| build_from_parts(header, &parts, rule, usize::MAX);
+    let original = document(Rule::Original);
+    let panics = original.as_ref().is_err_and(Refusal::is_its_panic);
+    let told = Told::by_or_panic(panics, || Some((run.original.from_parts)(header, &parts)));
+    let agreed = told.clone().only_if(have_to_agree(header));
+
+    let before = Lent::preset(&mut run.random, [input.needed()]);
     let (bytes, rows) = joined(&parts);
-    let case = Case {
-        ours: before.left_by(|[out], [value]| {
-            host::build_minimal_codestream(header, &rows, &bytes, out, value)
-        }),
-        before,
-        told: Told::by_or_panic(panics, || Some((run.original.from_parts)(header, &parts))),
-        document,
+    let judge = |tally: &mut Tally, rule, told, document| {
+        let case = Case {
+            ours: before.left_by(|[out], [value]| built(rule, header, &rows, &bytes, out, value)),
+            before: before.clone(),
+            told,
+            document,
+        };
+        case.judge(tally, || {
+            let parts: Vec<_> = parts.iter().map(|part| hex(part)).collect();
+            format!("header {}, parts {parts:?}, rule {rule:?}", hex(header))
+        });
     };
-    case.judge(&mut run.also[0], || {
-        let parts: Vec<_> = parts.iter().map(|part| hex(part)).collect();
-        format!("header {}, parts {parts:?}", hex(header))
-    });
+    judge(&mut run.also[2], Some(host::ORIGINAL), told, original);
+    judge(&mut run.also[3], None, agreed, document(Rule::AnnexB));
 }

@@ -1,4 +1,5 @@
-//! `build_minimal_codestream`, ours beside the original's; and the same of parts in place of ranges.
+//! `build_minimal_codestream`, ours beside the original's, and by Annex B's rule beside the model;
+//! and the same of parts in place of ranges.
 
 mod cases;
 mod compare;

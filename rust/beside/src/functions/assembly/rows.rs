@@ -6,6 +6,7 @@ use std::cell::RefCell;
 use original::markers;
 use probe::host;
 
+use super::compare::built;
 use crate::bench::{row, Benchmark, ORIGINAL};
 use crate::sample::parts;
 use crate::sample::sizes::{header, SAMPLE_A};
@@ -13,7 +14,7 @@ use crate::sample::tiles::Input;
 use crate::wanted;
 
 pub const BENCHMARK: Benchmark = Benchmark {
-    name: wanted::ASSEMBLY.name,
+    name: wanted::ASSEMBLY_BY_ORIGINAL.name,
     beside: ORIGINAL,
     rows,
 };
@@ -28,9 +29,10 @@ fn ours(timed: &Timed) -> Option<u64> {
     let Input {
         header, codestream, ..
     } = &timed.input;
+    let (rule, rows) = (Some(host::ORIGINAL), &timed.rows);
     let mut size = 0;
     let mut out = timed.out.borrow_mut();
-    match host::build_minimal_codestream(header, &timed.rows, codestream, &mut out, &mut size) {
+    match built(rule, header, rows, codestream, &mut out, &mut size) {
         0 => Some(size),
         _ => None,
     }

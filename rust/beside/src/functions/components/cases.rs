@@ -1,12 +1,14 @@
-//! The replay list's cases of kind 12; the payload is a tile's index in 2 bytes, a component's number in
-//! 8, and the codestream. The original has no such functions: the answers are the model's.
+//! The replay list's cases of kind 12; the payload is a tile's index in 2 bytes, a component's
+//! number in 8, and the codestream. The original has no such functions: the answers are the
+//! model's, in the tile by Annex B's rule.
 
 use super::{counted, numbers};
-use crate::cases::Kind;
+use crate::cases::{refused, Kind};
 use crate::model::components::{
     component, component_in_tile, component_within, read_components, read_components_in_tile,
     Component, Components,
 };
+use crate::model::rules::Rule;
 use crate::model::{number, Area, Refusal};
 use crate::random::Random;
 use crate::sample::components::{
@@ -14,7 +16,7 @@ use crate::sample::components::{
 };
 use crate::sample::damage::damaged;
 use crate::sample::prefixes;
-use crate::sample::sizes::{around_sample_a, Fields, SAMPLE_A};
+use crate::sample::sizes::{around_sample_a, Fields, MOVED, SAMPLE_A};
 
 pub const KIND: Kind = Kind {
     number: 12,
@@ -60,9 +62,9 @@ fn answer(payload: &[u8]) -> Option<String> {
     let (tile, which) = (number(tile) as u16, number(which));
     let answers = [
         area(read_components(codestream)),
-        area(read_components_in_tile(codestream, tile)),
+        area(read_components_in_tile(codestream, tile, Rule::AnnexB)),
         one(component(codestream, which)),
-        one(component_in_tile(codestream, tile, which)),
+        one(component_in_tile(codestream, tile, Rule::AnnexB, which)),
         one(Ok(component_within(codestream, AREA, which))),
     ];
     Some(format!("components{}", answers.join(",")))
@@ -78,10 +80,6 @@ fn one(read: Result<Option<Component>, Refusal>) -> String {
     read.map_or_else(refused, found)
 }
 
-fn refused(Refusal { number, place }: Refusal) -> String {
-    format!(" refused {number} {place}")
-}
-
 fn listed(numbers: &[u64]) -> String {
     let text = |number: &u64| format!(" {number}");
     numbers.iter().map(text).collect()
@@ -89,6 +87,8 @@ fn listed(numbers: &[u64]) -> String {
 
 pub fn asked(random: &mut Random) -> Vec<Asked> {
     let mut all = around_three();
+    let moved = header(MOVED, &[[7, 2, 3], [0x8F, 255, 254]]);
+    all.extend((0..17).map(|tile| Asked::new(&moved, tile, 0)));
     for fields in around_sample_a() {
         let two = header(fields, &[[7, 2, 3], [0x8F, 255, 254]]);
         all.extend([(0, 0), (5, 1)].map(|(tile, number)| Asked::new(&two, tile, number)));
@@ -138,6 +138,7 @@ fn around_three() -> Vec<Asked> {
 fn first_of_several() -> Vec<Asked> {
     const BEFORE_ITS_START: Fields = [10, 6, 11, 0, 4, 4, 0, 0];
     const NO_TILES: Fields = [10, 6, 0, 0, 0, 4, 0, 0];
+    const NOT_REACHED: Fields = [10, 6, 4, 4, 4, 4, 0, 0];
     let zero = [[7, 1, 1], [7, 1, 0]];
     let sound = [[7, 1, 1], [7, 1, 2]];
     [
@@ -147,6 +148,8 @@ fn first_of_several() -> Vec<Asked> {
         header(BEFORE_ITS_START, &sound),
         header(NO_TILES, &zero),
         header(NO_TILES, &sound),
+        header(NOT_REACHED, &zero),
+        header(NOT_REACHED, &sound),
     ]
     .iter()
     .flat_map(|codestream| [0, 1, 2].map(|number| Asked::new(codestream, 0, number)))

@@ -1,4 +1,6 @@
-//! The comparison: every number of all five functions, refusals, and what has to stay as it was.
+//! The comparison: every number of all seven functions, refusals, and what has to stay as it was.
+//! In a tile by the original's rule, and by Annex B's, of which the original says something where
+//! the rules have to agree.
 
 use std::fmt::{self, Display};
 
@@ -12,15 +14,19 @@ use crate::judge::{Case, Leaves, Told};
 use crate::lent::Lent;
 use crate::model::components::{
     component, component_in_tile, component_within, read_components, read_components_in_tile,
-    Component, NO_SUCH_COMPONENT,
+    Component, Components, NO_SUCH_COMPONENT,
 };
 use crate::model::reader::Size;
+use crate::model::rules::{have_to_agree, Rule};
 use crate::model::{Area, Refusal, ACCEPTED};
 use crate::sample::components::{
     any_area, every_number, header, header_and_index, many, number_of, saying, MOST, MOST_SAID,
 };
 use crate::sample::short::each_behind;
-use crate::sample::sizes::{around_sample_a, every_mixture, SAMPLE_A};
+use crate::sample::sizes::{
+    annex_b_number, around_moved, around_sample_a, crowded, every_index, every_mixture, every_side,
+    SAMPLE_A,
+};
 use crate::sample::zeros::zeros;
 use crate::sample::{headers, prefixes};
 use crate::tally::hex_of_front;
@@ -31,9 +37,13 @@ type Run = compare::Run<Original>;
 pub const COMPARISON: Comparison<Original> = Comparison {
     wanted: wanted::READ_COMPONENTS,
     also: &[
+        wanted::READ_COMPONENTS_BY_ORIGINAL,
         wanted::READ_COMPONENTS_IN_TILE,
+        wanted::READ_COMPONENTS_BY_ANNEX_B,
         wanted::COMPONENT,
+        wanted::COMPONENT_BY_ORIGINAL,
         wanted::COMPONENT_IN_TILE,
+        wanted::COMPONENT_BY_ANNEX_B,
         wanted::COMPONENT_WITHIN,
     ],
     minimum: 1_000_000,
@@ -41,6 +51,12 @@ pub const COMPARISON: Comparison<Original> = Comparison {
     fixed,
     random: Some(random),
 };
+
+/// Where the tallies of functions stand among the others; those in a tile from there on, by rule.
+const READ_IN_TILE: usize = 0;
+const ONE: usize = 3;
+const ONE_IN_TILE: usize = 4;
+const ONE_WITHIN: usize = 7;
 
 fn fixed(run: &mut Run) {
     run.each(asked, |run, asked| {
@@ -86,37 +102,104 @@ fn check_every_number(run: &mut Run, codestream: &[u8], tile: u16) {
 
 pub fn check_with(run: &mut Run, codestream: &[u8], tile: u16, which: &[u64]) {
     let image = read_components(codestream);
-    let in_tile = read_components_in_tile(codestream, tile);
-    let original = run.original;
-    let told = original.size(codestream, &image);
-    let told_in_tile =
-        told.and_then(|size| original.size_in_tile(codestream, tile, size, &in_tile));
-
+    let told = run.original.size(codestream, &image);
     let counts = told.and_then(|size| told::counted(size, &image));
     let case = lent(run, counts, image.map(counted), |values| {
         host::read_components(codestream, values)
     });
     case.judge(&mut run.tally, || hex_of_front(codestream));
 
-    let counts = told_in_tile.and_then(|size| told::counted(size, &in_tile));
-    let case = lent(run, counts, in_tile.map(counted), |values| {
-        host::read_components_in_tile(codestream, tile, values)
-    });
-    case.judge(&mut run.also[0], || {
-        format!("{}, tile {tile}", hex_of_front(codestream))
-    });
+    let tiles = by_rules(run, codestream, tile, &image, told);
+    for (place, tile) in (READ_IN_TILE..).zip(&tiles) {
+        let document = tile.document;
+        let counts = tile.told.and_then(|size| told::counted(size, &document));
+        let case = lent(run, counts, document.map(counted), |values| {
+            tile.read(codestream, values)
+        });
+        case.judge(&mut run.also[place], || {
+            format!("{}, {tile}", hex_of_front(codestream))
+        });
+    }
 
     for &number in which {
         let asked = One { codestream, number };
         asked.of_image(run, told);
-        asked.of_tile(run, tile, told_in_tile);
+        for (place, tile) in (ONE_IN_TILE..).zip(&tiles) {
+            asked.of_tile(run, place, tile);
+        }
         // It never refuses: where the others do the original says nothing.
         let told = image.map_or(Told::Nothing, |_| told);
         let any = any_area(&mut run.random);
-        let read = [image, in_tile].into_iter().flatten();
+        let [by_original, by_annex_b, _] = tiles.map(|tile| tile.document);
+        let read = [image, by_original, by_annex_b].into_iter().flatten();
         for area in read.map(|(_, area)| area).chain([any]) {
             asked.within(run, area, told);
         }
+    }
+}
+
+/// A tile by the rule of a number or, without one, of the functions that take none; what the model
+/// says of it, and the original.
+#[derive(Clone, Copy)]
+struct Tile {
+    index: u16,
+    rule: Option<u32>,
+    document: Result<Components, Refusal>,
+    told: Told<Size>,
+}
+
+/// In the order of the tallies. Where the image is refused no rule counts, and elsewhere the
+/// original speaks for Annex B's where that has to agree with its own.
+fn by_rules(
+    run: &mut Run,
+    codestream: &[u8],
+    index: u16,
+    image: &Result<Components, Refusal>,
+    told: Told<Size>,
+) -> [Tile; 3] {
+    let tile = |rule, told| Tile {
+        index,
+        rule,
+        document: read_components_in_tile(codestream, index, rule_of(rule)),
+        told,
+    };
+    let mut by_original = tile(Some(host::ORIGINAL), told);
+    by_original.told = told.and_then(|size| {
+        let document = &by_original.document;
+        run.original.size_in_tile(codestream, index, size, document)
+    });
+    let speaks = image.is_err() || have_to_agree(codestream);
+    let told = by_original.told.only_if(speaks);
+    let number = annex_b_number(&mut run.random);
+    [by_original, tile(None, told), tile(Some(number), told)]
+}
+
+fn rule_of(number: Option<u32>) -> Rule {
+    number.map_or(Rule::AnnexB, Rule::of)
+}
+
+impl Tile {
+    fn read(&self, codestream: &[u8], values: &mut [u64; 5]) -> u32 {
+        match self.rule {
+            None => host::read_components_in_tile(codestream, self.index, values),
+            Some(rule) => {
+                host::read_components_in_tile_by_rule(codestream, self.index, rule, values)
+            }
+        }
+    }
+
+    fn component(&self, codestream: &[u8], number: u64, values: &mut [u64; 8]) -> u32 {
+        let index = self.index;
+        match self.rule {
+            None => host::component_in_tile(codestream, index, number, values),
+            Some(rule) => host::component_in_tile_by_rule(codestream, index, rule, number, values),
+        }
+    }
+}
+
+impl Display for Tile {
+    fn fmt(&self, out: &mut fmt::Formatter) -> fmt::Result {
+        write!(out, "tile {}, rule {:?}", self.index, self.rule)
     }
 }
 
@@ -149,17 +232,17 @@ impl One<'_> {
         let case = self.lent(run, told, document, |values| {
             host::component(codestream, number, values)
         });
-        case.judge_under(label(&document), &mut run.also[1], || self.to_string());
+        case.judge_under(label(&document), &mut run.also[ONE], || self.to_string());
     }
 
-    fn of_tile(&self, run: &mut Run, tile: u16, told: Told<Size>) {
+    fn of_tile(&self, run: &mut Run, place: usize, tile: &Tile) {
         let &One { codestream, number } = self;
-        let document = component_in_tile(codestream, tile, number);
-        let case = self.lent(run, told, document, |values| {
-            host::component_in_tile(codestream, tile, number, values)
+        let document = component_in_tile(codestream, tile.index, rule_of(tile.rule), number);
+        let case = self.lent(run, tile.told, document, |values| {
+            tile.component(codestream, number, values)
         });
-        let input = || format!("{self}, tile {tile}");
-        case.judge_under(label(&document), &mut run.also[2], input);
+        let input = || format!("{self}, {tile}");
+        case.judge_under(label(&document), &mut run.also[place], input);
     }
 
     fn within(&self, run: &mut Run, area: Area, told: Told<Size>) {
@@ -169,7 +252,7 @@ impl One<'_> {
             host::component_within(codestream, area, number, values)
         });
         let input = || format!("{self}, area {area:?}");
-        case.judge_under(label(&document), &mut run.also[3], input);
+        case.judge_under(label(&document), &mut run.also[ONE_WITHIN], input);
     }
 
     fn lent(
@@ -227,7 +310,7 @@ fn every_prefix(run: &mut Run) {
 
 /// Every Ssiz, XRsiz and YRsiz, at each edge of the area's fields.
 fn every_sampling(run: &mut Run) {
-    for fields in around_sample_a() {
+    for fields in [around_sample_a(), around_moved()].concat() {
         for byte in 0..=u8::MAX {
             let other = run.random.byte();
             let samplings = [[byte, byte, other], [other, other, byte]];
@@ -288,6 +371,11 @@ fn every_tile(run: &mut Run) {
             for tile in [0, 1, 2, 3, 65_535] {
                 check_with(run, &header(fields, &samplings), tile, &[1]);
             }
+        }
+    }
+    for fields in [every_side(&[0, 1, 2, 3, 4]), crowded()].concat() {
+        for tile in every_index(&fields) {
+            check_with(run, &header(fields, &samplings), tile, &[1]);
         }
     }
 }

@@ -1,7 +1,7 @@
 //! What the original says. It has an answer to a part: its SIZ reading has the image's size, how many
 //! components there are, and bits and sign of the first, and panics at 22; its SIZ rewrite has the
-//! tile's size, and panics at 10; its main header refuses what is refused by 1, 2 and 3 here. The rest
-//! of an answer is the model's.
+//! tile's size by its own rule, and panics at 10; its main header refuses what is refused by 1, 2 and 3
+//! here. The rest of an answer is the model's.
 
 use original::markers;
 
@@ -103,7 +103,7 @@ mod tests {
     fn holds(original: Original) -> bool {
         let comparison = Comparison {
             wanted: ANY,
-            also: &[ANY; 4],
+            also: &[ANY; 8],
             minimum: 1,
             original,
             fixed: |run| {

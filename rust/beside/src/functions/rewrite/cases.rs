@@ -1,45 +1,73 @@
 //! The replay list's cases of kind 5; the payload is the tile's index in 2 bytes, and the header.
 
-use original::markers::rewrite_siz_for_tile;
+use original::markers::rewrite_siz_for_tile as original;
 
 use crate::cases::Kind;
 use crate::model::number;
 use crate::random::Random;
 use crate::sample::prefixes;
-use crate::sample::sizes::{around_sample_a, header, header_and_index, SAMPLE_A};
+use crate::sample::sizes::{
+    around_moved, around_sample_a, crowded, every_index, header, header_and_index, MOVED, SAMPLE_A,
+};
 use crate::tally::lower_hex;
 use crate::wanted;
 
 pub const KIND: Kind = Kind {
     number: 5,
-    name: wanted::REWRITE.name,
+    name: wanted::REWRITE_BY_ORIGINAL.name,
     minimum: 300,
-    payloads: |random| {
-        let framed = |(header, isot): (Vec<u8>, u16)| [&isot.to_be_bytes(), &header[..]].concat();
-        inputs(random).into_iter().map(framed).collect()
+    payloads: |random| inputs(random).iter().map(framed).collect(),
+    answer: |payload| {
+        let (isot, header) = read(payload);
+        Some(format!("rewrite {}", lower_hex(&original(header, isot))))
     },
-    answer,
 };
 
-fn answer(payload: &[u8]) -> Option<String> {
-    let (isot, header) = payload.split_at(2);
-    let rewritten = rewrite_siz_for_tile(header, number(isot) as u16);
-    Some(format!("rewrite {}", lower_hex(&rewritten)))
+/// A header and an index.
+type Input = (Vec<u8>, u16);
+
+fn framed((header, isot): &Input) -> Vec<u8> {
+    [&isot.to_be_bytes(), &header[..]].concat()
 }
 
-/// Header and index.
-pub fn inputs(random: &mut Random) -> Vec<(Vec<u8>, u16)> {
+fn read(payload: &[u8]) -> (u16, &[u8]) {
+    let (isot, header) = payload.split_at(2);
+    (number(isot) as u16, header)
+}
+
+pub fn inputs(random: &mut Random) -> Vec<Input> {
     let sample = header(SAMPLE_A);
     let mut inputs: Vec<_> = (0..9).map(|isot| (sample.clone(), isot)).collect();
-    inputs.extend(prefixes(&sample).map(|prefix| (prefix, 5)));
-    for at in 2..4 {
-        let mut no_siz = sample.clone();
-        no_siz[at] ^= 1;
-        inputs.push((no_siz, 5));
-    }
+    inputs.extend(without_siz(&sample));
     for fields in around_sample_a() {
         inputs.extend([0, 1, 2, 3, 5].map(|isot| (header(fields), isot)));
     }
     inputs.extend((0..250).map(|_| header_and_index(random)));
+    inputs
+}
+
+pub fn inputs_of_annex_b(random: &mut Random) -> Vec<Input> {
+    let moved = header(MOVED);
+    let mut inputs: Vec<_> = (0..18).map(|isot| (moved.clone(), isot)).collect();
+    inputs.extend(without_siz(&moved));
+    for fields in around_moved() {
+        inputs.extend([0, 7].map(|isot| (header(fields), isot)));
+    }
+    for fields in crowded() {
+        let indices = every_index(&fields).into_iter().rev().take(2);
+        inputs.extend(indices.map(|isot| (header(fields), isot)));
+    }
+    inputs.extend((0..200).map(|_| header_and_index(random)));
+    inputs
+}
+
+/// Cut anywhere, or with another marker, so that the header may stay as it is.
+fn without_siz(whole: &[u8]) -> Vec<Input> {
+    let mut inputs: Vec<_> = prefixes(whole).map(|prefix| (prefix, 5)).collect();
+    for at in 2..4 {
+        let mut no_siz = whole.to_vec();
+        no_siz[at] ^= 1;
+        inputs.push((no_siz, 5));
+    }
     inputs
 }

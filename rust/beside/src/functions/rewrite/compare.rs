@@ -1,24 +1,29 @@
-//! The comparison: bytes written, refusals, and the output beyond.
+//! The comparison: bytes written, refusals, and the output beyond. By the original's rule beside
+//! the original, and by Annex B's beside the model, and beside the original where the rules have to
+//! agree.
 
 use original::markers::rewrite_siz_for_tile as original;
 use probe::host;
 
-use super::cases::inputs;
+use super::cases::{inputs, inputs_of_annex_b};
 use crate::compare::{self, Comparison};
 use crate::judge::{Case, Told};
 use crate::lent::{room, Lent};
+use crate::model::rules::{have_to_agree, Rule};
 use crate::model::tile::rewrite_siz_for_tile;
 use crate::model::Refusal;
-use crate::sample::sizes::{every_mixture, header, header_and_index};
-use crate::tally::hex;
+use crate::sample::sizes::{
+    annex_b_number, crowded, every_index, every_mixture, every_side, header, header_and_index,
+};
+use crate::tally::{hex, Tally};
 use crate::wanted;
 
 type Original = fn(&[u8], u16) -> Vec<u8>;
 type Run = compare::Run<Original>;
 
 pub const COMPARISON: Comparison<Original> = Comparison {
-    wanted: wanted::REWRITE,
-    also: &[],
+    wanted: wanted::REWRITE_BY_ORIGINAL,
+    also: &[wanted::REWRITE, wanted::REWRITE_BY_ANNEX_B],
     minimum: 1_000_000,
     original,
     fixed,
@@ -26,7 +31,9 @@ pub const COMPARISON: Comparison<Original> = Comparison {
 };
 
 fn fixed(run: &mut Run) {
-    run.each(inputs, |run, (header, isot)| every_room(run, header, *isot));
+    for make in [inputs, inputs_of_annex_b] {
+        run.each(make, |run, (header, isot)| every_room(run, header, *isot));
+    }
     for values in [[0, 1, 1 << 31, u32::MAX], [1, 2, 3, 4]] {
         for fields in every_mixture(values) {
             for isot in [0, 1, 2, 3, 65_535] {
@@ -34,7 +41,8 @@ fn fixed(run: &mut Run) {
             }
         }
     }
-    every_index(run);
+    many_indices(run);
+    every_origin(run);
 }
 
 fn check(run: &mut Run, header: &[u8], isot: u16) {
@@ -50,30 +58,55 @@ fn every_room(run: &mut Run, header: &[u8], isot: u16) {
 }
 
 fn check_with(run: &mut Run, header: &[u8], isot: u16, size: usize) {
-    let before = Lent::preset(&mut run.random, [size]);
     let fit = |rewritten: Vec<u8>| {
         Refusal::unless_it_holds(size, rewritten.len() as u128)?;
         Ok(rewritten)
     };
-    let document = rewrite_siz_for_tile(header, isot).and_then(fit);
-    let panics = document.as_ref().is_err_and(Refusal::is_its_panic);
-    let case = Case {
-        ours: before.left_by(|[out], [value]| host::rewrite_siz_for_tile(header, isot, out, value)),
-        before,
-        told: Told::by_or_panic(panics, || Some((run.original)(header, isot))),
-        document,
+    let document = |rule| rewrite_siz_for_tile(header, isot, rule).and_then(fit);
+    let original = document(Rule::Original);
+    let panics = original.as_ref().is_err_and(Refusal::is_its_panic);
+    let told = Told::by_or_panic(panics, || Some((run.original)(header, isot)));
+    let agreed = told.clone().only_if(have_to_agree(header));
+
+    let before = Lent::preset(&mut run.random, [size]);
+    let judge = |tally: &mut Tally, rule: Option<u32>, told, document| {
+        let case = Case {
+            ours: before.left_by(|[out], [value]| match rule {
+                None => host::rewrite_siz_for_tile(header, isot, out, value),
+                Some(rule) => host::rewrite_siz_for_tile_by_rule(header, isot, rule, out, value),
+            }),
+            before: before.clone(),
+            told,
+            document,
+        };
+        case.judge(tally, || {
+            format!("{}, tile {isot}, rule {rule:?}, output {size}", hex(header))
+        });
     };
-    case.judge(&mut run.tally, || {
-        format!("{}, tile {isot}, output {size}", hex(header))
-    });
+    judge(&mut run.tally, Some(host::ORIGINAL), told, original);
+    let standard = document(Rule::AnnexB);
+    judge(&mut run.also[0], None, agreed.clone(), standard.clone());
+    let number = annex_b_number(&mut run.random);
+    judge(&mut run.also[1], Some(number), agreed, standard);
 }
 
 /// One column, as many as there are indices, and one to either side.
-fn every_index(run: &mut Run) {
+fn many_indices(run: &mut Run) {
     for columns in [1, 255, 65_534, 65_535, 65_536, 65_537] {
         let header = header([columns, 65_536, 0, 0, 1, 1, 0, 0]);
         for isot in (0..=u16::MAX).step_by(37).chain([65_533, 65_534, u16::MAX]) {
             check(run, &header, isot);
+        }
+    }
+}
+
+/// All fields of a direction, small and large, and grids of very many tiles.
+fn every_origin(run: &mut Run) {
+    let small = every_side(&[0, 1, 2, 3, 4, 5]);
+    let large = every_side(&[0, 1, 1 << 31, u32::MAX - 1, u32::MAX]);
+    for fields in [small, large, crowded()].concat() {
+        for isot in every_index(&fields) {
+            check(run, &header(fields), isot);
         }
     }
 }

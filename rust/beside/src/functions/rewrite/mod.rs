@@ -1,4 +1,4 @@
-//! `rewrite_siz_for_tile`, ours beside the original's.
+//! `rewrite_siz_for_tile`, ours beside the original's, and by Annex B's rule beside the model.
 
 mod cases;
 mod compare;

@@ -12,7 +12,7 @@ use crate::sample::sizes::{header, SAMPLE_A};
 use crate::wanted;
 
 pub const BENCHMARK: Benchmark = Benchmark {
-    name: wanted::REWRITE.name,
+    name: wanted::REWRITE_BY_ORIGINAL.name,
     beside: ORIGINAL,
     rows,
 };
@@ -26,7 +26,8 @@ struct Input {
 fn ours(input: &Input) -> Option<u64> {
     let mut size = 0;
     let mut out = input.out.borrow_mut();
-    match host::rewrite_siz_for_tile(&input.header, input.isot, &mut out, &mut size) {
+    let (header, isot) = (&input.header, input.isot);
+    match host::rewrite_siz_for_tile_by_rule(header, isot, host::ORIGINAL, &mut out, &mut size) {
         0 => Some(size),
         _ => None,
     }
