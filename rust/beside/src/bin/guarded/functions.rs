@@ -24,7 +24,9 @@ pub const FUNCTIONS: &[Function] = &[
     (wanted::SPLIT_PART, split_part),
     (wanted::SPLIT_AT, split_at),
     (wanted::REWRITE, rewrite),
+    (wanted::REWRITE_BY_RULE, rewrite_by_rule),
     (wanted::ASSEMBLY, assembly),
+    (wanted::ASSEMBLY_BY_RULE, assembly_by_rule),
     (wanted::SEARCH, search),
     (wanted::CODESTREAM, codestream_of),
     (wanted::SIZ, siz),
@@ -33,8 +35,10 @@ pub const FUNCTIONS: &[Function] = &[
     (wanted::NEXT_REGION, next_region),
     (wanted::READ_COMPONENTS, read_components),
     (wanted::READ_COMPONENTS_IN_TILE, read_components_in_tile),
+    (wanted::READ_COMPONENTS_BY_RULE, read_components_by_rule),
     (wanted::COMPONENT, component),
     (wanted::COMPONENT_IN_TILE, component_in_tile),
+    (wanted::COMPONENT_BY_RULE, component_by_rule),
     (wanted::COMPONENT_WITHIN, component_within),
 ];
 
@@ -180,18 +184,37 @@ fn split_at(calls: &mut Calls) {
     });
 }
 
-fn rewrite(calls: &mut Calls) {
-    let random = &mut calls.random;
+/// A header, a tile's index, and room for the header, or about that.
+fn rewrite_input(random: &mut Random) -> (Vec<u8>, u16, usize) {
     let (header, isot) = sizes::header_and_index(random);
     let header = perhaps_damaged(random, header);
     let size = room(random, header.len());
+    (header, isot, size)
+}
+
+fn rewrite(calls: &mut Calls) {
+    let (header, isot, size) = rewrite_input(&mut calls.random);
     calls.call([header], [size], usual, |[header], [out], [value]| {
         host::rewrite_siz_for_tile(header, isot, out, value)
     });
 }
 
-fn assembly(calls: &mut Calls) {
-    let random = &mut calls.random;
+fn rewrite_by_rule(calls: &mut Calls) {
+    let (header, isot, size) = rewrite_input(&mut calls.random);
+    let rule = rule(&mut calls.random);
+    calls.call([header], [size], usual, |[header], [out], [value]| {
+        host::rewrite_siz_for_tile_by_rule(header, isot, rule, out, value)
+    });
+}
+
+/// The original's half the time.
+fn rule(random: &mut Random) -> u32 {
+    let by_annex_b = sizes::annex_b_number(random);
+    random.pick(&[host::ORIGINAL, by_annex_b])
+}
+
+/// Header, rows and codestream, and room for what is built of them, or about that.
+fn assembly_input(random: &mut Random) -> ([Vec<u8>; 3], usize) {
     let mut input = tiles::random_input(random);
     input.header = perhaps_damaged(random, input.header);
     input.codestream = perhaps_damaged(random, input.codestream);
@@ -204,13 +227,30 @@ fn assembly(calls: &mut Calls) {
     }
     let size = room(random, input.needed());
     let rows = input.rows_and_more(random);
-    let inputs = [input.header, rows, input.codestream];
+    ([input.header, rows, input.codestream], size)
+}
+
+fn assembly(calls: &mut Calls) {
+    let (inputs, size) = assembly_input(&mut calls.random);
     calls.call(
         inputs,
         [size],
         usual,
         |[header, rows, codestream], [out], [value]| {
             host::build_minimal_codestream(header, rows, codestream, out, value)
+        },
+    );
+}
+
+fn assembly_by_rule(calls: &mut Calls) {
+    let (inputs, size) = assembly_input(&mut calls.random);
+    let rule = rule(&mut calls.random);
+    calls.call(
+        inputs,
+        [size],
+        usual,
+        |[header, rows, codestream], [out], [value]| {
+            host::build_minimal_codestream_by_rule(header, rows, codestream, rule, out, value)
         },
     );
 }
@@ -328,6 +368,13 @@ fn read_components_in_tile(calls: &mut Calls) {
     });
 }
 
+fn read_components_by_rule(calls: &mut Calls) {
+    let rule = rule(&mut calls.random);
+    components(calls, |codestream, tile, _, values| {
+        host::read_components_in_tile_by_rule(codestream, tile, rule, values)
+    });
+}
+
 fn component(calls: &mut Calls) {
     components(calls, |codestream, _, number, values| {
         host::component(codestream, number, values)
@@ -336,6 +383,13 @@ fn component(calls: &mut Calls) {
 
 fn component_in_tile(calls: &mut Calls) {
     components(calls, host::component_in_tile);
+}
+
+fn component_by_rule(calls: &mut Calls) {
+    let rule = rule(&mut calls.random);
+    components(calls, |codestream, tile, number, values| {
+        host::component_in_tile_by_rule(codestream, tile, rule, number, values)
+    });
 }
 
 /// Also of a codestream that ends about where the component does.

@@ -21,7 +21,7 @@ use calls::{Calls, Pools};
 use functions::{Function, FUNCTIONS};
 
 /// For all functions, in equal parts.
-const CALLS: u64 = 132_000;
+const CALLS: u64 = 150_000;
 
 fn main() -> ExitCode {
     ended(guarded())
