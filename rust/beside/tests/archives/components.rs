@@ -9,8 +9,9 @@ use probe::host;
 /// 8 bits; 12 bits, signed, 2 across and 3 down; 38 bits, 255 across and 254 down.
 const THREE: [[u8; 3]; 3] = [[7, 1, 1], [0x8B, 2, 3], [37, 255, 254]];
 
-/// From 3, 2 to 10, 6; the tile 2 from 3, 6, which is the end, on.
-const FROM_3_2: Fields = [10, 6, 3, 2, 4, 4, 0, 0];
+/// From 3, 2 to 10, 6. Tiles from 1, 1 on: three columns and two rows. By the original's rule they
+/// are two columns from 3, 2 on, and tile 2 starts at 3, 6, which is the end.
+const FROM_3_2: Fields = [10, 6, 3, 2, 4, 4, 1, 1];
 
 /// Status, and the numbers lent as they stand after it.
 fn left<const V: usize>(call: impl FnOnce(&mut [u64; V]) -> u32) -> (u32, [u64; V]) {
@@ -22,8 +23,17 @@ fn image(codestream: &[u8]) -> (u32, [u64; 5]) {
     left(|values| host::read_components(codestream, values))
 }
 
+/// Without a rule, by Annex B's number, and by those that mean no other.
 fn in_tile(codestream: &[u8], tile: u16) -> (u32, [u64; 5]) {
-    left(|values| host::read_components_in_tile(codestream, tile, values))
+    let plain = left(|values| host::read_components_in_tile(codestream, tile, values));
+    for rule in [host::ANNEX_B, 2, 7, u32::MAX] {
+        assert_eq!(in_tile_by(codestream, tile, rule), plain, "{rule}");
+    }
+    plain
+}
+
+fn in_tile_by(codestream: &[u8], tile: u16, rule: u32) -> (u32, [u64; 5]) {
+    left(|values| host::read_components_in_tile_by_rule(codestream, tile, rule, values))
 }
 
 fn refused<const V: usize>(number: u32, place: u64) -> (u32, [u64; V]) {
@@ -44,11 +54,49 @@ fn how_many_and_where() {
     assert_eq!(image(&sample_a()[..45]), (0, [1, 0, 0, 10, 6]));
     let three = header(FROM_3_2, &THREE);
     assert_eq!(image(&three), (0, [3, 3, 2, 10, 6]));
-    assert_eq!(in_tile(&three, 0), (0, [3, 3, 2, 7, 6]));
-    assert_eq!(in_tile(&three, 1), (0, [3, 7, 2, 10, 6]));
-    assert_eq!(in_tile(&three, 2), (0, [3, 3, 6, 7, 6]));
-    assert_eq!(in_tile(&three, 4), refused(10, 2));
-    assert_eq!(in_tile(&three, 65_535), refused(10, 2));
+    assert_eq!(in_tile(&three, 0), (0, [3, 3, 2, 5, 5]));
+    assert_eq!(in_tile(&three, 1), (0, [3, 5, 2, 9, 5]));
+    assert_eq!(in_tile(&three, 2), (0, [3, 9, 2, 10, 5]));
+    assert_eq!(in_tile(&three, 5), (0, [3, 9, 5, 10, 6]));
+    assert_eq!(in_tile(&three, 6), refused(31, 2));
+    assert_eq!(in_tile(&three, 65_535), refused(31, 2));
+}
+
+#[test]
+fn where_by_the_originals_rule() {
+    let three = header(FROM_3_2, &THREE);
+    let in_tile = |tile| in_tile_by(&three, tile, host::ORIGINAL);
+    assert_eq!(in_tile(0), (0, [3, 3, 2, 7, 6]));
+    assert_eq!(in_tile(1), (0, [3, 7, 2, 10, 6]));
+    assert_eq!(in_tile(2), (0, [3, 3, 6, 7, 6]));
+    assert_eq!(in_tile(4), refused(10, 2));
+    assert_eq!(in_tile(65_535), refused(10, 2));
+}
+
+/// 30 and 31 come behind all that is refused in the image, and before "no such component".
+#[test]
+fn a_tile_that_is_not_there() {
+    let no_grid = [10, 6, 3, 2, 4, 4, 4, 1];
+    assert_eq!(in_tile(&header(no_grid, &THREE), 0), refused(30, 2));
+    assert_eq!(in_tile(&header(no_grid, &THREE), 65_535), refused(30, 2));
+    assert_eq!(in_tile(&header(no_grid, &[[7, 0, 1]]), 0), refused(25, 2));
+    let before = [2, 6, 3, 2, 4, 4, 4, 1];
+    assert_eq!(in_tile(&header(before, &THREE), 0), refused(22, 2));
+    let empty = [3, 6, 3, 2, 4, 4, 1, 1];
+    assert_eq!(image(&header(empty, &THREE)), (0, [3, 3, 2, 3, 6]));
+    assert_eq!(in_tile(&header(empty, &THREE), 0), refused(30, 2));
+    for (fields, tile, number) in [(no_grid, 0, 30), (FROM_3_2, 6, 31)] {
+        let codestream = header(fields, &THREE);
+        let found = left(|values| host::component_in_tile(&codestream, tile, 9, values));
+        assert_eq!(found, refused(number, 2));
+        let rule = host::ORIGINAL;
+        let by_original =
+            left(|values| host::component_in_tile_by_rule(&codestream, tile, rule, 9, values));
+        assert_eq!(
+            by_original.0,
+            [NO_SUCH_COMPONENT, 10][usize::from(tile == 6)]
+        );
+    }
 }
 
 #[test]
@@ -108,9 +156,16 @@ fn one_component() {
         assert_eq!(found, (0, expected));
     }
     let found = left(|values| host::component_in_tile(&three, 1, 1, values));
-    assert_eq!(found, (0, [12, 1, 2, 3, 4, 1, 5, 2]));
-    let found = left(|values| host::component_in_tile(&three, 4, 9, values));
-    assert_eq!(found, refused(10, 2));
+    assert_eq!(found, (0, [12, 1, 2, 3, 3, 1, 5, 2]));
+    let by =
+        |tile, rule| left(|values| host::component_in_tile_by_rule(&three, tile, rule, 1, values));
+    for rule in [host::ANNEX_B, 2, 7, u32::MAX] {
+        assert_eq!(by(1, rule), found);
+    }
+    assert_eq!(by(1, host::ORIGINAL), (0, [12, 1, 2, 3, 4, 1, 5, 2]));
+    assert_eq!(by(4, host::ORIGINAL), refused(10, 2));
+    let found = left(|values| host::component_in_tile(&three, 6, 9, values));
+    assert_eq!(found, refused(31, 2));
     let found = left(|values| host::component(&three[..50], 9, values));
     assert_eq!(found, refused(3, 2));
     for number in [3, 1 << 16, 1 << 32, 0x5555_5555_5555_5556, u64::MAX] {

@@ -2,7 +2,7 @@
 
 use beside::model::{rows, Entry, Refusal};
 use beside::sample::sample_a;
-use beside::sample::sizes::{header, SAMPLE_A};
+use beside::sample::sizes::{crowded, grid, header, Fields, MOVED, SAMPLE_A};
 use beside::sample::tiles::joined;
 use probe::host;
 
@@ -18,6 +18,27 @@ fn rewritten(decode_header: &[u8], isot: u16, room: usize) -> Result<Vec<u8>, Re
     written(room, 1, |out, value| {
         host::rewrite_siz_for_tile(decode_header, isot, out, value)
     })
+}
+
+/// By the original's rule.
+fn rewritten_by_original(decode_header: &[u8], isot: u16) -> Result<Vec<u8>, Refusal> {
+    written(ROOM, 1, |out, value| {
+        let rule = host::ORIGINAL;
+        host::rewrite_siz_for_tile_by_rule(decode_header, isot, rule, out, value)
+    })
+}
+
+/// By Annex B's: the same without a rule, by its number, and by those that mean no other.
+fn rewritten_by_annex_b(fields: Fields, isot: u16) -> Result<Vec<u8>, Refusal> {
+    let decode_header = header(fields);
+    let plain = rewritten(&decode_header, isot, ROOM);
+    for rule in [host::ANNEX_B, 2, 7, u32::MAX] {
+        let numbered = written(ROOM, 1, |out, value| {
+            host::rewrite_siz_for_tile_by_rule(&decode_header, isot, rule, out, value)
+        });
+        assert_eq!(numbered, plain, "{rule}");
+    }
+    plain
 }
 
 fn built(
@@ -37,8 +58,14 @@ fn cut(entries: &[Entry]) -> Result<Vec<u8>, Refusal> {
     built(&sample[..45], &rows(entries), &sample, ROOM)
 }
 
-fn outside() -> Result<Vec<u8>, Refusal> {
-    Err(Refusal::new(10, 2))
+/// At SIZ's marker.
+fn refused(number: u32) -> Result<Vec<u8>, Refusal> {
+    Err(Refusal::new(number, 2))
+}
+
+/// Of a tile that is cut to this size.
+fn alone(width: u32, height: u32) -> Result<Vec<u8>, Refusal> {
+    Ok(header([width, height, 0, 0, width, height, 0, 0]))
 }
 
 #[test]
@@ -64,22 +91,162 @@ fn tile_0_keeps_the_header() {
 
 #[test]
 fn a_tile_past_the_edge_is_refused() {
-    assert_eq!(rewritten(&sample_a()[..45], 6, ROOM), outside());
+    assert_eq!(rewritten_by_annex_b(SAMPLE_A, 6), refused(31));
+    assert_eq!(rewritten_by_original(&header(SAMPLE_A), 6), refused(10));
+}
+
+/// The original's sums are of 32 bits, and the standard's have no bound.
+#[test]
+fn a_sum_past_32_bits_is_refused_by_the_originals_rule() {
+    let mut fields = SAMPLE_A;
+    [fields[0], fields[2], fields[4], fields[6]] = [2, 1, u32::MAX, 1];
+    assert_eq!(rewritten_by_original(&header(fields), 0), refused(10));
+    assert_eq!(rewritten_by_annex_b(fields, 0), alone(1, 4));
+    [fields[2], fields[6]] = [0, 0];
+    assert_eq!(rewritten_by_original(&header(fields), 0), alone(2, 4));
+    assert_eq!(rewritten_by_annex_b(fields, 0), alone(2, 4));
+    // the second of two tiles, which ends past 2^32
+    [fields[0], fields[4]] = [u32::MAX, (1 << 31) + 1];
+    assert_eq!(rewritten_by_original(&header(fields), 1), refused(10));
+    assert_eq!(rewritten_by_annex_b(fields, 1), alone((1 << 31) - 2, 4));
+}
+
+/// Both axes: tile origin, image origin, image end, tile size, and how far the first tile reaches.
+#[test]
+fn there_is_a_grid_or_30() {
+    let one_axis = |[end, origin, tile, tile_origin]: [u32; 4]| {
+        let across = [end, 4, origin, 0, tile, 4, tile_origin, 0];
+        let down = [4, end, 0, origin, 4, tile, 0, tile_origin];
+        let answers = [across, down].map(|fields| rewritten_by_annex_b(fields, 0));
+        let size = |header: &Vec<u8>, at| u32::from_be_bytes(*header[at..].first_chunk().unwrap());
+        match answers {
+            [Ok(across), Ok(down)] => {
+                assert_eq!(size(&across, 8), size(&down, 12));
+                Ok(size(&across, 8))
+            }
+            [Err(across), Err(down)] => {
+                assert_eq!(across, down);
+                Err((across.number, across.place))
+            }
+            _ => panic!("one axis is refused"),
+        }
+    };
+    const NO_GRID: Result<u32, (u32, u64)> = Err((30, 2));
+    // the tile origin at the image origin, and one past it
+    assert_eq!(one_axis([10, 3, 4, 3]), Ok(10));
+    assert_eq!(one_axis([10, 3, 4, 4]), NO_GRID);
+    // the first tile ends one past the image origin, and with it
+    assert_eq!(one_axis([10, 5, 4, 2]), Ok(1));
+    assert_eq!(one_axis([10, 5, 4, 1]), NO_GRID);
+    // the image ends one past its origin, and with it, and before it
+    assert_eq!(one_axis([4, 3, 4, 0]), Ok(1));
+    assert_eq!(one_axis([3, 3, 4, 0]), NO_GRID);
+    assert_eq!(one_axis([2, 3, 4, 0]), NO_GRID);
+    // tiles of 1 and of 0
+    assert_eq!(one_axis([10, 3, 1, 3]), Ok(10));
+    assert_eq!(one_axis([10, 3, 0, 3]), NO_GRID);
+    assert_eq!(one_axis([10, 0, 0, 0]), NO_GRID);
+    // the largest numbers: the first tile ends past 2^32
+    const MOST: u32 = u32::MAX;
+    assert_eq!(one_axis([MOST, MOST - 1, MOST, MOST - 1]), Ok(1));
+    assert_eq!(one_axis([MOST, MOST - 1, MOST, 0]), Ok(1));
+    assert_eq!(one_axis([MOST, MOST, MOST, MOST]), NO_GRID);
+    assert_eq!(one_axis([MOST, MOST - 1, MOST - 1, 0]), NO_GRID);
 }
 
 #[test]
-fn a_sum_past_32_bits_is_refused() {
+fn tiles_where_the_origins_differ() {
+    // 5 columns and 3 rows
+    for (isot, width, height) in [(0, 2, 3), (1, 4, 3), (4, 2, 3), (5, 2, 6), (14, 2, 3)] {
+        assert_eq!(rewritten_by_annex_b(MOVED, isot), alone(width, height));
+    }
+    assert_eq!(rewritten_by_annex_b(MOVED, 6), Ok(header(MOVED)));
+    for isot in [15, 65_535] {
+        assert_eq!(rewritten_by_annex_b(MOVED, isot), refused(31));
+    }
+    // 4 columns, and 2 rows
+    assert_eq!(rewritten_by_original(&header(MOVED), 0), Ok(header(MOVED)));
+    assert_eq!(rewritten_by_original(&header(MOVED), 7), Ok(header(MOVED)));
+    assert_eq!(rewritten_by_original(&header(MOVED), 8), alone(4, 0));
+    assert_eq!(rewritten_by_original(&header(MOVED), 12), refused(10));
+}
+
+/// Full in one direction is not full.
+#[test]
+fn a_tile_is_full_in_both_directions() {
+    let fields = [8, 6, 0, 0, 4, 4, 0, 0];
+    assert_eq!(rewritten_by_annex_b(fields, 1), Ok(header(fields)));
+    assert_eq!(rewritten_by_annex_b(fields, 2), alone(4, 2));
+    let fields = [6, 8, 0, 0, 4, 4, 0, 0];
+    assert_eq!(rewritten_by_annex_b(fields, 0), Ok(header(fields)));
+    assert_eq!(rewritten_by_annex_b(fields, 1), alone(2, 4));
+}
+
+/// The number of tiles may pass 32 bits; an index has 16.
+#[test]
+fn the_last_tile_and_the_next() {
+    for fields in crowded() {
+        let [columns, rows] = grid(&fields);
+        let tiles = columns * rows;
+        for index in [0, tiles - 1, tiles, tiles + 1, 65_534, 65_535] {
+            let Ok(isot) = u16::try_from(index) else {
+                continue;
+            };
+            let expected = match index < tiles {
+                true => Ok(header(fields)),
+                false => refused(31),
+            };
+            assert_eq!(rewritten_by_annex_b(fields, isot), expected);
+        }
+    }
+}
+
+/// 30 comes first, and 17 last.
+#[test]
+fn the_first_refusal_that_applies() {
     let mut fields = SAMPLE_A;
-    [fields[0], fields[2], fields[4]] = [2, 1, u32::MAX];
-    assert_eq!(rewritten(&header(fields), 0, ROOM), outside());
-    fields[2] = 0;
-    assert!(rewritten(&header(fields), 0, ROOM).is_ok());
+    fields[6] = 1;
+    assert_eq!(rewritten_by_annex_b(fields, 65_535), refused(30));
+    assert_eq!(rewritten(&header(fields), 5, 0), refused(30));
+    assert_eq!(rewritten(&header(SAMPLE_A), 6, 0), refused(31));
+    let short = rewritten(&header(SAMPLE_A), 5, 44);
+    assert_eq!(short, Err(Refusal::new(17, 45)));
+    let sample = sample_a();
+    let no_room = built(&header(fields), &rows(&[TILE_5]), &sample, 0);
+    assert_eq!(no_room, refused(30));
+}
+
+#[test]
+fn the_assembly_by_a_rule() {
+    let sample = sample_a();
+    let by = |rule| {
+        written(ROOM, 1, |out, value| {
+            let rows = rows(&[TILE_5]);
+            let moved = header(MOVED);
+            host::build_minimal_codestream_by_rule(&moved, &rows, &sample, rule, out, value)
+        })
+    };
+    let front = |rule: u32| by(rule).map(|built| built[..45].to_vec());
+    for rule in [host::ANNEX_B, 2, 7, u32::MAX] {
+        assert_eq!(front(rule), alone(2, 6));
+        assert_eq!(
+            by(rule),
+            built(&header(MOVED), &rows(&[TILE_5]), &sample, ROOM)
+        );
+    }
+    assert_eq!(front(host::ORIGINAL), Ok(header(MOVED)));
 }
 
 #[test]
 fn a_header_without_siz_is_copied() {
-    for other in [&sample_a()[..39], &[0; 60]] {
+    // there is no grid, if it is looked at
+    let zeros = header([0; 8]);
+    assert_eq!(rewritten(&zeros[..40], 5, ROOM), refused(30));
+    let mut no_siz = zeros.clone();
+    no_siz[3] = 0x52;
+    for other in [&sample_a()[..39], &zeros[..39], &no_siz, &[0; 60]] {
         assert_eq!(rewritten(other, 5, ROOM).unwrap(), other);
+        assert_eq!(rewritten_by_original(other, 5).unwrap(), other);
     }
     let nothing = built(&[1, 2], &[], &[], ROOM);
     assert_eq!(nothing.unwrap(), [1, 2, 0xFF, 0xD9]);
@@ -114,7 +281,7 @@ fn parts_are_as_their_ranges() {
         let parts: Vec<&[u8]> = entries.iter().map(bytes).collect();
         assert_eq!(from_parts(&parts), cut(entries));
     }
-    assert_eq!(from_parts(&[&[0xFF, 0x90, 0, 10, 0, 6]]), outside());
+    assert_eq!(from_parts(&[&[0xFF, 0x90, 0, 10, 0, 6]]), refused(31));
 }
 
 #[test]
