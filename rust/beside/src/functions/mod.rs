@@ -8,6 +8,7 @@ mod growth;
 mod header;
 mod part;
 mod pixel;
+mod plain;
 mod records;
 mod rewrite;
 mod scan;
@@ -41,7 +42,9 @@ pub const BENCHMARKS: &[Benchmark] = &[
     scan::BENCHMARK,
     split::BENCHMARK,
     rewrite::BENCHMARK,
+    rewrite::BENCHMARK_OF_ANNEX_B,
     assembly::BENCHMARK,
+    assembly::BENCHMARK_OF_ANNEX_B,
     search::BENCHMARK,
     siz::BENCHMARK,
     growth::BENCHMARK,

@@ -8,4 +8,4 @@ mod rows;
 
 pub use cases::KIND;
 pub use compare::COMPARISON;
-pub use rows::BENCHMARK;
+pub use rows::{BENCHMARK, BENCHMARK_OF_ANNEX_B};

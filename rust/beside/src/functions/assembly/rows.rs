@@ -1,5 +1,6 @@
-//! The benchmark: tiles of one part and of many. The output that ours is lent is not cleared between
-//! calls; the original allocates its own.
+//! The benchmarks: tiles of one part and of many, by the original's rule beside the original, and
+//! by Annex B's beside plain Rust. The output that is lent is not cleared between calls; the
+//! original allocates its own.
 
 use std::cell::RefCell;
 
@@ -8,8 +9,9 @@ use probe::host;
 
 use super::compare::built;
 use crate::bench::{row, Benchmark, ORIGINAL};
+use crate::functions::plain::{self, PLAIN};
 use crate::sample::parts;
-use crate::sample::sizes::{header, SAMPLE_A};
+use crate::sample::sizes::{header, Fields, MOVED, SAMPLE_A};
 use crate::sample::tiles::Input;
 use crate::wanted;
 
@@ -19,23 +21,48 @@ pub const BENCHMARK: Benchmark = Benchmark {
     rows,
 };
 
+pub const BENCHMARK_OF_ANNEX_B: Benchmark = Benchmark {
+    name: wanted::ASSEMBLY.name,
+    beside: PLAIN,
+    rows: rows_of_annex_b,
+};
+
 struct Timed {
     input: Input,
     rows: Vec<u8>,
     out: RefCell<Vec<u8>>,
 }
 
-fn ours(timed: &Timed) -> Option<u64> {
-    let Input {
-        header, codestream, ..
-    } = &timed.input;
-    let (rule, rows) = (Some(host::ORIGINAL), &timed.rows);
-    let mut size = 0;
-    let mut out = timed.out.borrow_mut();
-    match built(rule, header, rows, codestream, &mut out, &mut size) {
-        0 => Some(size),
-        _ => None,
+impl Timed {
+    /// So many parts of this size.
+    fn new(fields: Fields, count: usize, size: usize) -> Self {
+        let range = |k: usize| ((k * size) as u64, size as u64);
+        let input = Input {
+            header: header(fields),
+            ranges: (0..count).map(range).collect(),
+            codestream: parts::many(count, size),
+        };
+        Timed {
+            rows: input.rows(0),
+            out: vec![0; input.needed()].into(),
+            input,
+        }
     }
+
+    fn built(&self, rule: Option<u32>) -> Option<u64> {
+        let Input {
+            header, codestream, ..
+        } = &self.input;
+        let (mut out, mut size) = (self.out.borrow_mut(), 0);
+        match built(rule, header, &self.rows, codestream, &mut out, &mut size) {
+            0 => Some(size),
+            _ => None,
+        }
+    }
+}
+
+fn ours_by_original(timed: &Timed) -> Option<u64> {
+    timed.built(Some(host::ORIGINAL))
 }
 
 fn theirs(timed: &Timed) -> Option<u64> {
@@ -56,6 +83,19 @@ fn copied(timed: &Timed) -> Option<u64> {
     Some(out.len() as u64)
 }
 
+fn ours(timed: &Timed) -> Option<u64> {
+    timed.built(None)
+}
+
+fn plain(timed: &Timed) -> Option<u64> {
+    let Input {
+        header,
+        ranges,
+        codestream,
+    } = &timed.input;
+    plain::build(header, ranges, codestream, &mut timed.out.borrow_mut())
+}
+
 fn rows() {
     for (count, size) in [
         (1, 14),
@@ -66,25 +106,33 @@ fn rows() {
         (1, 1 << 26),
         (1_000, 67_109),
     ] {
-        let range = |k: usize| ((k * size) as u64, size as u64);
-        let input = Input {
-            header: header(SAMPLE_A),
-            ranges: (0..count).map(range).collect(),
-            codestream: parts::many(count, size),
-        };
-        let room = input.header.len() + count * size + 2;
-        let timed = Timed {
-            rows: input.rows(0),
-            input,
-            out: vec![0; room].into(),
-        };
+        let timed = Timed::new(SAMPLE_A, count, size);
         let name = format!("{count} parts of {size} bytes");
-        row(&name, &timed, ours, theirs);
+        row(&name, &timed, ours_by_original, theirs);
         row(
             &format!("{name}, beside a plain copy"),
             &timed,
-            ours,
+            ours_by_original,
             copied,
+        );
+    }
+}
+
+fn rows_of_annex_b() {
+    for (count, size) in [
+        (1, 14),
+        (10, 64),
+        (1_000, 64),
+        (100_000, 64),
+        (16, 1 << 16),
+        (1, 1 << 26),
+    ] {
+        let timed = Timed::new(MOVED, count, size);
+        row(
+            &format!("{count} parts of {size} bytes"),
+            &timed,
+            ours,
+            plain,
         );
     }
 }

@@ -1,15 +1,17 @@
 //! The benchmark, beside plain Rust of the same rules, as the original has no such functions: all
-//! components by one check and a call for each, and a single one, which takes the check too.
+//! components by one check and a call for each, and a single one, which takes the check too; in the
+//! image, and in a tile by Annex B's rule.
 
 use probe::host;
 
 use crate::bench::{row, Benchmark};
+use crate::functions::plain::{self, PLAIN};
 use crate::model::Area;
 use crate::sample::components::{header, many, MOST};
 
 pub const BENCHMARK: Benchmark = Benchmark {
     name: "component sizes",
-    beside: "plain Rust",
+    beside: PLAIN,
     rows,
 };
 
@@ -18,6 +20,7 @@ type Sums = (u64, u64);
 
 struct Input {
     codestream: Vec<u8>,
+    tile: u16,
     /// The last component's.
     number: u64,
 }
@@ -26,13 +29,13 @@ fn add((bits, samples): Sums, [more, _, _, _, x0, y0, x1, y1]: [u64; 8]) -> Sums
     (bits + more, samples + (x1 - x0) * (y1 - y0))
 }
 
-fn ours(input: &Input) -> Option<Sums> {
-    let codestream = &input.codestream;
-    let mut read = [0; 5];
-    if host::read_components(codestream, &mut read) != 0 {
+/// By the area and the number of components that `read` tells.
+fn summed(codestream: &[u8], read: impl FnOnce(&mut [u64; 5]) -> u32) -> Option<Sums> {
+    let mut numbers = [0; 5];
+    if read(&mut numbers) != 0 {
         return None;
     }
-    let [count, area @ ..] = read;
+    let [count, area @ ..] = numbers;
     let area = area.map(|number| number as u32);
     let mut sums = (0, 0);
     for number in 0..count {
@@ -45,8 +48,29 @@ fn ours(input: &Input) -> Option<Sums> {
     Some(sums)
 }
 
+fn ours(input: &Input) -> Option<Sums> {
+    let codestream = &input.codestream;
+    summed(codestream, |numbers| {
+        host::read_components(codestream, numbers)
+    })
+}
+
+fn ours_in_tile(input: &Input) -> Option<Sums> {
+    let codestream = &input.codestream;
+    summed(codestream, |numbers| {
+        host::read_components_in_tile(codestream, input.tile, numbers)
+    })
+}
+
 fn plain(input: &Input) -> Option<Sums> {
     let (area, components) = checked(&input.codestream)?;
+    let numbers = components.iter().map(|component| within(area, component));
+    Some(numbers.fold((0, 0), add))
+}
+
+fn plain_in_tile(input: &Input) -> Option<Sums> {
+    let (_, components) = checked(&input.codestream)?;
+    let area = plain::tile_area(input.codestream.first_chunk()?, input.tile)?;
     let numbers = components.iter().map(|component| within(area, component));
     Some(numbers.fold((0, 0), add))
 }
@@ -61,6 +85,21 @@ fn ours_alone(input: &Input) -> Option<[u64; 8]> {
 
 fn plain_alone(input: &Input) -> Option<[u64; 8]> {
     let (area, components) = checked(&input.codestream)?;
+    let component = components.get(input.number as usize)?;
+    Some(within(area, component))
+}
+
+fn ours_alone_in_tile(input: &Input) -> Option<[u64; 8]> {
+    let mut numbers = [0; 8];
+    match host::component_in_tile(&input.codestream, input.tile, input.number, &mut numbers) {
+        0 => Some(numbers),
+        _ => None,
+    }
+}
+
+fn plain_alone_in_tile(input: &Input) -> Option<[u64; 8]> {
+    let (_, components) = checked(&input.codestream)?;
+    let area = plain::tile_area(input.codestream.first_chunk()?, input.tile)?;
     let component = components.get(input.number as usize)?;
     Some(within(area, component))
 }
@@ -100,11 +139,25 @@ fn within([x0, y0, x1, y1]: Area, &[ssiz, xrsiz, yrsiz]: &[u8; 3]) -> [u64; 8] {
 fn rows() {
     for (name, count) in [("10", 10), ("1,000", 1_000), ("16,384", MOST)] {
         let input = Input {
-            codestream: header([100_003, 50_001, 7, 5, 1024, 1024, 0, 0], &many(count)),
+            codestream: header([100_003, 50_001, 7, 5, 1024, 1024, 3, 0], &many(count)),
+            tile: 4_800,
             number: count as u64 - 1,
         };
-        row(&format!("all of {name} components"), &input, ours, plain);
+        let all = format!("all of {name} components");
         let last = format!("the last of {name} components");
+        row(&all, &input, ours, plain);
+        row(
+            &format!("{all}, in a tile"),
+            &input,
+            ours_in_tile,
+            plain_in_tile,
+        );
         row(&last, &input, ours_alone, plain_alone);
+        row(
+            &format!("{last}, in a tile"),
+            &input,
+            ours_alone_in_tile,
+            plain_alone_in_tile,
+        );
     }
 }

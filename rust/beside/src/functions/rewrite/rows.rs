@@ -1,5 +1,6 @@
-//! The benchmark: tiles that are rewritten and tiles that aren't, in short and long headers. The
-//! output that ours is lent is not cleared between calls; the original allocates its own.
+//! The benchmarks: tiles that are rewritten and tiles that aren't, in short and long headers, by
+//! the original's rule beside the original, and by Annex B's beside plain Rust. The output that is
+//! lent is not cleared between calls; the original allocates its own.
 
 use std::cell::RefCell;
 
@@ -7,8 +8,9 @@ use original::markers;
 use probe::host;
 
 use crate::bench::{row, Benchmark, ORIGINAL};
+use crate::functions::plain::{self, PLAIN};
 use crate::sample::codestream::Codestream;
-use crate::sample::sizes::{header, SAMPLE_A};
+use crate::sample::sizes::{header, Fields, MOVED, SAMPLE_A};
 use crate::wanted;
 
 pub const BENCHMARK: Benchmark = Benchmark {
@@ -17,13 +19,35 @@ pub const BENCHMARK: Benchmark = Benchmark {
     rows,
 };
 
+pub const BENCHMARK_OF_ANNEX_B: Benchmark = Benchmark {
+    name: wanted::REWRITE.name,
+    beside: PLAIN,
+    rows: rows_of_annex_b,
+};
+
+const SIZES: [usize; 3] = [45, 4096, 1 << 20];
+
 struct Input {
     header: Vec<u8>,
     isot: u16,
     out: RefCell<Vec<u8>>,
 }
 
-fn ours(input: &Input) -> Option<u64> {
+impl Input {
+    fn new(fields: Fields, size: usize, isot: u16) -> Self {
+        let mut built = Codestream {
+            bytes: header(fields),
+        };
+        built.pad_to(size);
+        Input {
+            header: built.bytes,
+            isot,
+            out: vec![0; size].into(),
+        }
+    }
+}
+
+fn ours_by_original(input: &Input) -> Option<u64> {
     let mut size = 0;
     let mut out = input.out.borrow_mut();
     let (header, isot) = (&input.header, input.isot);
@@ -38,20 +62,35 @@ fn theirs(input: &Input) -> Option<u64> {
     Some(rewritten.len() as u64)
 }
 
+fn ours(input: &Input) -> Option<u64> {
+    let mut size = 0;
+    let mut out = input.out.borrow_mut();
+    match host::rewrite_siz_for_tile(&input.header, input.isot, &mut out, &mut size) {
+        0 => Some(size),
+        _ => None,
+    }
+}
+
+fn plain(input: &Input) -> Option<u64> {
+    plain::rewrite(&input.header, input.isot, &mut input.out.borrow_mut())
+}
+
 fn rows() {
-    for size in [45, 4096, 1 << 20] {
+    for size in SIZES {
         for (which, isot) in [("full", 0), ("at the edge", 5)] {
-            let mut built = Codestream {
-                bytes: header(SAMPLE_A),
-            };
-            built.pad_to(size);
-            let input = Input {
-                header: built.bytes,
-                isot,
-                out: vec![0; size].into(),
-            };
+            let input = Input::new(SAMPLE_A, size, isot);
             let name = format!("tile {which}, header of {size} bytes");
-            row(&name, &input, ours, theirs);
+            row(&name, &input, ours_by_original, theirs);
+        }
+    }
+}
+
+fn rows_of_annex_b() {
+    for size in SIZES {
+        for (which, isot) in [("full", 6), ("at the origin", 0), ("at the edge", 14)] {
+            let input = Input::new(MOVED, size, isot);
+            let name = format!("tile {which}, header of {size} bytes");
+            row(&name, &input, ours, plain);
         }
     }
 }
