@@ -66,4 +66,6 @@ pub const KINDS: &[Kind] = &[
     header::RECORDS,
     scan::RECORDS,
     components::KIND,
+    rewrite::KIND_OF_ANNEX_B,
+    assembly::KIND_OF_ANNEX_B,
 ];

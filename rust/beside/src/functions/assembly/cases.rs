@@ -1,11 +1,14 @@
-//! The replay list's cases of kind 6; the payload is the header's length in 4 bytes, the header, the
-//! number of rows in 2 bytes, the rows, and the codestream.
+//! The replay list's cases of kinds 6 and 14; the payload is the header's length in 4 bytes, the
+//! header, the number of rows in 2 bytes, the rows, and the codestream. Those of 14 are answered by
+//! Annex B's rule, of which the original has none: the answers are the model's.
 
 use original::markers::build_minimal_codestream as original;
 
-use crate::cases::Kind;
+use crate::cases::{refused, Kind};
+use crate::model::rules::Rule;
+use crate::model::tile::build_minimal_codestream;
 use crate::model::{number, ROW};
-use crate::sample::tiles::{inputs, Input};
+use crate::sample::tiles::{inputs, inputs_of_annex_b, Input};
 use crate::tally::lower_hex;
 use crate::wanted;
 
@@ -22,6 +25,27 @@ pub const KIND: Kind = Kind {
         } = read(payload);
         let built = original(&header, &ranges, &codestream);
         Some(format!("assembly {}", lower_hex(&built)))
+    },
+};
+
+/// Output that the program which answers the list has.
+const ROOM: usize = 65_536;
+
+pub const KIND_OF_ANNEX_B: Kind = Kind {
+    number: 14,
+    name: wanted::ASSEMBLY.name,
+    minimum: 300,
+    payloads: |random| inputs_of_annex_b(random).iter().map(framed).collect(),
+    answer: |payload| {
+        let Input {
+            header,
+            ranges,
+            codestream,
+        } = read(payload);
+        let built = build_minimal_codestream(&header, &ranges, &codestream, Rule::AnnexB, ROOM);
+        let written = |bytes: Vec<u8>| format!(" {}", lower_hex(&bytes));
+        let answer = built.map_or_else(refused, written);
+        Some(format!("assembly-b{answer}"))
     },
 };
 

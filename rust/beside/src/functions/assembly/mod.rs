@@ -6,6 +6,6 @@ mod compare;
 mod from_parts;
 mod rows;
 
-pub use cases::KIND;
+pub use cases::{KIND, KIND_OF_ANNEX_B};
 pub use compare::COMPARISON;
 pub use rows::{BENCHMARK, BENCHMARK_OF_ANNEX_B};

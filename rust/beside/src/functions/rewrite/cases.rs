@@ -1,9 +1,13 @@
-//! The replay list's cases of kind 5; the payload is the tile's index in 2 bytes, and the header.
+//! The replay list's cases of kinds 5 and 13; the payload is the tile's index in 2 bytes, and the
+//! header. Those of 13 are answered by Annex B's rule, of which the original has none: the answers
+//! are the model's.
 
 use original::markers::rewrite_siz_for_tile as original;
 
-use crate::cases::Kind;
+use crate::cases::{refused, Kind};
 use crate::model::number;
+use crate::model::rules::Rule;
+use crate::model::tile::rewrite_siz_for_tile;
 use crate::random::Random;
 use crate::sample::prefixes;
 use crate::sample::sizes::{
@@ -20,6 +24,20 @@ pub const KIND: Kind = Kind {
     answer: |payload| {
         let (isot, header) = read(payload);
         Some(format!("rewrite {}", lower_hex(&original(header, isot))))
+    },
+};
+
+pub const KIND_OF_ANNEX_B: Kind = Kind {
+    number: 13,
+    name: wanted::REWRITE.name,
+    minimum: 300,
+    payloads: |random| inputs_of_annex_b(random).iter().map(framed).collect(),
+    answer: |payload| {
+        let (isot, header) = read(payload);
+        let written = |bytes: Vec<u8>| format!(" {}", lower_hex(&bytes));
+        let rewritten = rewrite_siz_for_tile(header, isot, Rule::AnnexB);
+        let answer = rewritten.map_or_else(refused, written);
+        Some(format!("rewrite-b{answer}"))
     },
 };
 

@@ -4,6 +4,6 @@ mod cases;
 mod compare;
 mod rows;
 
-pub use cases::KIND;
+pub use cases::{KIND, KIND_OF_ANNEX_B};
 pub use compare::COMPARISON;
 pub use rows::{BENCHMARK, BENCHMARK_OF_ANNEX_B};
