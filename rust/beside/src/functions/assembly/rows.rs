@@ -89,11 +89,9 @@ fn ours(timed: &Timed) -> Option<u64> {
 
 fn plain(timed: &Timed) -> Option<u64> {
     let Input {
-        header,
-        ranges,
-        codestream,
+        header, codestream, ..
     } = &timed.input;
-    plain::build(header, ranges, codestream, &mut timed.out.borrow_mut())
+    plain::build(header, &timed.rows, codestream, &mut timed.out.borrow_mut())
 }
 
 fn rows() {
