@@ -14,7 +14,7 @@ use Rattle.parts.specs.Split.{partEnd, splitStepAt, splitFrom, partsFrom, parts
 use Rattle.parts.specs.Tiles.{ofTile}
 use Rattle.tile.specs.Siz.{pair, oneTile}
 use Rattle.tile.specs.Original.{fitting, reaching, axisOf, columnsOf, bothAxes, inGrid, tileArea}
-use Rattle.tile.specs.AnnexB.{sideAt, laid, cellsOf, fromOf, toOf, cellArea, inCells, onGrid, gridTile}
+use Rattle.tile.specs.AnnexB.{laid, cellsOf, fromOf, toOf, cellArea, inCells, onGrid, gridTile}
 use Rattle.tile.specs.Rules.{imageArea, byAnnexB, byOriginal, placedBy}
 use Rattle.tile.specs.Rewrite.{sized, sizeOf, sizeIn, tileSize, cutTo, rewritten, over, rewriteAnswer, rewriteOut}
 use Rattle.tile.specs.Assembly.{rows, rangesFrom, ranges, rangeOf, andPart, partsIn, isSot, patched, partSize, sizeFor, joined, assembled, answerFor, assemblyAnswer, assemblyOut}
@@ -48,7 +48,7 @@ unfolding samples partEnd splitStepAt split.moveOf split.moveAt splitFrom partsF
 split-runs = tt
 
 unfoldable pub tiles : Unit {0}
-unfolding samples pair oneTile ceilDiv fitting reaching axisOf columnsOf bothAxes inGrid tileArea sideAt laid cellsOf fromOf toOf cellArea inCells onGrid gridTile byAnnexB byOriginal placedBy sized sizeOf sizeIn tileSize cutTo rewritten rewrite.withRoom rewrite.judged over rewriteAnswer rewriteOut rows rangesFrom ranges rangeOf andPart partsIn isSot patched partSize sizeFor joined assembled answerFor assemblyAnswer assemblyOut
+unfolding samples pair oneTile ceilDiv fitting reaching axisOf columnsOf bothAxes inGrid tileArea laid cellsOf fromOf toOf cellArea inCells onGrid gridTile byAnnexB byOriginal placedBy sized sizeOf sizeIn tileSize cutTo rewritten rewrite.withRoom rewrite.judged over rewriteAnswer rewriteOut rows rangesFrom ranges rangeOf andPart partsIn isSot patched partSize sizeFor joined assembled answerFor assemblyAnswer assemblyOut
 tiles = tt
 
 unfoldable pub searches : Unit {0}

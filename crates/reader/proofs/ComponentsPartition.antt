@@ -10,7 +10,7 @@ use Rattle.types.specs.Siz.{component}
 use Rattle.types.specs.Area.{Has}
 use Rattle.types.specs.declared.Area.{Area}
 use Rattle.tile.specs.Siz.{marker}
-use Rattle.tile.specs.AnnexB.{across, down, sideAt, cellsOf, fromOf, toOf, cellArea}
+use Rattle.tile.specs.AnnexB.{across, down, cellsOf, fromOf, toOf, cellArea}
 use Rattle.tile.specs.Rules.{imageArea, placedBy}
 use Rattle.tile.specs.declared.rules.Rule.{Rule}
 use Rattle.tile.specs.declared.rules.Rule.the-variants.{AnnexB}
@@ -166,28 +166,28 @@ module _ (s : List ℕ) (tile k : ℕ) (c : ComponentInfo) (here : componentInTi
     whole-is = image s k whole given .info
 
     pub first-column : tile % columns s ≡ 0 → c .area .x0 ≡ whole .area .x0
-    unfolding componentAt divided imageArea sideAt xr
+    unfolding componentAt divided imageArea xr
     first-column e =
         left-is s tile k c here
         ∙ ap (λ (n : ℕ). ceilDiv n (getD s (component marker k + 1) 0)) (ap (fromOf (across s)) e ∙ cells-start (across s) (lies s tile k c here .columns))
         ∙ sym (ap (λ (i : ComponentInfo). i .area .x0) whole-is)
 
     pub last-column : tile % columns s + 1 ≡ columns s → c .area .x1 ≡ whole .area .x1
-    unfolding componentAt divided imageArea sideAt xr
+    unfolding componentAt divided imageArea xr
     last-column e =
         right-is s tile k c here
         ∙ ap (λ (n : ℕ). ceilDiv n (getD s (component marker k + 1) 0)) (cells-end (across s) (lies s tile k c here .columns) (tile % columns s) e)
         ∙ sym (ap (λ (i : ComponentInfo). i .area .x1) whole-is)
 
     pub first-row : tile / columns s ≡ 0 → c .area .y0 ≡ whole .area .y0
-    unfolding componentAt divided imageArea sideAt yr
+    unfolding componentAt divided imageArea yr
     first-row e =
         top-is s tile k c here
         ∙ ap (λ (n : ℕ). ceilDiv n (getD s (component marker k + 2) 0)) (ap (fromOf (down s)) e ∙ cells-start (down s) (lies s tile k c here .rows))
         ∙ sym (ap (λ (i : ComponentInfo). i .area .y0) whole-is)
 
     pub last-row : tile / columns s + 1 ≡ rows s → c .area .y1 ≡ whole .area .y1
-    unfolding componentAt divided imageArea sideAt yr
+    unfolding componentAt divided imageArea yr
     last-row e =
         bottom-is s tile k c here
         ∙ ap (λ (n : ℕ). ceilDiv n (getD s (component marker k + 2) 0)) (cells-end (down s) (lies s tile k c here .rows) (tile / columns s) e)

@@ -17,7 +17,7 @@ use Rattle.types.specs.declared.Area.{Area}
 use Rattle.header.specs.Step.{segmentEnd}
 use Rattle.header.specs.Parse.{stands}
 use Rattle.tile.specs.Siz.{marker}
-use Rattle.tile.specs.AnnexB.{sideAt, gridTile}
+use Rattle.tile.specs.AnnexB.{gridTile}
 use Rattle.tile.specs.Original.{inGrid, tileArea}
 use Rattle.tile.specs.Rules.{imageArea, placedBy}
 use Rattle.tile.specs.declared.rules.Rule.{Rule}
@@ -53,7 +53,7 @@ unfolding imageArea
 image-front p t h = rw (be-front 4 p t 16 (omega arith), be-front 4 p t 20 (omega arith), be-front 4 p t 8 (omega arith), be-front 4 p t 12 (omega arith))
 
 tile-front : (rule : Rule) (p t : List ℕ) (tile : ℕ) → 40 ≤ length p → placedBy rule (p ++ t) tile ≡ placedBy rule p tile
-unfolding placedBy gridTile sideAt tileArea inGrid
+unfolding placedBy gridTile tileArea inGrid
 tile-front AnnexB p t tile h =
     rw (be-front 4 p t 8 (omega arith), be-front 4 p t 12 (omega arith), be-front 4 p t 16 (omega arith), be-front 4 p t 20 (omega arith), be-front 4 p t 24 (omega arith), be-front 4 p t 28 (omega arith), be-front 4 p t 32 (omega arith), be-front 4 p t 36 (omega arith))
 tile-front Original p t tile h =

@@ -19,7 +19,7 @@ use Rattle.types.specs.IsoSiz.{Component, Size, componentRows, sizRows, Ranges,
 use Rattle.types.specs.declared.Area.{Area}
 use Rattle.types.proofs.IsoSiz.{Fields, TileFields, fields-standard, tile-fields-standard}
 use Rattle.tile.specs.Siz.{marker, pair, oneTile}
-use Rattle.tile.specs.AnnexB.{across, down, sideAt, laid, cellsOf, fromOf, toOf, cellArea, onGrid, gridTile}
+use Rattle.tile.specs.AnnexB.{across, down, laid, cellsOf, fromOf, toOf, cellArea, onGrid, gridTile}
 use Rattle.tile.specs.Rules.{byAnnexB, placedBy}
 use Rattle.tile.specs.Rewrite.{sized, tileSize, cutTo, judged, rewritten, over, rewriteAnswer, rewriteOut}
 use Rattle.tile.specs.Iso.{Gridded, numXtiles, numYtiles, columnOf, rowOf, startOf, endOf, areaOf, widthOf, heightOf, headerOf, cutSize, forTile}
@@ -125,11 +125,11 @@ module _ (z : Size) where
 
 module _ (z : Size) (h : List ℕ) (k : Holds z h) (tile : ℕ) where
   acrossX : across h ≡ sideX z
-  unfolding sideAt sideX
+  unfolding sideX
   acrossX = λ i. record { end = k .Xsiz i; origin = k .XOsiz i; size = k .XTsiz i; «tile_origin» = k .XTOsiz i }
 
   downY : down h ≡ sideY z
-  unfolding sideAt sideY
+  unfolding sideY
   downY = λ i. record { end = k .Ysiz i; origin = k .YOsiz i; size = k .YTsiz i; «tile_origin» = k .YTOsiz i }
 
   on-sides : placedBy AnnexB h tile ≡ byAnnexB (onGrid (sideX z) (sideY z) tile)

@@ -11,7 +11,7 @@ use Rattle.numbers.specs.Rows.{bytesOfRows}
 use Rattle.types.specs.Refusals.{refusal}
 use Rattle.types.specs.IsoSiz.{Size, componentRows, sizRows, Ranges, TileRanges}
 use Rattle.tile.specs.Original.{fitting, reaching, axisOf, columnsOf, bothAxes, inGrid, tileArea}
-use Rattle.tile.specs.AnnexB.{sideAt, laid, cellsOf, fromOf, toOf, cellArea, inCells, onGrid, gridTile}
+use Rattle.tile.specs.AnnexB.{laid, cellsOf, fromOf, toOf, cellArea, inCells, onGrid, gridTile}
 use Rattle.tile.specs.Rules.{byAnnexB, byOriginal, placedBy}
 use Rattle.tile.specs.Rewrite.{sized, sizeOf, sizeIn, tileSize}
 use Rattle.tile.specs.Iso.{numXtiles, numYtiles, columnOf, rowOf, startOf, endOf, areaOf, widthOf, heightOf, headerOf}
@@ -41,7 +41,7 @@ unfolding numXtiles numYtiles columnOf rowOf startOf endOf areaOf widthOf height
 by-standard = tt
 
 unfoldable by-rule : Unit {0}
-unfolding tileSize sizeIn sizeOf placedBy byAnnexB byOriginal tileArea inGrid columnsOf axisOf fitting reaching bothAxes gridTile onGrid inCells cellArea fromOf toOf cellsOf laid sideAt sized ceilDiv be bytesOf bytesOfRows sizRows componentRows
+unfolding tileSize sizeIn sizeOf placedBy byAnnexB byOriginal tileArea inGrid columnsOf axisOf fitting reaching bothAxes gridTile onGrid inCells cellArea fromOf toOf cellsOf laid sized ceilDiv be bytesOf bytesOfRows sizRows componentRows
 by-rule = tt
 
 -- ---- the premises are met

@@ -14,7 +14,7 @@ use Rattle.types.specs.Siz.{xosiz, yosiz, xtsiz, ytsiz, xtosiz, ytosiz}
 use Rattle.types.specs.declared.Area.{Area}
 use Rattle.types.specs.declared.Refusal.{Refusal}
 use Rattle.tile.specs.Siz.{marker}
-use Rattle.tile.specs.AnnexB.{across, down, sideAt, cellsOf, fromOf, toOf, cellArea}
+use Rattle.tile.specs.AnnexB.{across, down, cellsOf, fromOf, toOf, cellArea}
 use Rattle.tile.specs.Original.{axisOf, columnsOf, inGrid, tileArea}
 use Rattle.tile.specs.Rules.{byOriginal, placedBy}
 use Rattle.tile.specs.declared.annex_b.Side.{Side}
@@ -68,17 +68,16 @@ module _ (h : List ℕ) (tile : ℕ) (a : Area) (one : OneOrigin h) (told : plac
   some e = omega (arith, columns-positive _ _ _ (grid .inside))
 
   in-columns : tileArea h tile ≡ inGrid h (cellsOf (across h)) tile
-  unfolding tileArea sideAt
+  unfolding tileArea
   in-columns = ap (λ (n : ℕ). inGrid h n tile) (columns-same (across h) (grid .columns) (one .x))
 
   module _ (fits : lastX h tile < 2 ^ 32) where
     across-same : axisOf (across h .end) (across h .origin) (across h .size) (tile % cellsOf (across h)) ≡ Span (fromOf (across h) (tile % cellsOf (across h))) (toOf (across h) (tile % cellsOf (across h)))
-    unfolding sideAt
     across-same = axis-same (across h) (grid .columns) (one .x) _ (column-inside _ _ _ (grid .inside)) fits
 
     -- Where both sums fit, it lies there by the original's rule too.
     pub original-follows : lastY h tile < 2 ^ 32 → placedBy Original h tile ≡ Tile a
-    unfolding placedBy byOriginal cellArea sideAt
+    unfolding placedBy byOriginal cellArea
     original-follows low =
         ap byOriginal
         (in-columns
@@ -86,13 +85,11 @@ module _ (h : List ℕ) (tile : ℕ) (a : Area) (one : OneOrigin h) (told : plac
         ∙ ap area.Tile (sym (grid .area)))
 
     past-down : 2 ^ 32 ≤ lastY h tile → tileArea h tile ≡ area.Outside
-    unfolding sideAt
     past-down high =
         in-columns
         ∙ grid-down h (cellsOf (across h)) tile some _ _ across-same (axis-past (down h) (grid .rows) (one .y) _ (row-inside _ _ _ (grid .inside)) high)
 
   past-across : 2 ^ 32 ≤ lastX h tile → tileArea h tile ≡ area.Outside
-  unfolding sideAt
   past-across high =
       in-columns ∙ grid-across h (cellsOf (across h)) tile some (axis-past (across h) (grid .columns) (one .x) _ (column-inside _ _ _ (grid .inside)) high)
 

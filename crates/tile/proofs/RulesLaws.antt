@@ -6,7 +6,7 @@ use mathlib.Core.List.{List}
 use Rattle.types.specs.Area.{Inside}
 use Rattle.types.specs.declared.Area.{Area}
 use Rattle.types.specs.declared.Refusal.{Refusal}
-use Rattle.tile.specs.AnnexB.{across, down, sideAt, cellArea, gridTile}
+use Rattle.tile.specs.AnnexB.{across, down, cellArea, gridTile}
 use Rattle.tile.specs.Original.{tileArea}
 use Rattle.tile.specs.Rules.{imageArea, byAnnexB, byOriginal, placedBy}
 use Rattle.tile.specs.declared.annex_b.GridTile.{GridTile}
@@ -54,7 +54,7 @@ module _ (h : List ℕ) (tile : ℕ) (a : Area) where
       rw (f .area) (span-some (across h) (f .columns) _ (column-inside _ _ _ (f .inside)), span-some (down h) (f .rows) _ (row-inside _ _ _ (f .inside)))
 
   annex-within : placedBy AnnexB h tile ≡ Tile a → Inside a (imageArea h)
-  unfolding imageArea sideAt cellArea
+  unfolding imageArea cellArea
   annex-within e =
       let f : Found (across h) (down h) tile a = annex-told e in
       let some = tile-some e in

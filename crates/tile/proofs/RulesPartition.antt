@@ -6,7 +6,7 @@ use lib.Dec.{lit<}
 use Rattle.numbers.proofs.BytesLaws.{ceil-one}
 use Rattle.types.specs.Area.{Has}
 use Rattle.types.specs.declared.Area.{Area}
-use Rattle.tile.specs.AnnexB.{across, down, sideAt, cellsOf, cellArea, gridTile}
+use Rattle.tile.specs.AnnexB.{across, down, cellsOf, cellArea, gridTile}
 use Rattle.tile.specs.Rules.{imageArea, byAnnexB, placedBy}
 use Rattle.tile.specs.declared.annex_b.Side.{Side}
 use Rattle.tile.specs.declared.rules.Rule.the-variants.{AnnexB}
@@ -40,7 +40,7 @@ module _ (px py : ℕ) (a : Area) where
 module _ (h : List ℕ) (lx : Laid (across h)) (ly : Laid (down h)) where
   -- Each sample of a component of the image lies in one tile, and in no other.
   pub samples-partition : (xr yr : ℕ) → 0 < xr → 0 < yr → (px py : ℕ) → HasSample (imageArea h) xr yr px py → OneTile h (λ a. HasSample a xr yr px py)
-  unfolding imageArea sideAt placedBy gridTile
+  unfolding imageArea placedBy gridTile
   samples-partition xr yr sx sy px py i =
       let x : Side = across h in
       let y : Side = down h in

@@ -6,7 +6,7 @@ use mathlib.Core.List.{List}
 use lib.Dec.{leb, ltb}
 use Rattle.numbers.specs.Bytes.{be}
 use Rattle.numbers.specs.Ceiling.{ceilDiv}
-use Rattle.types.specs.Siz.{XSIZ}
+use Rattle.types.specs.Siz.{XSIZ, xsiz, ysiz, xosiz, yosiz, xtsiz, ytsiz, xtosiz, ytosiz}
 use Rattle.types.specs.declared.Area.{Area}
 use Rattle.tile.specs.Siz.{marker}
 use Rattle.tile.specs.declared.annex_b.Side.{Side}
@@ -15,7 +15,14 @@ use Rattle.tile.specs.declared.annex_b.GridTile.the-variants.{Tile, NoGr
 
 -- ---- one axis
 
--- SIZ along an axis: 0 is across (Xsiz, XOsiz, XTsiz, XTOsiz), and 4 is down, as each field down stands 4 bytes behind the one across
+-- SIZ along each axis
+abbrev pub across : List ℕ → Side
+across h = record { end = xsiz h marker; origin = xosiz h marker; size = xtsiz h marker; «tile_origin» = xtosiz h marker }
+
+abbrev pub down : List ℕ → Side
+down h = record { end = ysiz h marker; origin = yosiz h marker; size = ytsiz h marker; «tile_origin» = ytosiz h marker }
+
+-- the two as one, by what is added to the place of a field across, 0 or 4: each field down stands 4 bytes behind it
 unfoldable pub sideAt : List ℕ → ℕ → Side
 sideAt h axis =
     record {
@@ -24,12 +31,6 @@ sideAt h axis =
       size = be 4 h (marker + (22 + axis));
       «tile_origin» = be 4 h (marker + (30 + axis));
     }
-
-abbrev pub across : List ℕ → Side
-across h = sideAt h 0
-
-abbrev pub down : List ℕ → Side
-down h = sideAt h 4
 
 -- tile origin <= image origin < image end, tile size >= 1, tile origin + size > image origin: otherwise 30
 unfoldable pub laid : Side → Bool

@@ -2,7 +2,7 @@
 use mathlib.Core.Path.{_≡_, sym, ap, _∙_}
 use mathlib.Core.Bool.{true}
 use borrow.Author.Tests.{not-true, not-false}
-use Rattle.tile.specs.AnnexB.{down, laid, onGrid, gridTile}
+use Rattle.tile.specs.AnnexB.{down, sideAt, laid, onGrid, gridTile}
 use Rattle.tile.specs.declared.annex_b.Side.{Side}
 use Rattle.tile.proofs.AnnexBLaws.{no-columns, no-rows, some-grid}
 use borrow.Author.Needs.{needs}
@@ -11,13 +11,14 @@ use Rattle.tile.proofs.annex_b.tile_area.Tie as tie
 
 -- the sides as they were read
 across-read : (c : tie.After-is-laid) → let a = c .before .before .before .args in gridTile (a .header .now) (a .isot) ≡ onGrid (c .before .side-at .result) (down (a .header .now)) (a .isot)
-unfolding gridTile
+unfolding gridTile sideAt
 across-read c =
     let a = c .before .before .before .args in
     ap (λ (s : Side). onGrid s (down (a .header .now)) (a .isot)) (sym (c .before .side-at .ensures))
 
 both-read : (c : tie.After-is-laid2) → let x = c .before .before .before in let a = x .before .before .before .args in
     gridTile (a .header .now) (a .isot) ≡ onGrid (x .before .side-at .result) (c .before .side-at2 .result) (a .isot)
+unfolding sideAt
 both-read c =
     let x = c .before .before .before in
     across-read x ∙ ap (λ (s : Side). onGrid (x .before .side-at .result) s (x .before .before .before .args .isot)) (sym (c .before .side-at2 .ensures))
