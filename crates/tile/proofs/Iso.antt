@@ -9,11 +9,12 @@ use mathlib.Core.List.{List, [], _∷_, _++_, append-assoc, append-nil}
 use lib.ListN.{length, take, drop, length-append}
 use lib.Seq.{take-at, drop-at}
 use lib.Dec.{eqb}
-use Rattle.numbers.specs.Bytes.{put}
+use Rattle.numbers.specs.Bytes.{be, put}
 use Rattle.numbers.specs.Rows.{Row, row, bytesOfRows, widths}
 use Rattle.numbers.proofs.Choice.{by-test, by-bool}
 use Rattle.numbers.proofs.Rows.{length-rows}
 use Rattle.types.specs.Refusals.{refusal}
+use Rattle.types.specs.Markers.{SIZ}
 use Rattle.types.specs.Siz.{XSIZ, xsiz, ysiz, xosiz, yosiz, xtsiz, ytsiz, xtosiz, ytosiz}
 use Rattle.types.specs.IsoSiz.{Component, Size, componentRows, sizRows, Ranges, TileRanges}
 use Rattle.types.specs.declared.Area.{Area}
@@ -33,7 +34,8 @@ use Rattle.tile.specs.declared.rewrite.Written.the-variants.{Bytes}
 use Rattle.tile.proofs.AnnexBLaws.{Laid, laid-is, is-laid, span-some, column-inside, row-inside, grid-past, grid-inside, no-columns, no-rows, some-grid, Found}
 use Rattle.tile.proofs.RulesLaws.{annex-told}
 use Rattle.tile.proofs.RulesAgree.{original-follows}
-use Rattle.tile.proofs.RewriteLaws.{size-inside, size-siz, room-enough}
+use Rattle.tile.proofs.RewriteLaws.{size-refused, size-inside, size-siz, room-enough}
+use Rattle.tile.specs.declared.rewrite.TileSize.the-variants as size
 
 -- ---- a size, and a header that holds it
 
@@ -226,18 +228,30 @@ tile-ranges z tile inside g t =
 
 -- ---- the rewrite
 
--- where a rule tells a tile at the standard's place, the header is cut to it
-module _ (rule : Rule) (z : Size) (rest : List ℕ) (tile : ℕ) (g : Ranges z) (t : TileRanges z) (told : placedBy rule (headerOf z rest) tile ≡ Tile (areaOf z tile)) where
-  -- The tile has the standard's size.
-  pub size-standard : tileSize rule (headerOf z rest) tile ≡ sized (widthOf z tile) (heightOf z tile) (z .XTsiz) (z .YTsiz)
+-- of a header of 40 bytes or more with SIZ at 2 that holds a size
+module _ (z : Size) (h : List ℕ) (k : Holds z h) (long : 40 ≤ length h) (siz : be 2 h marker ≡ SIZ) (tile : ℕ) where
+  -- Where a rule tells a tile at the standard's place it has the standard's size.
+  pub size-told : (rule : Rule) → placedBy rule h tile ≡ Tile (areaOf z tile) → tileSize rule h tile ≡ sized (widthOf z tile) (heightOf z tile) (z .XTsiz) (z .YTsiz)
   unfolding widthOf heightOf areaOf
+  size-told rule told =
+      size-siz rule h tile long siz ∙ size-inside rule h tile (areaOf z tile) told ∙ (λ i. sized (widthOf z tile) (heightOf z tile) (k .XTsiz i) (k .YTsiz i))
+
+  -- By Annex B so exactly where B.3's premises and the index hold; else the rewrite is refused, by 30 or by 31.
+  pub size-annex : Gridded z → tile < numXtiles z * numYtiles z → tileSize AnnexB h tile ≡ sized (widthOf z tile) (heightOf z tile) (z .XTsiz) (z .YTsiz)
+  size-annex g inside = size-told AnnexB (annex-standard z h k tile g inside)
+
+  pub size-no-grid : (Gridded z → ⊥) → tileSize AnnexB h tile ≡ size.Refused (refusal 30 marker)
+  size-no-grid n = size-siz AnnexB h tile long siz ∙ size-refused AnnexB h tile _ (annex-no-grid z h k tile n)
+
+  pub size-no-tile : Gridded z → numXtiles z * numYtiles z ≤ tile → tileSize AnnexB h tile ≡ size.Refused (refusal 31 marker)
+  size-no-tile g past = size-siz AnnexB h tile long siz ∙ size-refused AnnexB h tile _ (annex-no-tile z h k tile g past)
+
+-- of a SIZ by the standard, where a rule tells a tile at the standard's place
+module _ (rule : Rule) (z : Size) (rest : List ℕ) (tile : ℕ) (g : Ranges z) (t : TileRanges z) (told : placedBy rule (headerOf z rest) tile ≡ Tile (areaOf z tile)) where
+  pub size-standard : tileSize rule (headerOf z rest) tile ≡ sized (widthOf z tile) (heightOf z tile) (z .XTsiz) (z .YTsiz)
   size-standard =
-      let h : List ℕ = headerOf z rest in
-      let f : Fields z h = fields-standard z rest g in
-      let k : TileFields z h = tile-fields-standard z rest g t in
-      size-siz rule h tile (omega (arith, f .long)) (f .marker)
-      ∙ size-inside rule h tile (areaOf z tile) told
-      ∙ (λ i. sized (widthOf z tile) (heightOf z tile) (k .XTsiz i) (k .YTsiz i))
+      let f : Fields z (headerOf z rest) = fields-standard z rest g in
+      size-told z (headerOf z rest) (holds-standard z rest g t) (omega (arith, f .long)) (f .marker) tile rule told
 
   -- With room for the header the rewrite is not refused.
   pub rewrite-accepts : (room : ℕ) → length (headerOf z rest) ≤ room → rewriteAnswer rule (headerOf z rest) tile room ≡ Bytes (length (headerOf z rest))

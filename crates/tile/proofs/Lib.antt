@@ -5,6 +5,7 @@ pub mod RulesLaws
 pub mod RulesPartition
 pub mod RulesAgree
 pub mod RewriteLaws
+pub mod RewriteAgree
 pub mod RewriteHeader
 pub mod AssemblyRanges
 pub mod AssemblyRows
