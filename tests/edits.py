@@ -29,7 +29,7 @@ ERROR = re.compile(r"^(\S+\.antt):\d+:\d+: error: (.*(?:\n  has no .*)?)$", re.M
 UNPROVED = re.compile(r"^fn (\S+): no proof: .*does not close", re.M)
 # What fails since something that it cites has failed.
 FOLLOWS = re.compile(r"was not admitted|were not admitted")
-FORM = re.compile(r"not in scope|has no field|module `[^`]+` has no|that can be named|no such|not a function|unknown name|cannot be named|is not defined")
+FORM = re.compile(r"expected type `tie\.Need-|not in scope|has no field|module `[^`]+` has no|that can be named|no such|not a function|unknown name|cannot be named|is not defined")
 PROOF = re.compile(r"proofs/(.+)/Proof\.antt")
 
 
