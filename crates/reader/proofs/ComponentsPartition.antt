@@ -29,6 +29,13 @@ use Rattle.reader.specs.declared.components.ComponentRead.the-variants a
 use Rattle.reader.proofs.ComponentsLaws.{accepted, tile-found}
 use Rattle.reader.proofs.ComponentsAreas.{found, there-in, there-apart, refused-found}
 
+-- how far a component's samples lie apart, across and down
+abbrev xrsiz : List ℕ → ℕ → ℕ
+xrsiz s k = getD s (component marker k + 1) 0
+
+abbrev yrsiz : List ℕ → ℕ → ℕ
+yrsiz s k = getD s (component marker k + 2) 0
+
 -- ---- a component in an area
 
 -- a component of the image: the check accepts, and it is counted
@@ -86,8 +93,8 @@ module _ (s : List ℕ) (k : ℕ) (whole : ComponentInfo) (given : componentOf s
   pub component-partition : Laid (across s) → Laid (down s) → (px py : ℕ) → Has (whole .area) px py → OneTileOf s k px py
   unfolding componentAt divided
   component-partition lx ly px py h =
-      let xr : ℕ = getD s (component marker k + 1) 0 in
-      let yr : ℕ = getD s (component marker k + 2) 0 in
+      let xr : ℕ = xrsiz s k in
+      let yr : ℕ = yrsiz s k in
       let steps = there-apart s k (image .there) in
       let i : Has (componentAt s (imageArea s) (component marker k) .area) px py = rw (image .info) at h in
       let o : OneTile s (λ a. HasSample a xr yr px py) =
@@ -119,45 +126,37 @@ module _ (s : List ℕ) (tile k : ℕ) (c : ComponentInfo) (here : componentInTi
   lies : Found (across s) (down s) tile (own .area)
   lies = annex-told s tile (own .area) (own .told)
 
-  xr : ℕ
-  xr = getD s (component marker k + 1) 0
+  left-is : c .area .x0 ≡ ceilDiv (fromOf (across s) (tile % columns s)) (xrsiz s k)
+  unfolding componentAt divided cellArea
+  left-is = ap (λ (i : ComponentInfo). i .area .x0) (own .info) ∙ ap (λ (a : Area). ceilDiv (a .x0) (xrsiz s k)) (lies .area)
 
-  yr : ℕ
-  yr = getD s (component marker k + 2) 0
+  right-is : c .area .x1 ≡ ceilDiv (toOf (across s) (tile % columns s)) (xrsiz s k)
+  unfolding componentAt divided cellArea
+  right-is = ap (λ (i : ComponentInfo). i .area .x1) (own .info) ∙ ap (λ (a : Area). ceilDiv (a .x1) (xrsiz s k)) (lies .area)
 
-  left-is : c .area .x0 ≡ ceilDiv (fromOf (across s) (tile % columns s)) xr
-  unfolding componentAt divided cellArea xr
-  left-is = ap (λ (i : ComponentInfo). i .area .x0) (own .info) ∙ ap (λ (a : Area). ceilDiv (a .x0) xr) (lies .area)
+  top-is : c .area .y0 ≡ ceilDiv (fromOf (down s) (tile / columns s)) (yrsiz s k)
+  unfolding componentAt divided cellArea
+  top-is = ap (λ (i : ComponentInfo). i .area .y0) (own .info) ∙ ap (λ (a : Area). ceilDiv (a .y0) (yrsiz s k)) (lies .area)
 
-  right-is : c .area .x1 ≡ ceilDiv (toOf (across s) (tile % columns s)) xr
-  unfolding componentAt divided cellArea xr
-  right-is = ap (λ (i : ComponentInfo). i .area .x1) (own .info) ∙ ap (λ (a : Area). ceilDiv (a .x1) xr) (lies .area)
-
-  top-is : c .area .y0 ≡ ceilDiv (fromOf (down s) (tile / columns s)) yr
-  unfolding componentAt divided cellArea yr
-  top-is = ap (λ (i : ComponentInfo). i .area .y0) (own .info) ∙ ap (λ (a : Area). ceilDiv (a .y0) yr) (lies .area)
-
-  bottom-is : c .area .y1 ≡ ceilDiv (toOf (down s) (tile / columns s)) yr
-  unfolding componentAt divided cellArea yr
-  bottom-is = ap (λ (i : ComponentInfo). i .area .y1) (own .info) ∙ ap (λ (a : Area). ceilDiv (a .y1) yr) (lies .area)
+  bottom-is : c .area .y1 ≡ ceilDiv (toOf (down s) (tile / columns s)) (yrsiz s k)
+  unfolding componentAt divided cellArea
+  bottom-is = ap (λ (i : ComponentInfo). i .area .y1) (own .info) ∙ ap (λ (a : Area). ceilDiv (a .y1) (yrsiz s k)) (lies .area)
 
 module _ (s : List ℕ) (tile k : ℕ) (c : ComponentInfo) (here : componentInTile AnnexB s tile k ≡ one.Component c) where
   -- In the next column a component starts where it ends in this, and in the next row likewise.
   module _ (next : ℕ) (d : ComponentInfo) (there : componentInTile AnnexB s next k ≡ one.Component d) where
     pub columns-adjoin : next % columns s ≡ tile % columns s + 1 → c .area .x1 ≡ d .area .x0
-    unfolding xr
     columns-adjoin e =
         let inside : tile % columns s + 1 < columns s = rw (← e) (column-inside _ _ next (lies s next k d there .inside)) in
         right-is s tile k c here
-        ∙ ap (λ (n : ℕ). ceilDiv n (getD s (component marker k + 1) 0)) (cells-adjoin (across s) (lies s tile k c here .columns) (tile % columns s) inside ∙ ap (fromOf (across s)) (sym e))
+        ∙ ap (λ (n : ℕ). ceilDiv n (xrsiz s k)) (cells-adjoin (across s) (lies s tile k c here .columns) (tile % columns s) inside ∙ ap (fromOf (across s)) (sym e))
         ∙ sym (left-is s next k d there)
 
     pub rows-adjoin : next / columns s ≡ tile / columns s + 1 → c .area .y1 ≡ d .area .y0
-    unfolding yr
     rows-adjoin e =
         let inside : tile / columns s + 1 < rows s = rw (← e) (row-inside _ _ next (lies s next k d there .inside)) in
         bottom-is s tile k c here
-        ∙ ap (λ (n : ℕ). ceilDiv n (getD s (component marker k + 2) 0)) (cells-adjoin (down s) (lies s tile k c here .rows) (tile / columns s) inside ∙ ap (fromOf (down s)) (sym e))
+        ∙ ap (λ (n : ℕ). ceilDiv n (yrsiz s k)) (cells-adjoin (down s) (lies s tile k c here .rows) (tile / columns s) inside ∙ ap (fromOf (down s)) (sym e))
         ∙ sym (top-is s next k d there)
 
   -- In the first column it starts where it does in the image, and in the last it ends there; in the first and the last row likewise.
@@ -166,29 +165,29 @@ module _ (s : List ℕ) (tile k : ℕ) (c : ComponentInfo) (here : componentInTi
     whole-is = image s k whole given .info
 
     pub first-column : tile % columns s ≡ 0 → c .area .x0 ≡ whole .area .x0
-    unfolding componentAt divided imageArea xr
+    unfolding componentAt divided imageArea
     first-column e =
         left-is s tile k c here
-        ∙ ap (λ (n : ℕ). ceilDiv n (getD s (component marker k + 1) 0)) (ap (fromOf (across s)) e ∙ cells-start (across s) (lies s tile k c here .columns))
+        ∙ ap (λ (n : ℕ). ceilDiv n (xrsiz s k)) (ap (fromOf (across s)) e ∙ cells-start (across s) (lies s tile k c here .columns))
         ∙ sym (ap (λ (i : ComponentInfo). i .area .x0) whole-is)
 
     pub last-column : tile % columns s + 1 ≡ columns s → c .area .x1 ≡ whole .area .x1
-    unfolding componentAt divided imageArea xr
+    unfolding componentAt divided imageArea
     last-column e =
         right-is s tile k c here
-        ∙ ap (λ (n : ℕ). ceilDiv n (getD s (component marker k + 1) 0)) (cells-end (across s) (lies s tile k c here .columns) (tile % columns s) e)
+        ∙ ap (λ (n : ℕ). ceilDiv n (xrsiz s k)) (cells-end (across s) (lies s tile k c here .columns) (tile % columns s) e)
         ∙ sym (ap (λ (i : ComponentInfo). i .area .x1) whole-is)
 
     pub first-row : tile / columns s ≡ 0 → c .area .y0 ≡ whole .area .y0
-    unfolding componentAt divided imageArea yr
+    unfolding componentAt divided imageArea
     first-row e =
         top-is s tile k c here
-        ∙ ap (λ (n : ℕ). ceilDiv n (getD s (component marker k + 2) 0)) (ap (fromOf (down s)) e ∙ cells-start (down s) (lies s tile k c here .rows))
+        ∙ ap (λ (n : ℕ). ceilDiv n (yrsiz s k)) (ap (fromOf (down s)) e ∙ cells-start (down s) (lies s tile k c here .rows))
         ∙ sym (ap (λ (i : ComponentInfo). i .area .y0) whole-is)
 
     pub last-row : tile / columns s + 1 ≡ rows s → c .area .y1 ≡ whole .area .y1
-    unfolding componentAt divided imageArea yr
+    unfolding componentAt divided imageArea
     last-row e =
         bottom-is s tile k c here
-        ∙ ap (λ (n : ℕ). ceilDiv n (getD s (component marker k + 2) 0)) (cells-end (down s) (lies s tile k c here .rows) (tile / columns s) e)
+        ∙ ap (λ (n : ℕ). ceilDiv n (yrsiz s k)) (cells-end (down s) (lies s tile k c here .rows) (tile / columns s) e)
         ∙ sym (ap (λ (i : ComponentInfo). i .area .y1) whole-is)

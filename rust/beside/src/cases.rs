@@ -6,6 +6,7 @@ use std::collections::BTreeSet;
 use crate::caught::caught;
 use crate::model::{Entry, Refusal};
 use crate::random::Random;
+use crate::tally::lower_hex;
 
 /// One kind of case.
 pub struct Kind {
@@ -73,6 +74,11 @@ pub fn listed(entries: &[Entry]) -> String {
 /// ` refused NUMBER PLACE`, of what the model answers.
 pub fn refused(Refusal { number, place }: Refusal) -> String {
     format!(" refused {number} {place}")
+}
+
+/// The bytes that the model writes, or why it refuses.
+pub fn written(answer: Result<Vec<u8>, Refusal>) -> String {
+    answer.map_or_else(refused, |bytes| format!(" {}", lower_hex(&bytes)))
 }
 
 #[cfg(test)]

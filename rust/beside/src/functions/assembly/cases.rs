@@ -4,7 +4,7 @@
 
 use original::markers::build_minimal_codestream as original;
 
-use crate::cases::{refused, Kind};
+use crate::cases::{written, Kind};
 use crate::model::rules::Rule;
 use crate::model::tile::build_minimal_codestream;
 use crate::model::{number, ROW};
@@ -43,9 +43,7 @@ pub const KIND_OF_ANNEX_B: Kind = Kind {
             codestream,
         } = read(payload);
         let built = build_minimal_codestream(&header, &ranges, &codestream, Rule::AnnexB, ROOM);
-        let written = |bytes: Vec<u8>| format!(" {}", lower_hex(&bytes));
-        let answer = built.map_or_else(refused, written);
-        Some(format!("assembly-b{answer}"))
+        Some(format!("assembly-b{}", written(built)))
     },
 };
 

@@ -4,7 +4,7 @@
 
 use original::markers::rewrite_siz_for_tile as original;
 
-use crate::cases::{refused, Kind};
+use crate::cases::{written, Kind};
 use crate::model::number;
 use crate::model::rules::Rule;
 use crate::model::tile::rewrite_siz_for_tile;
@@ -34,10 +34,8 @@ pub const KIND_OF_ANNEX_B: Kind = Kind {
     payloads: |random| inputs_of_annex_b(random).iter().map(framed).collect(),
     answer: |payload| {
         let (isot, header) = read(payload);
-        let written = |bytes: Vec<u8>| format!(" {}", lower_hex(&bytes));
         let rewritten = rewrite_siz_for_tile(header, isot, Rule::AnnexB);
-        let answer = rewritten.map_or_else(refused, written);
-        Some(format!("rewrite-b{answer}"))
+        Some(format!("rewrite-b{}", written(rewritten)))
     },
 };
 
