@@ -9,6 +9,7 @@ pub mod StripLaws
 pub mod ParseFilling
 pub mod StripLengths
 pub mod ParseLaws
+pub mod FindLaws
 pub mod Iso
 pub mod IsoTlm
 pub mod IsoMain

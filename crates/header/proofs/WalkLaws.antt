@@ -1,5 +1,5 @@
 -- The walk's definitions, opened once: a law for each case; the walk goes forward inside the bytes, so the laws of a chain hold of it.
-use Prim.Native.Nat.{ℕ, _≤_, _<_}
+use Prim.Native.Nat.{ℕ, _+_, _≤_, _<_}
 use native.Mathlib.Omega.{arith}
 use mathlib.Core.Path.{_≡_, refl, sym, ap, _∙_}
 use mathlib.Core.Bool.{true, false}
@@ -84,7 +84,7 @@ pub record TlmPassed (s : List ℕ) (at : ℕ) (p : Passing) : Type 0 where
   pub whole : p .next ≡ segmentEnd s at
 
 pub record PassedIs (s : List ℕ) (at : ℕ) (p : Passing) : Type 0 where
-  pub past : at < p .next
+  pub past : at + 2 ≤ p .next
   pub inside : p .next ≤ length s
   pub plain : p .«is_tlm» ≡ false → be 2 s at ≡ TLM → ⊥
   pub tlm : p .«is_tlm» ≡ true → TlmPassed s at p
@@ -97,7 +97,7 @@ Tells s at (Refused r) = Unit {0}
 pub not-true-false : true ≡ false → ⊥
 not-true-false e = let z : _≡_ {A = ℕ} 0 1 = cc in omega arith
 
-tells-tlm : (s : List ℕ) (at next : ℕ) → at < next → next ≤ length s → be 2 s at ≡ TLM → next ≡ segmentEnd s at → Tells s at (tlmStep next (tlmAt s at))
+tells-tlm : (s : List ℕ) (at next : ℕ) → at + 2 ≤ next → next ≤ length s → be 2 s at ≡ TLM → next ≡ segmentEnd s at → Tells s at (tlmStep next (tlmAt s at))
 unfolding tlmAt tlmStep
 tells-tlm s at next past inside m whole =
     let P : Tlm → Type 0 = λ t. Tells s at (tlmStep next t) in
@@ -119,7 +119,7 @@ tells-tlm s at next past inside m whole =
     known-size : (stlm : ℕ) → (indexSize stlm ≡ 3 → ⊥) → indexSize stlm < 3
     known-size stlm h = omega arith
 
-tells-passed : (s : List ℕ) (at next : ℕ) → at < next → next ≤ length s → (be 2 s at ≡ TLM → next ≡ segmentEnd s at) → Tells s at (passedAt s at next)
+tells-passed : (s : List ℕ) (at next : ℕ) → at + 2 ≤ next → next ≤ length s → (be 2 s at ≡ TLM → next ≡ segmentEnd s at) → Tells s at (passedAt s at next)
 unfolding passedAt
 tells-passed s at next past inside whole =
     by-test (Tells s at) (eqb (be 2 s at) TLM)
@@ -127,11 +127,11 @@ tells-passed s at next past inside whole =
     (λ m. record { past = past; inside = inside; plain = λ _. eqb-false (be 2 s at) TLM m; tlm = λ e. absurd (not-true-false (sym e)) })
 
 tells-step : (s : List ℕ) (at : ℕ) (found : HeaderStep) → Told s at found → Tells s at (walkStepOf s at found)
-unfolding walkStepOf
+unfolding walkStepOf segmentEnd
 tells-step s at Sot told = tt
 tells-step s at (Delimiter next) told =
-    tells-passed s at next (told .0) (told .1) (λ m. absurd (not-true-false (sym (told .3) ∙ ap delimits m ∙ tlm-no-delimiter)))
-tells-step s at (Segment next) told = tells-passed s at next (told .0) (told .1) (λ _. told .2)
+    tells-passed s at next (omega (arith, told .2)) (told .1) (λ m. absurd (not-true-false (sym (told .3) ∙ ap delimits m ∙ tlm-no-delimiter)))
+tells-step s at (Segment next) told = tells-passed s at next (omega (arith, told .2)) (told .1) (λ _. told .2)
 tells-step s at CutShort told = tt
 
 pub passed-is : (s : List ℕ) (at : ℕ) (p : Passing) → walkStepAt s at ≡ Passed p → PassedIs s at p

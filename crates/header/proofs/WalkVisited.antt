@@ -20,7 +20,7 @@ use Rattle.header.specs.declared.walk.WalkStep.the-variants.{Passed}
 use Rattle.header.proofs.WalkLaws.{TlmPassed, passed-is, walk-on}
 
 -- the list of visits from a position on, by the step there
-visits-on : (s : List ℕ) (at : ℕ) (p : Passing) → walkStepAt s at ≡ Passed p
+pub visits-on : (s : List ℕ) (at : ℕ) (p : Passing) → walkStepAt s at ≡ Passed p
     → walkFrom s at .visits ≡ record { at = at; next = p .next } ∷ walkFrom s (p .next) .visits
 unfolding also
 visits-on s at p e = ap (λ (c : Chain WalkEnd). c .visits) (walk-on s at p e)

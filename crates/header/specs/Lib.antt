@@ -4,6 +4,7 @@ pub mod Tlm
 pub mod Walk
 pub mod Strip
 pub mod Parse
+pub mod Find
 pub mod Iso
 pub mod IsoTlm
 pub mod IsoMain

@@ -1,6 +1,7 @@
 // The main header of a codestream: one step over it, how far it reaches in a prefix, and its reading: the first SOT, the
-// decode header, the TLM records.
+// decode header, the TLM records; and where a marker stands in it.
 pub mod extent;
+pub mod find;
 pub mod parse;
 pub mod step;
 pub mod strip;

@@ -63,7 +63,7 @@ pub fn marker_stands(codestream: &[u8], at: usize, marker: u16) -> bool
     at + 2 <= codestream.len() && numbers::read_u16(codestream, at) == marker
 }
 
-fn judge(codestream: &[u8]) -> MainHeader
+pub fn judge(codestream: &[u8]) -> MainHeader
     ensures { λ r. ⌜ r ≡ judged (now (codestream .entry)) ⌝ }
 {
     if 0xffff_ffff < codestream.len() {

@@ -1,5 +1,6 @@
 pub mod Components
 pub mod Extent
+pub mod Find
 pub mod Offsets
 pub mod Rewrite
 pub mod Rules

@@ -4,6 +4,7 @@
 pub mod assembly;
 pub mod components;
 pub mod extent;
+pub mod find;
 pub mod growth;
 pub mod offsets;
 pub mod parse;
