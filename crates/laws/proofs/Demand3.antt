@@ -138,7 +138,7 @@ module _ (s : List ℕ) (tile : ℕ) where
 bytes-of : (z : TileSize) (n room : ℕ) → ((r : Refusal) → z ≡ Refused r → ⊥) → n ≤ room → rewrite.judged z n room ≡ Bytes n
 unfolding rewrite.judged
 bytes-of Whole n room accepts h = room-enough n room h
-bytes-of (Cut w g) n room accepts h = room-enough n room h
+bytes-of (Cut a) n room accepts h = room-enough n room h
 bytes-of (Refused r) n room accepts h = absurd (accepts r refl)
 
 -- ---- the third sentence

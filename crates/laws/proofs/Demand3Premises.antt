@@ -1,6 +1,6 @@
 -- Demand 3's premises. They hold of sample A, so the theorem says something; and each is needed: for each the smallest codestream of which all others
 -- hold and the conclusion doesn't. All is computed, but for the length past 2^32-1.
-use Prim.Native.Nat.{ℕ, zero, suc, _<_}
+use Prim.Native.Nat.{ℕ, zero, suc, _-_, _<_}
 use native.Mathlib.Omega.{arith}
 use mathlib.Core.Path.{_≡_, refl}
 use mathlib.Core.Bool.{Bool, true, false, _&&_}
@@ -11,6 +11,7 @@ use borrow.Author.Tests.{ltb-true}
 use Rattle.types.specs.Refusals.{refusal}
 use Rattle.types.specs.Markers.{SOC, SIZ}
 use Rattle.types.specs.Row.{rowsOf}
+use Rattle.types.specs.declared.Area.{Area}
 use Rattle.types.specs.declared.Refusal.{Refusal}
 use Rattle.types.specs.declared.TilePartEntry.{TilePartEntry}
 use Rattle.header.specs.declared.parse.MainHeader.the-variants.{Header}
@@ -19,10 +20,10 @@ use Rattle.parts.specs.Scan.{scanFrom, entriesFrom}
 use Rattle.parts.specs.Split.{partsOf}
 use Rattle.parts.specs.Tiles.{ofTile, bytesAt, joined, AllLong}
 use Rattle.parts.specs.declared.scan.Scanned.the-variants.{Table}
-use Rattle.tile.specs.Rewrite.{tileSize}
+use Rattle.tile.specs.Rewrite.{fromZero, tileSize}
 use Rattle.tile.specs.Assembly.{partsIn, assemblyAnswer}
 use Rattle.tile.specs.declared.rules.Rule.{Rule}
-use Rattle.tile.specs.declared.rules.Rule.the-variants.{AnnexB, Original}
+use Rattle.tile.specs.declared.rules.Rule.the-variants.{AnnexB, Original, InPlace}
 use Rattle.tile.proofs.AssemblyLaws.{length-assembled}
 use Rattle.tile.specs.declared.rewrite.TileSize.{TileSize}
 use Rattle.tile.specs.declared.rewrite.TileSize.the-variants.{Whole, Cut}
@@ -72,16 +73,33 @@ A-accepted =
       scan = refl;
     }
 
-cut-accepts : {w g : ℕ} {r : Refusal} {z : TileSize} → z ≡ Cut w g → z ≡ size.Refused r → ⊥
+cut-accepts : {a : Area} {r : Refusal} {z : TileSize} → z ≡ Cut a → z ≡ size.Refused r → ⊥
 cut-accepts e f = let z : _≡_ {A = ℕ} 0 1 = cc in omega arith
 
 not-empty : {e : TilePartEntry} {es : List TilePartEntry} → _≡_ {A = List TilePartEntry} (e ∷ es) [] → ⊥
 not-empty e = let z : _≡_ {A = ℕ} 0 1 = cc in omega arith
 
-A-tile-5 : (rule : Rule) → tileSize rule (decodeHeaderOf A) 5 ≡ Cut 2 2
+-- what a rule makes of a tile that lies there: of one that is smaller than others, and of one of full size
+abbrev cut : Rule → ℕ → ℕ → ℕ → ℕ → TileSize
+cut AnnexB x0 y0 x1 y1 = Cut (fromZero (x1 - x0) (y1 - y0))
+cut Original x0 y0 x1 y1 = Cut (fromZero (x1 - x0) (y1 - y0))
+cut InPlace x0 y0 x1 y1 = Cut (record { x0 = x0; y0 = y0; x1 = x1; y1 = y1 })
+
+abbrev full : Rule → ℕ → ℕ → ℕ → ℕ → TileSize
+full AnnexB x0 y0 x1 y1 = Whole
+full Original x0 y0 x1 y1 = Whole
+full InPlace x0 y0 x1 y1 = cut InPlace x0 y0 x1 y1
+
+A-tile-5 : (rule : Rule) → tileSize rule (decodeHeaderOf A) 5 ≡ cut rule 8 4 10 6
 unfolding walks tiles
 A-tile-5 AnnexB = refl
 A-tile-5 Original = refl
+A-tile-5 InPlace = refl
+
+A-accepts : (rule : Rule) (r : Refusal) → tileSize rule (decodeHeaderOf A) 5 ≡ size.Refused r → ⊥
+A-accepts AnnexB r e = cut-accepts (A-tile-5 AnnexB) e
+A-accepts Original r e = cut-accepts (A-tile-5 Original) e
+A-accepts InPlace r e = cut-accepts (A-tile-5 InPlace) e
 
 pub A-assembles : (rule : Rule) → Assembles rule A 5 (ofTile 5 (entriesFrom A 57)) (zeros 63)
 unfolding walks scan-runs tiles AllLong NoPsot0
@@ -92,7 +110,7 @@ A-assembles rule =
       some = λ e. not-empty e;
       sized = (λ e. omega arith, tt);
       siz = omega arith;
-      accepts = λ r e. cut-accepts (A-tile-5 rule) e;
+      accepts = A-accepts rule;
       room = omega (arith, long);
       short = omega (arith, long);
     }
@@ -124,75 +142,85 @@ unfolding walks scan-runs split-runs tiles bytesAt joined begun least
 computed = tt
 
 -- with all premises, 54 bytes: none is shorter
-pub least-taken : (rule : Rule) → Taken rule (least (sot 0 12)) 42 (entry 0 42 12 ∷ []) 0 Whole
+pub least-taken : (rule : Rule) → Taken rule (least (sot 0 12)) 42 (entry 0 42 12 ∷ []) 0 (full rule 0 0 1 1)
 unfolding computed
 least-taken AnnexB = (refl, refl, refl, refl)
 least-taken Original = (refl, refl, refl, refl)
+least-taken InPlace = (refl, refl, refl, refl)
 
 -- ---- an entry of 12 bytes or longer
 
 -- 10 bytes, the last two of the SOT segment being EOC: no part stands in them, so the split gives none
-pub short-taken : (rule : Rule) → Taken rule (least (two 0xff90 ++ two 10 ++ two 0 ++ four 10 ++ two 0xffd9)) 42 (entry 0 42 10 ∷ []) 0 Whole
+pub short-taken : (rule : Rule) → Taken rule (least (two 0xff90 ++ two 10 ++ two 0 ++ four 10 ++ two 0xffd9)) 42 (entry 0 42 10 ∷ []) 0 (full rule 0 0 1 1)
 unfolding computed
 short-taken AnnexB = (refl, refl, refl, refl)
 short-taken Original = (refl, refl, refl, refl)
+short-taken InPlace = (refl, refl, refl, refl)
 
 pub short-split : partsOf (joined (least (two 0xff90 ++ two 10 ++ two 0 ++ four 10 ++ two 0xffd9)) (entry 0 42 10 ∷ [])) ≡ []
 unfolding computed
 short-split = refl
 
 -- 4 bytes, Isot being EOC: the scan of what is assembled refuses
-pub shorter-taken : (rule : Rule) → Taken rule (least (sot 0xffd9 4)) 42 (entry 0xffd9 42 4 ∷ []) 0xffd9 Whole
+pub shorter-taken : (rule : Rule) → Taken rule (least (sot 0xffd9 4)) 42 (entry 0xffd9 42 4 ∷ []) 0xffd9 (full rule 0xffd9 0 0xffda 1)
 unfolding computed
 shorter-taken AnnexB = (refl, refl, refl, refl)
 shorter-taken Original = (refl, refl, refl, refl)
+shorter-taken InPlace = (refl, refl, refl, refl)
 
 pub shorter-scan : (rule : Rule) → scan.judged (scanFrom (assembledOf rule (least (sot 0xffd9 4)) (entry 0xffd9 42 4 ∷ [])) 42) ≡ scans.Refused (refusal 7 42)
 unfolding computed
 shorter-scan AnnexB = refl
 shorter-scan Original = refl
+shorter-scan InPlace = refl
 
 -- ---- an entry at all
 
 -- tile 1 has none, and behind the header stands EOC
-pub none-taken : (rule : Rule) → Taken rule (least (sot 0 12)) 42 (entry 0 42 12 ∷ []) 1 Whole
+pub none-taken : (rule : Rule) → Taken rule (least (sot 0 12)) 42 (entry 0 42 12 ∷ []) 1 (full rule 1 0 2 1)
 unfolding computed
 none-taken AnnexB = (refl, refl, refl, refl)
 none-taken Original = (refl, refl, refl, refl)
+none-taken InPlace = (refl, refl, refl, refl)
 
 pub none-walk : (rule : Rule) → parse.judged (assembledOf rule (least (sot 0 12)) (ofTile 1 (entriesFrom (least (sot 0 12)) 42))) ≡ main.Refused (refusal 3 42)
 unfolding computed
 none-walk AnnexB = refl
 none-walk Original = refl
+none-walk InPlace = refl
 
 -- ---- no Psot 0
 
 -- the entry reaches to the codestream's end, and in what is assembled past EOC
-pub psot-0-taken : (rule : Rule) → Taken rule (least (sot 0 0)) 42 (entry 0 42 12 ∷ []) 0 Whole
+pub psot-0-taken : (rule : Rule) → Taken rule (least (sot 0 0)) 42 (entry 0 42 12 ∷ []) 0 (full rule 0 0 1 1)
 unfolding computed
 psot-0-taken AnnexB = (refl, refl, refl, refl)
 psot-0-taken Original = (refl, refl, refl, refl)
+psot-0-taken InPlace = (refl, refl, refl, refl)
 
 pub psot-0-scan : (rule : Rule) → entriesFrom (assembledOf rule (least (sot 0 0)) (entry 0 42 12 ∷ [])) 42 ≡ entry 0 42 14 ∷ []
 unfolding computed
 psot-0-scan AnnexB = refl
 psot-0-scan Original = refl
+psot-0-scan InPlace = refl
 
 -- ---- Lsiz of 38 or more
 
--- Lsiz 34, and EPH at 38, which the rewrite takes for the low half of YTOsiz and makes 0. (The eight fields end at 40, so 36 would do: `rewalked`.)
+-- Lsiz 34, and EPH at 38, which the rewrite takes for the low half of YTOsiz and makes another. (The eight fields end at 40, so 36 would do: `rewalked`.)
 abbrev ends-early : List ℕ
-ends-early = begun 34 0xff93 0xff92 1 2 0xff92 ++ sot 0 12
+ends-early = begun 34 0xff94 0xff93 1 2 0xff92 ++ sot 0 12
 
-pub lsiz-34-taken : (rule : Rule) → Taken rule ends-early 40 (entry 0 40 12 ∷ []) 0 (Cut 1 1)
+pub lsiz-34-taken : (rule : Rule) → Taken rule ends-early 40 (entry 0 40 12 ∷ []) 0 (cut rule 0 0xff93 1 0xff94)
 unfolding computed
 lsiz-34-taken AnnexB = (refl, refl, refl, refl)
 lsiz-34-taken Original = (refl, refl, refl, refl)
+lsiz-34-taken InPlace = (refl, refl, refl, refl)
 
 pub lsiz-34-walk : (rule : Rule) → parse.judged (assembledOf rule ends-early (entry 0 40 12 ∷ [])) ≡ main.Refused (refusal 3 38)
 unfolding computed
 lsiz-34-walk AnnexB = refl
 lsiz-34-walk Original = refl
+lsiz-34-walk InPlace = refl
 
 -- ---- a rewrite that accepts
 
@@ -204,16 +232,19 @@ no-size = begun 38 1 0 0 1 0 ++ two 0
 abbrev number : Rule → ℕ
 number AnnexB = 30
 number Original = 10
+number InPlace = 30
 
 pub refused-taken : (rule : Rule) → Taken rule (no-size ++ sot 0 12) 42 (entry 0 42 12 ∷ []) 0 (size.Refused (refusal (number rule) 2))
 unfolding computed
 refused-taken AnnexB = (refl, refl, refl, refl)
 refused-taken Original = (refl, refl, refl, refl)
+refused-taken InPlace = (refl, refl, refl, refl)
 
 pub refused-answer : (rule : Rule) → assemblyAnswer rule no-size (rowsOf (entry 0 42 12 ∷ [])) (no-size ++ sot 0 12) 56 ≡ writes.Refused (refusal (number rule) 2)
 unfolding computed
 refused-answer AnnexB = refl
 refused-answer Original = refl
+refused-answer InPlace = refl
 
 -- ---- room
 
@@ -221,6 +252,7 @@ pub room-answer : (rule : Rule) → assemblyAnswer rule (least []) (rowsOf (entr
 unfolding computed
 room-answer AnnexB = refl
 room-answer Original = refl
+room-answer InPlace = refl
 
 -- ---- at most 2^32-1 bytes
 

@@ -89,20 +89,20 @@ module _ (f : List ℕ) (long : 40 ≤ length f) where
   cut-front : (z : TileSize) (k : List ℕ) → cutTo z (f ++ k) ≡ cutTo z f ++ k
   unfolding cutTo
   cut-front Whole k = refl
-  cut-front (Cut w g) k = put-front f k 8 (oneTile w g) (omega (arith, length-one w g))
+  cut-front (Cut a) k = put-front f k 8 (oneTile a) (omega (arith, length-one a))
   cut-front (Refused r) k = refl
 
   cut-length : (z : TileSize) → length (cutTo z f) ≡ length f
   unfolding cutTo
   cut-length Whole = refl
-  cut-length (Cut w g) = length-put f 8 (oneTile w g) (omega (arith, length-one w g))
+  cut-length (Cut a) = length-put f 8 (oneTile a) (omega (arith, length-one a))
   cut-length (Refused r) = refl
 
   -- SOC, the SIZ marker and Lsiz stay
   cut-keeps : (z : TileSize) (i : ℕ) → i ≤ 6 → be 2 (cutTo z f) i ≡ be 2 f i
   unfolding cutTo
   cut-keeps Whole i h = refl
-  cut-keeps (Cut w g) i h = be-put-before 2 f 8 (oneTile w g) i (omega arith) (omega arith)
+  cut-keeps (Cut a) i h = be-put-before 2 f 8 (oneTile a) i (omega arith) (omega arith)
   cut-keeps (Refused r) i h = refl
 
 siz-no-delimiter : delimits SIZ ≡ false

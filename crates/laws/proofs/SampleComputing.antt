@@ -1,4 +1,4 @@
--- What is unfolded to compute a walk, a scan, a split, an assembly, a search or component sizes over sample bytes.
+-- What is unfolded to compute a walk, a marker, a scan, a split, an assembly, a search or component sizes over sample bytes.
 use Rattle.numbers.specs.Bytes.{be, bytesOf, put}
 use Rattle.numbers.specs.Ceiling.{ceilDiv}
 use Rattle.types.specs.Row.{rowOf, rowsOf}
@@ -9,6 +9,7 @@ use Rattle.header.specs.Tlm.{entryCount, tlmAt, entryIn, entriesIn, placed}
 use Rattle.header.specs.Walk.{cutAt, tlmStep, passedAt, walkStepOf, walkStepAt, walkMove, walkAt, walkFrom}
 use Rattle.header.specs.Strip.{kept, decodeHeader, tlmEntries}
 use Rattle.header.specs.Parse.{readAs, stands, judged, tlmTable}
+use Rattle.header.specs.Find.{firstOf, findIn, finding}
 use Rattle.parts.specs.Scan.{eocAt, sotStepAt, scanStepAt, scanFrom, entriesFrom, scanned, written, scannedTable}
 use Rattle.parts.specs.Split.{partEnd, splitStepAt, splitFrom, partsFrom, partsOf}
 use Rattle.parts.specs.Tiles.{ofTile}
@@ -16,7 +17,7 @@ use Rattle.tile.specs.Siz.{pair, oneTile}
 use Rattle.tile.specs.Original.{fitting, reaching, axisOf, columnsOf, bothAxes, inGrid, tileArea}
 use Rattle.tile.specs.AnnexB.{laid, cellsOf, fromOf, toOf, cellArea, inCells, onGrid, gridTile}
 use Rattle.tile.specs.Rules.{imageArea, byAnnexB, byOriginal, placedBy}
-use Rattle.tile.specs.Rewrite.{sized, sizeOf, sizeIn, tileSize, cutTo, rewritten, over, rewriteAnswer, rewriteOut}
+use Rattle.tile.specs.Rewrite.{sized, moved, cutBy, sizeOf, sizeIn, tileSize, cutTo, rewritten, over, rewriteAnswer, rewriteOut}
 use Rattle.tile.specs.Assembly.{rows, rangesFrom, ranges, rangeOf, andPart, partsIn, isSot, patched, partSize, sizeFor, joined, assembled, answerFor, assemblyAnswer, assemblyOut}
 use Rattle.reader.specs.Components.{sizWhole, countHeld, apart, allApart, ordered, componentsRead, atTile, componentsInTile, divided, componentAt, isThere, componentIn, chosen, componentOf, componentInTile}
 use Rattle.reader.specs.Search.{boxAt, content, passed, onBox, foundFrom, isJp2, foundIn}
@@ -39,6 +40,10 @@ unfoldable pub walks : Unit {0}
 unfolding samples delimits segmentEnd stepAt entryCount tlmAt entryIn entriesIn placed cutAt tlmStep passedAt walkStepOf walkStepAt walkMove walkAt walkFrom kept decodeHeader tlmEntries readAs stands judged tlmTable
 walks = tt
 
+unfoldable pub findings : Unit {0}
+unfolding walks firstOf findIn finding
+findings = tt
+
 unfoldable pub scan-runs : Unit {0}
 unfolding samples eocAt sotStepAt scanStepAt scan.moveOf scan.moveAt scanFrom entriesFrom scan.endedAs scan.judged scan.withRoom scanned written scannedTable ofTile
 scan-runs = tt
@@ -48,7 +53,7 @@ unfolding samples partEnd splitStepAt split.moveOf split.moveAt splitFrom partsF
 split-runs = tt
 
 unfoldable pub tiles : Unit {0}
-unfolding samples pair oneTile ceilDiv fitting reaching axisOf columnsOf bothAxes inGrid tileArea laid cellsOf fromOf toOf cellArea inCells onGrid gridTile byAnnexB byOriginal placedBy sized sizeOf sizeIn tileSize cutTo rewritten rewrite.withRoom rewrite.judged over rewriteAnswer rewriteOut rows rangesFrom ranges rangeOf andPart partsIn isSot patched partSize sizeFor joined assembled answerFor assemblyAnswer assemblyOut
+unfolding samples pair oneTile ceilDiv fitting reaching axisOf columnsOf bothAxes inGrid tileArea laid cellsOf fromOf toOf cellArea inCells onGrid gridTile byAnnexB byOriginal placedBy sized moved cutBy sizeOf sizeIn tileSize cutTo rewritten rewrite.withRoom rewrite.judged over rewriteAnswer rewriteOut rows rangesFrom ranges rangeOf andPart partsIn isSot patched partSize sizeFor joined assembled answerFor assemblyAnswer assemblyOut
 tiles = tt
 
 unfoldable pub searches : Unit {0}

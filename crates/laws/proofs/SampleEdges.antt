@@ -15,6 +15,9 @@ use Rattle.header.specs.Extent.{extentOf}
 use Rattle.header.specs.Walk.{walkFrom}
 use Rattle.header.specs.Strip.{decodeHeader}
 use Rattle.header.specs.Parse.{judged, tlmTable}
+use Rattle.header.specs.Find.{finding}
+use Rattle.header.specs.declared.find.Finding.{Finding}
+use Rattle.header.specs.declared.find.Finding.the-variants.{Absent}
 use Rattle.header.specs.declared.extent.MainHeaderExtent.the-variants.{Complete, Truncated}
 use Rattle.header.specs.declared.parse.MainHeader.{MainHeader}
 use Rattle.header.specs.declared.parse.MainHeader.the-variants.{Header}
@@ -22,10 +25,10 @@ use Rattle.parts.specs.Scan.{entriesFrom, scanned, scannedTable}
 use Rattle.parts.specs.Split.{partsOf}
 use Rattle.parts.specs.Tiles.{ofTile}
 use Rattle.parts.specs.declared.scan.Scanned.the-variants.{Table}
-use Rattle.tile.specs.Rewrite.{tileSize, rewritten, rewriteAnswer, rewriteOut}
+use Rattle.tile.specs.Rewrite.{fromZero, tileSize, rewritten, rewriteAnswer, rewriteOut}
 use Rattle.tile.specs.Assembly.{assemblyAnswer, assemblyOut}
 use Rattle.tile.specs.declared.rules.Rule.{Rule}
-use Rattle.tile.specs.declared.rules.Rule.the-variants.{AnnexB, Original}
+use Rattle.tile.specs.declared.rules.Rule.the-variants.{AnnexB, Original, InPlace}
 use Rattle.tile.specs.declared.rewrite.TileSize.{TileSize}
 use Rattle.tile.specs.declared.rewrite.TileSize.the-variants.{Whole, Cut}
 use Rattle.tile.specs.declared.rewrite.Written.the-variants.{Bytes}
@@ -36,9 +39,10 @@ use Rattle.reader.specs.Search.{foundIn}
 use Rattle.reader.specs.Growth.{regionAt, grown}
 use Rattle.reader.specs.declared.search.Found.the-variants.{Codestream}
 use Rattle.reader.proofs.GrowthLaws.{region-pow, whole-suffices, truncated-not, grown-end, grown-on}
-use Rattle.laws.proofs.SampleComputing.{samples, extents, walks, scan-runs, split-runs, tiles, searches, siz-readings, components}
+use Rattle.laws.proofs.SampleComputing.{samples, extents, walks, findings, scan-runs, split-runs, tiles, searches, siz-readings, components}
 use Rattle.laws.specs.Sample.{two, zeros, sizOf, header, grid, counting, tlm, sot, part, head, withTlm, A, signature, jp2c}
 use Rattle.header.specs.declared.parse.MainHeader.the-variants as parse
+use Rattle.header.specs.declared.find.Finding.the-variants as finds
 use Rattle.parts.specs.declared.scan.Scanned.the-variants as scans
 use Rattle.tile.specs.declared.rewrite.TileSize.the-variants as size
 use Rattle.tile.specs.declared.rewrite.Written.the-variants as writes
@@ -60,6 +64,10 @@ accepted first long entries = Header (record { «first_sot_offset» = record { 0
 
 abbrev entry : ℕ → ℕ → ℕ → TilePartEntry
 entry index offset long = record { «tile_index» = index; offset = record { 0 = offset }; length = long }
+
+-- where a marker is found
+abbrev at : ℕ → Finding
+at offset = finds.At (record { 0 = offset })
 
 pub A-header : judged A ≡ accepted 57 45 2
 unfolding walks
@@ -88,43 +96,71 @@ pub extent-59 : extentOf (take 59 A) ≡ Complete (record { 0 = 57 })
 unfolding extents
 extent-59 = refl
 
--- ---- * A, tile 5: width 2, height 2; assembled 63 bytes. Tile 0: header unchanged, 61 bytes. By either rule.
+-- ---- * A, tile 5: width 2, height 2; assembled 63 bytes. Tile 0: header unchanged, 61 bytes. By either rule. Kept in its place tile 5 lies from
+-- 8, 4 to 10, 6, and tile 0, of full size, is written too.
 
 -- the rows of a tile's entries in A
 abbrev lent : ℕ → List ℕ
 lent tile = rowsOf (ofTile tile (entriesFrom A 57))
 
-pub tile-5 : (rule : Rule) → tileSize rule head 5 ≡ Cut 2 2
+abbrev area : ℕ → ℕ → ℕ → ℕ → Area
+area x0 y0 x1 y1 = record { x0 = x0; y0 = y0; x1 = x1; y1 = y1 }
+
+-- where a rule puts tile 5
+abbrev put-5 : Rule → Area
+put-5 AnnexB = fromZero 2 2
+put-5 Original = fromZero 2 2
+put-5 InPlace = area 8 4 10 6
+
+-- and the header there
+abbrev header-5 : Rule → List ℕ
+header-5 AnnexB = header 2 2 0 0 2 2
+header-5 Original = header 2 2 0 0 2 2
+header-5 InPlace = grid 10 6 8 4 2 2 8 4
+
+-- and for tile 0
+abbrev header-0 : Rule → List ℕ
+header-0 AnnexB = head
+header-0 Original = head
+header-0 InPlace = header 4 4 0 0 4 4
+
+pub tile-5 : (rule : Rule) → tileSize rule head 5 ≡ Cut (put-5 rule)
 unfolding tiles
 tile-5 AnnexB = refl
 tile-5 Original = refl
+tile-5 InPlace = refl
 
-pub tile-5-header : (rule : Rule) → rewritten rule head 5 ≡ header 2 2 0 0 2 2
+pub tile-5-header : (rule : Rule) → rewritten rule head 5 ≡ header-5 rule
 unfolding tiles
 tile-5-header AnnexB = refl
 tile-5-header Original = refl
+tile-5-header InPlace = refl
 
 pub tile-5-assembled : (rule : Rule) → assemblyAnswer rule head (lent 5) A 63 ≡ Bytes 63
 unfolding scan-runs tiles
 tile-5-assembled AnnexB = refl
 tile-5-assembled Original = refl
+tile-5-assembled InPlace = refl
 
-pub tile-5-bytes : (rule : Rule) → assemblyOut rule head (lent 5) A (replicate 64 1) ≡ header 2 2 0 0 2 2 ++ part 0 16 (0xaa ∷ 0xbb ∷ []) ++ (0xff ∷ 0xd9 ∷ 1 ∷ [])
+pub tile-5-bytes : (rule : Rule) → assemblyOut rule head (lent 5) A (replicate 64 1) ≡ header-5 rule ++ part 0 16 (0xaa ∷ 0xbb ∷ []) ++ (0xff ∷ 0xd9 ∷ 1 ∷ [])
 unfolding scan-runs tiles
 tile-5-bytes AnnexB = refl
 tile-5-bytes Original = refl
+tile-5-bytes InPlace = refl
 
-pub tile-0 : (rule : Rule) → rewritten rule head 0 ≡ head
+pub tile-0 : (rule : Rule) → rewritten rule head 0 ≡ header-0 rule
 unfolding tiles
 tile-0 AnnexB = refl
 tile-0 Original = refl
+tile-0 InPlace = refl
 
 pub tile-0-assembled : (rule : Rule) → assemblyAnswer rule head (lent 0) A 61 ≡ Bytes 61
 unfolding scan-runs tiles
 tile-0-assembled AnnexB = refl
 tile-0-assembled Original = refl
+tile-0-assembled InPlace = refl
 
--- ---- * A, tile 6: y0 is 8, past 6: refusal 10 by the original's rule, and 31 by Annex B, as there are six tiles.
+-- ---- * A, tile 6: y0 is 8, past 6: refusal 10 by the original's rule, and 31 by Annex B and in place, as there are six tiles.
 
 pub tile-6 : rewriteAnswer Original head 6 45 ≡ writes.Refused (refusal 10 2)
 unfolding tiles
@@ -133,6 +169,77 @@ tile-6 = refl
 pub tile-6-annex : rewriteAnswer AnnexB head 6 45 ≡ writes.Refused (refusal 31 2)
 unfolding tiles
 tile-6-annex = refl
+
+pub tile-6-in-place : rewriteAnswer InPlace head 6 45 ≡ writes.Refused (refusal 31 2)
+unfolding tiles
+tile-6-in-place = refl
+
+-- ---- * In place: XTOsiz 0, XOsiz 3, XTsiz 4, Xsiz 10, tile 0: from 3 to 4; tile 1, of full size: from 4 to 8. YTsiz 0: refusal 30.
+
+pub in-place-clipped : rewritten InPlace (grid 10 4 3 0 4 4 0 0) 0 ≡ grid 4 4 3 0 1 4 3 0
+unfolding tiles
+in-place-clipped = refl
+
+pub in-place-full : rewritten InPlace (grid 10 4 3 0 4 4 0 0) 1 ≡ grid 8 4 4 0 4 4 4 0
+unfolding tiles
+in-place-full = refl
+
+pub in-place-no-grid : rewriteAnswer InPlace (header 10 6 0 0 4 0) 0 45 ≡ writes.Refused (refusal 30 2)
+unfolding tiles
+in-place-no-grid = refl
+
+-- ---- * Markers of A: SIZ at 2, TLM at 45; SOC, the first SOT and PPM are none.
+
+pub marker-siz : finding A 0xff51 ≡ at 2
+unfolding findings
+marker-siz = refl
+
+pub marker-tlm : finding A 0xff55 ≡ at 45
+unfolding findings
+marker-tlm = refl
+
+pub marker-soc : finding A 0xff4f ≡ Absent
+unfolding findings
+marker-soc = refl
+
+pub marker-sot : finding A 0xff90 ≡ Absent
+unfolding findings
+marker-sot = refl
+
+pub marker-ppm : finding A 0xff60 ≡ Absent
+unfolding findings
+marker-ppm = refl
+
+-- ---- * PPM twice behind SIZ: the first, at 45. FF60 in the text of a COM, or behind the first SOT: none. 7F60: another marker.
+
+abbrev ppm : List ℕ
+ppm = 0xff ∷ 0x60 ∷ 0 ∷ 3 ∷ 0 ∷ []
+
+pub ppm-first : finding (withTlm (ppm ++ ppm)) 0xff60 ≡ at 45
+unfolding findings
+ppm-first = refl
+
+pub ppm-in-text : finding (withTlm (0xff ∷ 0x64 ∷ 0 ∷ 6 ∷ 0 ∷ 1 ∷ 0xff ∷ 0x60 ∷ [])) 0xff60 ≡ Absent
+unfolding findings
+ppm-in-text = refl
+
+pub ppm-behind : finding (head ++ part 0 19 ppm) 0xff60 ≡ Absent
+unfolding findings
+ppm-behind = refl
+
+pub ppm-high-byte : finding (withTlm (0x7f ∷ 0x60 ∷ 0 ∷ 3 ∷ 0 ∷ [])) 0xff60 ≡ Absent
+unfolding findings
+ppm-high-byte = refl
+
+-- ---- * A marker of no byte: refusal 1. Of A without its last TLM entry's byte, so that the walk comes to no SOT: 3, also where the marker was passed.
+
+pub marker-of-nothing : finding [] 0xff60 ≡ finds.Refused (refusal 1 0)
+unfolding findings
+marker-of-nothing = refl
+
+pub marker-refused : finding (take 56 A) 0xff51 ≡ finds.Refused (refusal 3 45)
+unfolding findings
+marker-refused = refl
 
 -- ---- * Ltlm 3: refusal 4. Ltlm 4: no entries.
 
@@ -224,7 +331,7 @@ pub past-32 : tileSize Original (header 2 6 1 0 0xffffffff 4) 0 ≡ size.Refused
 unfolding tiles
 past-32 = refl
 
-pub past-32-annex : tileSize AnnexB (header 2 6 1 0 0xffffffff 4) 0 ≡ Cut 1 4
+pub past-32-annex : tileSize AnnexB (header 2 6 1 0 0xffffffff 4) 0 ≡ Cut (fromZero 1 4)
 unfolding tiles
 past-32-annex = refl
 
@@ -246,10 +353,7 @@ region-65537 s h t =
     ∙ grown-end s 1 (whole-suffices s _ (second ∙ sym h))
     ∙ (λ i. record { region = second i; enlargements = 1 })
 
--- an area, an accepted check of a count, and a component that is found
-abbrev area : ℕ → ℕ → ℕ → ℕ → Area
-area x0 y0 x1 y1 = record { x0 = x0; y0 = y0; x1 = x1; y1 = y1 }
-
+-- an accepted check of a count, and a component that is found
 abbrev checked : ℕ → Area → ComponentsRead
 checked count a = checks.Components (record { count = count; area = a })
 
@@ -339,6 +443,7 @@ pub in-tile-5 : (rule : Rule) → componentsInTile rule A 5 ≡ checked 1 (area 
 unfolding components
 in-tile-5 AnnexB = refl
 in-tile-5 Original = refl
+in-tile-5 InPlace = refl
 
 pub in-tile-6 : componentsInTile AnnexB A 6 ≡ checks.Refused (refusal 31 2)
 unfolding components
@@ -409,6 +514,7 @@ pub twenty-two-first : (rule : Rule) → componentsInTile rule (counting 41 11 0
 unfolding components
 twenty-two-first AnnexB = refl
 twenty-two-first Original = refl
+twenty-two-first InPlace = refl
 
 pub ten-first : componentInTile Original A 6 1 ≡ one.Refused (refusal 10 2)
 unfolding components
@@ -456,7 +562,7 @@ pub no-columns : across 1 1 2 0 0 ≡ no-grid
 unfolding tiles
 no-columns = refl
 
-pub one-column : across 2 1 2 0 0 ≡ Cut 1 1
+pub one-column : across 2 1 2 0 0 ≡ Cut (fromZero 1 1)
 unfolding tiles
 one-column = refl
 
@@ -464,7 +570,7 @@ pub no-rows : down 1 1 2 0 0 ≡ no-grid
 unfolding tiles
 no-rows = refl
 
-pub one-row : down 2 1 2 0 0 ≡ Cut 1 1
+pub one-row : down 2 1 2 0 0 ≡ Cut (fromZero 1 1)
 unfolding tiles
 one-row = refl
 
@@ -492,11 +598,11 @@ pub reach-short : across 3 2 2 0 0 ≡ no-grid
 unfolding tiles
 reach-short = refl
 
-pub reach-into : across 3 2 3 0 0 ≡ Cut 1 1
+pub reach-into : across 3 2 3 0 0 ≡ Cut (fromZero 1 1)
 unfolding tiles
 reach-into = refl
 
-pub reach-far : across 0xffffffff 0xfffffffe 0xffffffff 0xfffffffe 0 ≡ Cut 1 1
+pub reach-far : across 0xffffffff 0xfffffffe 0xffffffff 0xfffffffe 0 ≡ Cut (fromZero 1 1)
 unfolding tiles
 reach-far = refl
 
@@ -504,13 +610,13 @@ pub reach-short-down : down 3 2 2 0 0 ≡ no-grid
 unfolding tiles
 reach-short-down = refl
 
-pub reach-into-down : down 3 2 3 0 0 ≡ Cut 1 1
+pub reach-into-down : down 3 2 3 0 0 ≡ Cut (fromZero 1 1)
 unfolding tiles
 reach-into-down = refl
 
 -- ---- * The last tile of six; one more: 31. With 2^32 tiles, and with (2^32-1)^2, Isot 65,535 names one.
 
-pub last-tile : tileSize AnnexB head 5 ≡ Cut 2 2
+pub last-tile : tileSize AnnexB head 5 ≡ Cut (fromZero 2 2)
 unfolding tiles
 last-tile = refl
 
@@ -548,17 +654,19 @@ pub moved-1 : componentsInTile Original (grid 10 4 3 0 4 4 0 0) 1 ≡ checked 1 
 unfolding components
 moved-1 = refl
 
--- ---- * A header of 39 bytes, or of 40 with FF52 at 2: unchanged by either rule, whatever stands there; of 40: 30 where there is no grid.
+-- ---- * A header of 39 bytes, or of 40 with FF52 at 2: unchanged by every rule, whatever stands there; of 40: 30 where there is no grid.
 
 pub bytes-39 : (rule : Rule) → tileSize rule (take 39 (grid 1 1 0 0 0 1 0 0)) 0 ≡ Whole
 unfolding tiles
 bytes-39 AnnexB = refl
 bytes-39 Original = refl
+bytes-39 InPlace = refl
 
 pub bytes-40-other : (rule : Rule) → tileSize rule (two SOC ++ (0xff ∷ 0x52 ∷ zeros 36)) 0 ≡ Whole
 unfolding tiles
 bytes-40-other AnnexB = refl
 bytes-40-other Original = refl
+bytes-40-other InPlace = refl
 
 pub bytes-40 : tileSize AnnexB (take 40 (grid 1 1 0 0 0 1 0 0)) 0 ≡ no-grid
 unfolding tiles
@@ -602,6 +710,7 @@ pub no-room : (rule : Rule) → assemblyAnswer rule head (lent 5) A 62 ≡ write
 unfolding scan-runs tiles
 no-room AnnexB = refl
 no-room Original = refl
+no-room InPlace = refl
 
 -- 10 before 17, and nothing is written
 pub tile-6-short : rewriteOut Original head 6 (1 ∷ []) ≡ 1 ∷ []
@@ -613,6 +722,7 @@ pub dropped-first : (rule : Rule) → assemblyAnswer rule head (rowOf (entry 5 7
 unfolding scan-runs tiles
 dropped-first AnnexB = refl
 dropped-first Original = refl
+dropped-first InPlace = refl
 
 -- ---- beside the table: component sizes where the standard has others, or none (docs/DIFFERENCES.md, "Components")
 

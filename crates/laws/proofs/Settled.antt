@@ -52,6 +52,12 @@ in-codestream m κs a g = one m λ x y e i. (e i, x .1)
 pub main-header-extent : {M : Type 1} → Settles M header.extent.main_header_extent.ended header.extent.main_header_extent.clauses
 main-header-extent m κs a g = one m λ x y e i. (e i, x .1)
 
+pub find-marker : {M : Type 1} → Settles M header.find.find_marker.ended header.find.find_marker.clauses
+find-marker m κs a g = one m λ x y e i. (e i, x .1)
+
+pub header-judge : {M : Type 1} → Settles M header.parse.judge.ended header.parse.judge.clauses
+header-judge m κs a g = one m λ x y e i. (e i, x .1)
+
 pub header-decide : {M : Type 1} → Settles M header.parse.decide.ended header.parse.decide.clauses
 header-decide m κs a g = one m λ x y e i. (e i, x .1)
 
@@ -164,6 +170,9 @@ component-within m κs a g = one m λ x y e i. (e i, x .1)
 
 pub winterhasp-in-file : {M : Type 1} → Settles M host.offsets.winterhasp_in_file.ended host.offsets.winterhasp_in_file.clauses
 winterhasp-in-file m κs a g = two m λ x y e i. (e .0 i, (tt, (tt, (e .1 i, tt))))
+
+pub winterhasp-find-marker : {M : Type 1} → Settles M host.find.winterhasp_find_marker.ended host.find.winterhasp_find_marker.clauses
+winterhasp-find-marker m κs a g = two m λ x y e i. (e .0 i, (tt, (tt, (e .1 i, tt))))
 
 pub winterhasp-main-header-extent : {M : Type 1} → Settles M host.extent.winterhasp_main_header_extent.ended host.extent.winterhasp_main_header_extent.clauses
 winterhasp-main-header-extent m κs a g = two m λ x y e i. (e .0 i, (tt, (e .1 i, tt)))

@@ -100,7 +100,7 @@ pub record Reassembled (rule : Rule) (s : List ℕ) (tile : ℕ) (es : List Tile
   pub output : assemblyOut rule (decodeHeaderOf s) (rowsOf es) s out ≡ assembledOf rule s es ++ drop (length (assembledOf rule s es)) out
   pub standing : Standing (rewritten rule (decodeHeaderOf s) tile) es (assembledOf rule s es)
 
--- ---- all of it, by either rule
+-- ---- all of it, by every rule
 
 pub record Demand3 (s : List ℕ) (p : ℕ) : Type 0 where
   pub adjoin : EntriesAdjoin s p

@@ -1,7 +1,7 @@
 -- Laws of big-endian bytes, each over the width: what a number's bytes are in two halves, what is read of what was written, what is read
 -- inside a part, and bounds. Callers cite these and do not look into the definitions.
 use Prim.Native.Nat.{ℕ, zero, suc, _+_, _-_, _*_, _/_, _%_, _^_, _≤_, _<_}
-use native.Mathlib.Nat.{add-zero, zero-add, add-suc, add-assoc, mul-assoc, add-mul, div-one, mod-one, div-div-eq-div-mul, pow-suc, pow-succ', one-le-pow, mod-lt, mod-eq-of-lt, div-add-mod', div-lt-iff-lt-mul, one-mul, suc-mul, mul-le-mul, le-of-suc-le-suc}
+use native.Mathlib.Nat.{add-zero, zero-add, add-suc, add-assoc, mul-assoc, add-mul, div-one, mod-one, div-div-eq-div-mul, pow-suc, pow-succ', one-le-pow, mod-lt, mod-eq-of-lt, div-add-mod', div-lt-iff-lt-mul, one-mul, suc-mul, mul-le-mul, le-refl, le-of-suc-le-suc}
 use native.Mathlib.Numerals.{add-one}
 use native.Mathlib.Omega.{arith}
 use mathlib.Core.Path.{_≡_, refl, sym, ap, ap₂, _∙_}
@@ -125,6 +125,13 @@ put-inside {A} s at xs i ys within room =
     ∙ inside (take at s) xs rest i ys within
     ∙ ap (λ (n : ℕ). take at s ++ (put xs i ys ++ drop (at + n) s)) (sym (length-put xs i ys within))
 
+-- what was written, written again
+pub put-again : {A : Type 0} (s : List A) (at : ℕ) (bs : List A) → at + length bs ≤ length s → put (put s at bs) at bs ≡ put s at bs
+put-again s at bs room =
+    ap (λ (n : ℕ). put (put s at bs) n bs) (sym (add-zero at))
+    ∙ put-inside s at bs 0 bs (omega arith) room
+    ∙ ap (put s at) (put-start bs bs ∙ rw (drop-of-length-le bs (le-refl (length bs)), append-nil))
+
 -- ---- what is read
 
 -- the same bytes are the same number
@@ -221,6 +228,11 @@ ceil-least n k {d} h c = le-of-suc-le-suc (div-lt-iff-lt-mul h .1 (omega (arith,
 -- a larger whole has no fewer
 pub ceil-mono : (a b : ℕ) {d : ℕ} → 0 < d → a ≤ b → ceilDiv a d ≤ ceilDiv b d
 ceil-mono a b {d} h l = ceil-least a (ceilDiv b d) h (omega (arith, ceil-covers b h))
+
+-- one piece
+pub ceil-same : (n : ℕ) → 0 < n → ceilDiv n n ≡ 1
+unfolding ceilDiv
+ceil-same n h = ap (λ (m : ℕ). (m + (n - 1)) / n) (sym (one-mul n)) ∙ digits-div 1 (omega arith)
 
 -- pieces of 1
 pub ceil-one : (n : ℕ) → ceilDiv n 1 ≡ n

@@ -19,9 +19,9 @@ use Rattle.header.specs.Parse.{stands}
 use Rattle.tile.specs.Siz.{marker}
 use Rattle.tile.specs.AnnexB.{gridTile}
 use Rattle.tile.specs.Original.{inGrid, tileArea}
-use Rattle.tile.specs.Rules.{imageArea, placedBy}
+use Rattle.tile.specs.Rules.{imageArea, byAnnexB, placedBy}
 use Rattle.tile.specs.declared.rules.Rule.{Rule}
-use Rattle.tile.specs.declared.rules.Rule.the-variants.{AnnexB, Original}
+use Rattle.tile.specs.declared.rules.Rule.the-variants.{AnnexB, Original, InPlace}
 use Rattle.reader.specs.Components.{sizWhole, countHeld, apart, allApart, ordered, componentsRead, atTile, componentsInTile, componentAt, isThere, componentIn, chosen, componentOf, componentInTile}
 use Rattle.reader.specs.declared.components.Components.{Components}
 use Rattle.reader.specs.declared.components.ComponentsRead.{ComponentsRead}
@@ -52,10 +52,15 @@ image-front : (p t : List ℕ) → 24 ≤ length p → imageArea (p ++ t) ≡ im
 unfolding imageArea
 image-front p t h = rw (be-front 4 p t 16 (omega arith), be-front 4 p t 20 (omega arith), be-front 4 p t 8 (omega arith), be-front 4 p t 12 (omega arith))
 
-tile-front : (rule : Rule) (p t : List ℕ) (tile : ℕ) → 40 ≤ length p → placedBy rule (p ++ t) tile ≡ placedBy rule p tile
-unfolding placedBy gridTile tileArea inGrid
-tile-front AnnexB p t tile h =
+grid-front : (p t : List ℕ) (tile : ℕ) → 40 ≤ length p → gridTile (p ++ t) tile ≡ gridTile p tile
+unfolding gridTile
+grid-front p t tile h =
     rw (be-front 4 p t 8 (omega arith), be-front 4 p t 12 (omega arith), be-front 4 p t 16 (omega arith), be-front 4 p t 20 (omega arith), be-front 4 p t 24 (omega arith), be-front 4 p t 28 (omega arith), be-front 4 p t 32 (omega arith), be-front 4 p t 36 (omega arith))
+
+tile-front : (rule : Rule) (p t : List ℕ) (tile : ℕ) → 40 ≤ length p → placedBy rule (p ++ t) tile ≡ placedBy rule p tile
+unfolding placedBy tileArea inGrid
+tile-front AnnexB p t tile h = ap byAnnexB (grid-front p t tile h)
+tile-front InPlace p t tile h = ap byAnnexB (grid-front p t tile h)
 tile-front Original p t tile h =
     rw (be-front 4 p t 8 (omega arith), be-front 4 p t 12 (omega arith), be-front 4 p t 16 (omega arith), be-front 4 p t 20 (omega arith), be-front 4 p t 24 (omega arith), be-front 4 p t 28 (omega arith))
 

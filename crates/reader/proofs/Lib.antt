@@ -8,5 +8,6 @@ pub mod ComponentsAreas
 pub mod ComponentsPartition
 pub mod ComponentsSiz
 pub mod ComponentsPrefix
+pub mod ComponentsInPlace
 pub mod IsoComponents
 pub mod IsoComponentsSamples

@@ -42,6 +42,15 @@ pub(crate) fn header_records(codestream: &[u8]) {
     print::records(table, entries);
 }
 
+// The payload is the marker, 2 bytes, and the codestream.
+pub(crate) fn marker(payload: &[u8]) {
+    if payload.len() < 2 {
+        return print::text(b"unknown kind");
+    }
+    print::text(b"marker");
+    print::finding(header::find::find_marker(&payload[2..], numbers::read_u16(payload, 0)));
+}
+
 // The payload is the start, 8 bytes, and the codestream.
 pub(crate) fn scan(payload: &[u8]) {
     if payload.len() < 8 {
@@ -79,8 +88,10 @@ pub(crate) fn split(tile: &[u8]) {
 
 // The rule that the answers of a kind go by, in its line.
 fn name(rule: Rule) {
-    if let Rule::AnnexB = rule {
-        print::text(b"-b");
+    match rule {
+        Rule::AnnexB => print::text(b"-b"),
+        Rule::Original => {}
+        Rule::InPlace => print::text(b"-p"),
     }
 }
 

@@ -1,6 +1,6 @@
 // Answers the stored list of cases in `cases`, a line for each; what it must write is what the original answered, and for
-// component sizes and tiles by Annex B, of which that has no function, the model (rust/beside, program `cases`). A case is its kind, a byte; the
-// length of its payload, 4 bytes; the payload.
+// component sizes, tiles by Annex B or kept in place, and markers, of which that has no function, the model (rust/beside, program
+// `cases`). A case is its kind, a byte; the length of its payload, 4 bytes; the payload.
 mod answers;
 mod print;
 
@@ -58,6 +58,9 @@ fn answer(kind: u8, payload: &[u8]) {
         12 => answers::component_sizes(payload),
         13 => answers::rewrite(payload, Rule::AnnexB),
         14 => answers::assembly(payload, Rule::AnnexB),
+        15 => answers::rewrite(payload, Rule::InPlace),
+        16 => answers::assembly(payload, Rule::InPlace),
+        17 => answers::marker(payload),
         _ => print::text(b"unknown kind"),
     }
     print::text(b"\n");

@@ -1,4 +1,5 @@
 // What is written of an answer.
+use header::find::Finding;
 use header::parse::MainHeader;
 use libc::STDOUT_FILENO;
 use parts::scan::Scanned;
@@ -36,6 +37,14 @@ pub(crate) fn scan(answer: Scanned) -> u64 {
     };
     number(count);
     count
+}
+
+pub(crate) fn finding(answer: Finding) {
+    match answer {
+        Finding::At(offset) => number(offset.0),
+        Finding::Absent => text(b" none"),
+        Finding::Refused(why) => refused(why),
+    }
 }
 
 pub(crate) fn written(answer: Written, out: &[u8]) {

@@ -148,5 +148,5 @@ saturated-room needed room h = by-size (leb needed (2 ^ 64 - 1)) refl
 pub judged-saturated : (s : TileSize) (needed room : ℕ) → room < 2 ^ 64 - 1 → judged s (min needed (2 ^ 64 - 1)) room ≡ judged s needed room
 unfolding judged
 judged-saturated size.Whole needed room h = saturated-room needed room h
-judged-saturated (size.Cut w g) needed room h = saturated-room needed room h
+judged-saturated (size.Cut a) needed room h = saturated-room needed room h
 judged-saturated (size.Refused r) needed room h = refl

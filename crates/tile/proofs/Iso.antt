@@ -1,7 +1,7 @@
 -- Annex B's rule is B.3 itself: on every header it tells a tile exactly where B.3's premises and the index hold, and there its area is the standard's. So the
 -- rewrite of a SIZ by the standard gives a tile its size by B-11, and the eight fields that it writes are rows again. The original's rule does so where
 -- tile origin and image origin are one, and a tile's sums fit 32 bits.
-use Prim.Native.Nat.{ℕ, _+_, _*_, _/_, _%_, _^_, _≤_, _<_}
+use Prim.Native.Nat.{ℕ, _+_, _-_, _*_, _/_, _%_, _^_, _≤_, _<_}
 use native.Mathlib.Omega.{arith}
 use mathlib.Core.Path.{_≡_, refl, sym, ap, ap₂, _∙_}
 use mathlib.Core.Bool.{_&&_}
@@ -22,12 +22,12 @@ use Rattle.types.proofs.IsoSiz.{Fields, TileFields, fields-standard, tile-field
 use Rattle.tile.specs.Siz.{marker, pair, oneTile}
 use Rattle.tile.specs.AnnexB.{across, down, laid, cellsOf, fromOf, toOf, cellArea, onGrid, gridTile}
 use Rattle.tile.specs.Rules.{byAnnexB, placedBy}
-use Rattle.tile.specs.Rewrite.{sized, tileSize, cutTo, judged, rewritten, over, rewriteAnswer, rewriteOut}
-use Rattle.tile.specs.Iso.{Gridded, numXtiles, numYtiles, columnOf, rowOf, startOf, endOf, areaOf, widthOf, heightOf, headerOf, cutSize, forTile}
+use Rattle.tile.specs.Rewrite.{fromZero, sized, moved, cutBy, tileSize, cutTo, withRoom, judged, rewritten, over, rewriteAnswer, rewriteOut}
+use Rattle.tile.specs.Iso.{Gridded, numXtiles, numYtiles, columnOf, rowOf, startOf, endOf, areaOf, widthOf, heightOf, headerOf, cutSize, movedTile, forTile}
 use Rattle.tile.specs.declared.annex_b.Side.{Side}
 use Rattle.tile.specs.declared.annex_b.GridTile.the-variants.{NoGrid}
 use Rattle.tile.specs.declared.rules.Rule.{Rule}
-use Rattle.tile.specs.declared.rules.Rule.the-variants.{AnnexB, Original}
+use Rattle.tile.specs.declared.rules.Rule.the-variants.{AnnexB, Original, InPlace}
 use Rattle.tile.specs.declared.rules.Placed.the-variants.{Tile, Refused}
 use Rattle.tile.specs.declared.rewrite.TileSize.{TileSize}
 use Rattle.tile.specs.declared.rewrite.Written.the-variants.{Bytes}
@@ -197,47 +197,67 @@ put-rows before old new after rest e =
     rw (split old, split new, take-at a (o ++ t) (widths before) (length-rows before), ← append-assoc a o t, drop-at (a ++ o) t _ end)
 
 -- the eight fields of an image that is one tile
-abbrev oneRows : ℕ → ℕ → List Row
-oneRows width height = row 4 width ∷ row 4 height ∷ row 4 0 ∷ row 4 0 ∷ row 4 width ∷ row 4 height ∷ row 4 0 ∷ row 4 0 ∷ []
+abbrev pub oneRows : Area → List Row
+oneRows a =
+    row 4 (a .x1) ∷ row 4 (a .y1) ∷ row 4 (a .x0) ∷ row 4 (a .y0)
+    ∷ row 4 (a .x1 - a .x0) ∷ row 4 (a .y1 - a .y0) ∷ row 4 (a .x0) ∷ row 4 (a .y0) ∷ []
 
-one-rows : (width height : ℕ) → oneTile width height ≡ bytesOfRows (oneRows width height)
+pub one-rows : (a : Area) → oneTile a ≡ bytesOfRows (oneRows a)
 unfolding oneTile pair bytesOfRows
-one-rows width height = simp (append-assoc, append-nil)
+one-rows a = simp (append-assoc, append-nil)
 
-cut-rows : (z : Size) (rest : List ℕ) (width height : ℕ) → put (headerOf z rest) (marker + XSIZ) (oneTile width height) ≡ headerOf (cutSize z width height) rest
+cut-rows : (z : Size) (rest : List ℕ) (a : Area) → put (headerOf z rest) (marker + XSIZ) (oneTile a) ≡ headerOf (cutSize z a) rest
 unfolding sizRows componentRows cutSize widths
-cut-rows z rest width height =
-    ap (put (headerOf z rest) (marker + XSIZ)) (one-rows width height)
-    ∙ put-rows (take 4 (sizRows z)) (take 8 (drop 4 (sizRows z))) (oneRows width height) (drop 12 (sizRows z)) rest refl
+cut-rows z rest a =
+    ap (put (headerOf z rest) (marker + XSIZ)) (one-rows a)
+    ∙ put-rows (take 4 (sizRows z)) (take 8 (drop 4 (sizRows z))) (oneRows a) (drop 12 (sizRows z)) rest refl
 
-cut-ranges : (z : Size) (width height : ℕ) → Ranges z → 1 ≤ width → 1 ≤ height → width < 2 ^ 32 → height < 2 ^ 32
-    → Ranges (cutSize z width height) × TileRanges (cutSize z width height)
+cut-ranges : (z : Size) (a : Area) → Ranges z → a .x0 < a .x1 → a .y0 < a .y1 → a .x1 < 2 ^ 32 → a .y1 < 2 ^ 32 → Ranges (cutSize z a) × TileRanges (cutSize z a)
 unfolding cutSize
-cut-ranges z width height g a b c d = (
-  record { Xsiz = c; Ysiz = d; XOsiz = a; YOsiz = b; Csiz = g .Csiz; depth = g .depth },
-  record { XTsiz = (a, c); YTsiz = (b, d); XTOsiz = (omega arith, omega arith); YTOsiz = (omega arith, omega arith) },
+cut-ranges z a g wide high x y = (
+  record { Xsiz = x; Ysiz = y; XOsiz = wide; YOsiz = high; Csiz = g .Csiz; depth = g .depth },
+  record {
+    XTsiz = (omega arith, omega arith);
+    YTsiz = (omega arith, omega arith);
+    XTOsiz = (omega arith, omega arith);
+    YTOsiz = (omega arith, omega arith);
+  },
 )
 
+module _ (z : Size) (tile : ℕ) (inside : tile < numXtiles z * numYtiles z) (g : Ranges z) (t : TileRanges z) where
+  tile-some : (1 ≤ widthOf z tile) × (1 ≤ heightOf z tile)
+  tile-some = let s : Gridded z = standard-gridded z g t in (width-some z tile inside s, height-some z tile inside s)
+
+  moved-ranges : Ranges (movedTile z tile) × TileRanges (movedTile z tile)
+  unfolding movedTile widthOf heightOf areaOf endOf
+  moved-ranges =
+      by-test (λ (s : Size). Ranges s × TileRanges s) (eqb (widthOf z tile) (z .XTsiz) && eqb (heightOf z tile) (z .YTsiz)) (λ _. (g, t))
+      (λ _. cut-ranges z (fromZero (widthOf z tile) (heightOf z tile)) g (tile-some .0) (tile-some .1) (omega (arith, g .Xsiz)) (omega (arith, g .Ysiz)))
+
+  kept-ranges : Ranges (cutSize z (areaOf z tile)) × TileRanges (cutSize z (areaOf z tile))
+  unfolding widthOf heightOf areaOf endOf
+  kept-ranges = cut-ranges z (areaOf z tile) g (omega (arith, tile-some .0)) (omega (arith, tile-some .1)) (omega (arith, g .Xsiz)) (omega (arith, g .Ysiz))
+
 -- What a tile of the grid is rewritten to has the standard's ranges.
-pub tile-ranges : (z : Size) (tile : ℕ) → tile < numXtiles z * numYtiles z → Ranges z → TileRanges z → Ranges (forTile z tile) × TileRanges (forTile z tile)
-unfolding forTile widthOf heightOf areaOf endOf
-tile-ranges z tile inside g t =
-    let s : Gridded z = standard-gridded z g t in
-    by-test (λ (s : Size). Ranges s × TileRanges s) (eqb (widthOf z tile) (z .XTsiz) && eqb (heightOf z tile) (z .YTsiz)) (λ _. (g, t))
-    (λ _. cut-ranges z (widthOf z tile) (heightOf z tile) g (width-some z tile inside s) (height-some z tile inside s) (omega arith) (omega arith))
+pub tile-ranges : (rule : Rule) (z : Size) (tile : ℕ) → tile < numXtiles z * numYtiles z → Ranges z → TileRanges z
+    → Ranges (forTile rule z tile) × TileRanges (forTile rule z tile)
+unfolding forTile
+tile-ranges AnnexB z tile inside g t = moved-ranges z tile inside g t
+tile-ranges Original z tile inside g t = moved-ranges z tile inside g t
+tile-ranges InPlace z tile inside g t = kept-ranges z tile inside g t
 
 -- ---- the rewrite
 
 -- of a header of 40 bytes or more with SIZ at 2 that holds a size
 module _ (z : Size) (h : List ℕ) (k : Holds z h) (long : 40 ≤ length h) (siz : be 2 h marker ≡ SIZ) (tile : ℕ) where
-  -- Where a rule tells a tile at the standard's place it has the standard's size.
-  pub size-told : (rule : Rule) → placedBy rule h tile ≡ Tile (areaOf z tile) → tileSize rule h tile ≡ sized (widthOf z tile) (heightOf z tile) (z .XTsiz) (z .YTsiz)
-  unfolding widthOf heightOf areaOf
+  -- Where a rule tells a tile at the standard's place it is cut as the standard has it.
+  pub size-told : (rule : Rule) → placedBy rule h tile ≡ Tile (areaOf z tile) → tileSize rule h tile ≡ cutBy rule (areaOf z tile) (z .XTsiz) (z .YTsiz)
   size-told rule told =
-      size-siz rule h tile long siz ∙ size-inside rule h tile (areaOf z tile) told ∙ (λ i. sized (widthOf z tile) (heightOf z tile) (k .XTsiz i) (k .YTsiz i))
+      size-siz rule h tile long siz ∙ size-inside rule h tile (areaOf z tile) told ∙ (λ i. cutBy rule (areaOf z tile) (k .XTsiz i) (k .YTsiz i))
 
   -- By Annex B so exactly where B.3's premises and the index hold; else the rewrite is refused, by 30 or by 31.
   pub size-annex : Gridded z → tile < numXtiles z * numYtiles z → tileSize AnnexB h tile ≡ sized (widthOf z tile) (heightOf z tile) (z .XTsiz) (z .YTsiz)
+  unfolding cutBy moved widthOf heightOf
   size-annex g inside = size-told AnnexB (annex-standard z h k tile g inside)
 
   pub size-no-grid : (Gridded z → ⊥) → tileSize AnnexB h tile ≡ size.Refused (refusal 30 marker)
@@ -246,31 +266,48 @@ module _ (z : Size) (h : List ℕ) (k : Holds z h) (long : 40 ≤ length h) (siz
   pub size-no-tile : Gridded z → numXtiles z * numYtiles z ≤ tile → tileSize AnnexB h tile ≡ size.Refused (refusal 31 marker)
   size-no-tile g past = size-siz AnnexB h tile long siz ∙ size-refused AnnexB h tile _ (annex-no-tile z h k tile g past)
 
+-- what is cut by a rule stays or is cut to an area
+of-cut : (P : TileSize → Type 0) (rule : Rule) (a : Area) (xt yt : ℕ) → P size.Whole → ((b : Area) → P (size.Cut b)) → P (cutBy rule a xt yt)
+unfolding cutBy moved sized
+of-cut P AnnexB a xt yt w c = by-test P (eqb (a .x1 - a .x0) xt && eqb (a .y1 - a .y0) yt) (λ _. w) (λ _. c _)
+of-cut P Original a xt yt w c = by-test P (eqb (a .x1 - a .x0) xt && eqb (a .y1 - a .y0) yt) (λ _. w) (λ _. c _)
+of-cut P InPlace a xt yt w c = c a
+
+module _ (z : Size) (rest : List ℕ) (tile : ℕ) where
+  moved-is : cutTo (moved (areaOf z tile) (z .XTsiz) (z .YTsiz)) (headerOf z rest) ≡ headerOf (movedTile z tile) rest
+  unfolding moved sized cutTo movedTile widthOf heightOf
+  moved-is =
+      by-bool (eqb (widthOf z tile) (z .XTsiz) && eqb (heightOf z tile) (z .YTsiz)) (λ e. rw e)
+      (λ e. rw e (cut-rows z rest (fromZero (widthOf z tile) (heightOf z tile))))
+
+  cut-is : (rule : Rule) → cutTo (cutBy rule (areaOf z tile) (z .XTsiz) (z .YTsiz)) (headerOf z rest) ≡ headerOf (forTile rule z tile) rest
+  unfolding cutBy cutTo forTile
+  cut-is AnnexB = moved-is
+  cut-is Original = moved-is
+  cut-is InPlace = cut-rows z rest (areaOf z tile)
+
 -- of a SIZ by the standard, where a rule tells a tile at the standard's place
 module _ (rule : Rule) (z : Size) (rest : List ℕ) (tile : ℕ) (g : Ranges z) (t : TileRanges z) (told : placedBy rule (headerOf z rest) tile ≡ Tile (areaOf z tile)) where
-  pub size-standard : tileSize rule (headerOf z rest) tile ≡ sized (widthOf z tile) (heightOf z tile) (z .XTsiz) (z .YTsiz)
+  pub size-standard : tileSize rule (headerOf z rest) tile ≡ cutBy rule (areaOf z tile) (z .XTsiz) (z .YTsiz)
   size-standard =
       let f : Fields z (headerOf z rest) = fields-standard z rest g in
       size-told z (headerOf z rest) (holds-standard z rest g t) (omega (arith, f .long)) (f .marker) tile rule told
 
   -- With room for the header the rewrite is not refused.
   pub rewrite-accepts : (room : ℕ) → length (headerOf z rest) ≤ room → rewriteAnswer rule (headerOf z rest) tile room ≡ Bytes (length (headerOf z rest))
-  unfolding rewriteAnswer sized judged
+  unfolding rewriteAnswer judged
   rewrite-accepts room enough =
       let n : ℕ = length (headerOf z rest) in
-      rw size-standard
-      (by-test (λ (s : TileSize). judged s n room ≡ Bytes n) (eqb (widthOf z tile) (z .XTsiz) && eqb (heightOf z tile) (z .YTsiz))
-      (λ _. room-enough n room enough) (λ _. room-enough n room enough))
+      let all : withRoom n room ≡ Bytes n = room-enough n room enough in
+      rw size-standard (of-cut (λ s. judged s n room ≡ Bytes n) rule (areaOf z tile) (z .XTsiz) (z .YTsiz) all (λ _. all))
 
-  header-cut : rewritten rule (headerOf z rest) tile ≡ headerOf (forTile z tile) rest
-  unfolding rewritten sized cutTo forTile
-  header-cut =
-      rw size-standard
-      (by-bool (eqb (widthOf z tile) (z .XTsiz) && eqb (heightOf z tile) (z .YTsiz)) (λ e. rw e) (λ e. rw e (cut-rows z rest (widthOf z tile) (heightOf z tile))))
+  header-cut : rewritten rule (headerOf z rest) tile ≡ headerOf (forTile rule z tile) rest
+  unfolding rewritten
+  header-cut = rw size-standard (cut-is z rest tile rule)
 
   -- What it writes is a SIZ by the standard again, with the same bytes behind it.
   pub rewrite-writes : (out : List ℕ) → length (headerOf z rest) ≤ length out
-      → rewriteOut rule (headerOf z rest) tile out ≡ headerOf (forTile z tile) rest ++ drop (length (headerOf z rest)) out
+      → rewriteOut rule (headerOf z rest) tile out ≡ headerOf (forTile rule z tile) rest ++ drop (length (headerOf z rest)) out
   unfolding rewriteOut over
   rewrite-writes out enough = rw (rewrite-accepts (length out) enough, header-cut)
 

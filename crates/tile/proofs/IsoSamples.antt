@@ -13,7 +13,7 @@ use Rattle.types.specs.IsoSiz.{Size, componentRows, sizRows, Ranges, TileRanges
 use Rattle.tile.specs.Original.{fitting, reaching, axisOf, columnsOf, bothAxes, inGrid, tileArea}
 use Rattle.tile.specs.AnnexB.{laid, cellsOf, fromOf, toOf, cellArea, inCells, onGrid, gridTile}
 use Rattle.tile.specs.Rules.{byAnnexB, byOriginal, placedBy}
-use Rattle.tile.specs.Rewrite.{sized, sizeOf, sizeIn, tileSize}
+use Rattle.tile.specs.Rewrite.{fromZero, sized, moved, cutBy, sizeOf, sizeIn, tileSize}
 use Rattle.tile.specs.Iso.{numXtiles, numYtiles, columnOf, rowOf, startOf, endOf, areaOf, widthOf, heightOf, headerOf}
 use Rattle.tile.specs.declared.rules.Rule.the-variants.{AnnexB, Original}
 use Rattle.tile.specs.declared.rewrite.TileSize.the-variants.{Whole, Cut, Refused}
@@ -41,7 +41,7 @@ unfolding numXtiles numYtiles columnOf rowOf startOf endOf areaOf widthOf height
 by-standard = tt
 
 unfoldable by-rule : Unit {0}
-unfolding tileSize sizeIn sizeOf placedBy byAnnexB byOriginal tileArea inGrid columnsOf axisOf fitting reaching bothAxes gridTile onGrid inCells cellArea fromOf toOf cellsOf laid sized ceilDiv be bytesOf bytesOfRows sizRows componentRows
+unfolding tileSize sizeIn sizeOf cutBy moved placedBy byAnnexB byOriginal tileArea inGrid columnsOf axisOf fitting reaching bothAxes gridTile onGrid inCells cellArea fromOf toOf cellsOf laid sized ceilDiv be bytesOf bytesOfRows sizRows componentRows
 by-rule = tt
 
 -- ---- the premises are met
@@ -67,8 +67,8 @@ sample-tiles from h =
       YTOsiz = (omega arith, omega arith);
     }
 
-pub sample-tile : (rest : List ℕ) → tileSize Original (headerOf (image 0 10 6 4 4) rest) 5 ≡ Cut 2 2
-unfolding by-standard sized
+pub sample-tile : (rest : List ℕ) → tileSize Original (headerOf (image 0 10 6 4 4) rest) 5 ≡ Cut (fromZero 2 2)
+unfolding by-standard cutBy moved sized
 sample-tile rest =
     let z : Size = image 0 10 6 4 4 in
     let g = sample-ranges 0 (omega arith) in
@@ -76,8 +76,8 @@ sample-tile rest =
     size-standard Original z rest 5 g t (area-original z rest 5 g t (omega arith) refl refl (omega arith) (omega arith))
 
 -- with the image from 3 on, tile 0 has one column of points, and by Annex B it is cut to that
-pub sample-annex : (rest : List ℕ) → tileSize AnnexB (headerOf (image 3 10 6 4 4) rest) 0 ≡ Cut 1 4
-unfolding by-standard sized
+pub sample-annex : (rest : List ℕ) → tileSize AnnexB (headerOf (image 3 10 6 4 4) rest) 0 ≡ Cut (fromZero 1 4)
+unfolding by-standard cutBy moved sized
 sample-annex rest =
     let z : Size = image 3 10 6 4 4 in
     let g = sample-ranges 3 (omega arith) in
@@ -95,12 +95,12 @@ pub past-32-bits : tileSize Original (headerOf (image 0 (2 ^ 32 - 1) 1 (2 ^ 31) 
 unfolding by-rule
 past-32-bits = refl
 
-pub past-32-bits-annex : tileSize AnnexB (headerOf (image 0 (2 ^ 32 - 1) 1 (2 ^ 31) 1) []) 1 ≡ Cut (2 ^ 31 - 1) 1
+pub past-32-bits-annex : tileSize AnnexB (headerOf (image 0 (2 ^ 32 - 1) 1 (2 ^ 31) 1) []) 1 ≡ Cut (fromZero (2 ^ 31 - 1) 1)
 unfolding by-rule
 past-32-bits-annex = refl
 
 -- an index past a grid of four tiles is accepted, and by Annex B refused
-pub past-grid : tileSize Original (headerOf (image 0 8 8 4 4) []) 4 ≡ Cut 4 0
+pub past-grid : tileSize Original (headerOf (image 0 8 8 4 4) []) 4 ≡ Cut (fromZero 4 0)
 unfolding by-rule
 past-grid = refl
 
@@ -117,7 +117,7 @@ pub origins-differ : tileSize Original (headerOf (image 1 3 1 2 1) []) 0 ≡ Who
 unfolding by-rule
 origins-differ = refl
 
-pub origins-annex : tileSize AnnexB (headerOf (image 1 3 1 2 1) []) 0 ≡ Cut 1 1
+pub origins-annex : tileSize AnnexB (headerOf (image 1 3 1 2 1) []) 0 ≡ Cut (fromZero 1 1)
 unfolding by-rule
 origins-annex = refl
 
@@ -126,10 +126,10 @@ pub origins-width-one : widthOf (image 1 3 1 2 1) 1 ≡ 1
 unfolding by-standard
 origins-width-one = refl
 
-pub origins-differ-one : tileSize Original (headerOf (image 1 3 1 2 1) []) 1 ≡ Cut 2 0
+pub origins-differ-one : tileSize Original (headerOf (image 1 3 1 2 1) []) 1 ≡ Cut (fromZero 2 0)
 unfolding by-rule
 origins-differ-one = refl
 
-pub origins-annex-one : tileSize AnnexB (headerOf (image 1 3 1 2 1) []) 1 ≡ Cut 1 1
+pub origins-annex-one : tileSize AnnexB (headerOf (image 1 3 1 2 1) []) 1 ≡ Cut (fromZero 1 1)
 unfolding by-rule
 origins-annex-one = refl

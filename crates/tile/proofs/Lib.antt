@@ -13,3 +13,4 @@ pub mod AssemblyLaws
 pub mod FromParts
 pub mod Iso
 pub mod IsoSamples
+pub mod RewriteInPlace

@@ -11,7 +11,7 @@ use Rattle.types.specs.Markers.{SIZ}
 use Rattle.types.specs.declared.Refusal.{Refusal}
 use Rattle.tile.specs.Siz.{marker}
 use Rattle.tile.specs.Rules.{placedBy}
-use Rattle.tile.specs.Rewrite.{sizeIn, tileSize, cutTo, rewritten}
+use Rattle.tile.specs.Rewrite.{cutBy, sizeIn, tileSize, cutTo, rewritten}
 use Rattle.tile.specs.declared.rules.Rule.{Rule}
 use Rattle.tile.specs.declared.rules.Rule.the-variants.{AnnexB, Original}
 use Rattle.tile.specs.declared.rules.Placed.{Placed}
@@ -28,6 +28,7 @@ Accepts s = (r : Refusal) → s ≡ size.Refused r → ⊥
 module _ (h : List ℕ) (tile : ℕ) (one : OneOrigin h) where
   in-agree : (p q : Placed) → placedBy AnnexB h tile ≡ p → placedBy Original h tile ≡ q → Accepts (sizeIn AnnexB h tile) → Accepts (sizeIn Original h tile)
       → sizeIn AnnexB h tile ≡ sizeIn Original h tile
+  unfolding cutBy
   in-agree (Tile a) (Tile b) e f x y =
       let same : a ≡ b = rules-agree h tile a b one e f in
       size-inside AnnexB h tile a e ∙ sym (size-inside Original h tile a (f ∙ ap Tile (sym same)))

@@ -1,7 +1,7 @@
 -- Where a tile lies by a rule: what each rule's answer becomes, and that a tile that is told lies within the image.
 use Prim.Native.Nat.{ℕ, _<_}
 use native.Mathlib.Omega.{arith}
-use mathlib.Core.Path.{_≡_, ap}
+use mathlib.Core.Path.{_≡_, refl, sym, ap, _∙_}
 use mathlib.Core.List.{List}
 use Rattle.types.specs.Area.{Inside}
 use Rattle.types.specs.declared.Area.{Area}
@@ -14,7 +14,7 @@ use Rattle.tile.specs.declared.annex_b.GridTile.the-variants as grid
 use Rattle.tile.specs.declared.original.TileArea.{TileArea}
 use Rattle.tile.specs.declared.original.TileArea.the-variants as area
 use Rattle.tile.specs.declared.rules.Rule.{Rule}
-use Rattle.tile.specs.declared.rules.Rule.the-variants.{AnnexB, Original}
+use Rattle.tile.specs.declared.rules.Rule.the-variants.{AnnexB, Original, InPlace}
 use Rattle.tile.specs.declared.rules.Placed.{Placed}
 use Rattle.tile.specs.declared.rules.Placed.the-variants.{Tile, Refused}
 use Rattle.tile.proofs.AnnexBLaws.{Found, found, span-some, span-from, span-to, column-inside, row-inside}
@@ -67,7 +67,13 @@ module _ (h : List ℕ) (tile : ℕ) (a : Area) where
         bottom = rw (f .area) (span-to (down h) _);
       }
 
+-- A tile that is kept in its place is told as by Annex B.
+pub kept-annex : (h : List ℕ) (tile : ℕ) → placedBy InPlace h tile ≡ placedBy AnnexB h tile
+unfolding placedBy
+kept-annex h tile = refl
+
 -- A tile lies in the image, and ends no sooner than it starts.
 pub tile-within : (rule : Rule) (h : List ℕ) (tile : ℕ) (a : Area) → placedBy rule h tile ≡ Tile a → Inside a (imageArea h)
 tile-within AnnexB h tile a e = annex-within h tile a e
 tile-within Original h tile a e = original.tile-within h tile a (original-is h tile a e)
+tile-within InPlace h tile a e = annex-within h tile a (sym (kept-annex h tile) ∙ e)

@@ -8,6 +8,9 @@ use Rattle.numbers.specs.Rows.{bytesOfRows}
 use Rattle.numbers.specs.Ceiling.{ceilDiv}
 use Rattle.types.specs.IsoSiz.{Size, sizRows}
 use Rattle.types.specs.declared.Area.{Area}
+use Rattle.tile.specs.Rewrite.{fromZero}
+use Rattle.tile.specs.declared.rules.Rule.{Rule}
+use Rattle.tile.specs.declared.rules.Rule.the-variants.{AnnexB, Original, InPlace}
 
 -- what B.3 asks of the fields: an image and a tile that are not empty; B-3 and B-4, a first tile that starts at or before the image and reaches into it
 pub record Gridded (z : Size) : Type 0 where
@@ -61,23 +64,31 @@ heightOf z tile = areaOf z tile .y1 - areaOf z tile .y0
 abbrev pub headerOf : Size → List ℕ → List ℕ
 headerOf z rest = bytesOfRows (sizRows z) ++ rest
 
--- our rewrite as a change of the standard's fields: an image of a size, from 0 on, that is one tile
-unfoldable pub cutSize : Size → ℕ → ℕ → Size
-cutSize z width height =
+-- our rewrite as a change of the standard's fields: an image in an area that is one tile
+unfoldable pub cutSize : Size → Area → Size
+cutSize z a =
     record {
       Rsiz = z .Rsiz;
-      Xsiz = width;
-      Ysiz = height;
-      XOsiz = 0;
-      YOsiz = 0;
-      XTsiz = width;
-      YTsiz = height;
-      XTOsiz = 0;
-      YTOsiz = 0;
+      Xsiz = a .x1;
+      Ysiz = a .y1;
+      XOsiz = a .x0;
+      YOsiz = a .y0;
+      XTsiz = a .x1 - a .x0;
+      YTsiz = a .y1 - a .y0;
+      XTOsiz = a .x0;
+      YTOsiz = a .y0;
       first = z .first;
       others = z .others;
     }
 
--- a tile of full size changes nothing
-unfoldable pub forTile : Size → ℕ → Size
-forTile z tile = cond (eqb (widthOf z tile) (z .XTsiz) && eqb (heightOf z tile) (z .YTsiz)) z (cutSize z (widthOf z tile) (heightOf z tile))
+-- moved to 0: a tile of full size changes nothing
+unfoldable pub movedTile : Size → ℕ → Size
+movedTile z tile =
+    cond (eqb (widthOf z tile) (z .XTsiz) && eqb (heightOf z tile) (z .YTsiz)) z (cutSize z (fromZero (widthOf z tile) (heightOf z tile)))
+
+-- or kept in its place
+unfoldable pub forTile : Rule → Size → ℕ → Size
+unfolding movedTile
+forTile AnnexB z tile = movedTile z tile
+forTile Original z tile = movedTile z tile
+forTile InPlace z tile = cutSize z (areaOf z tile)

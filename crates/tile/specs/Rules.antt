@@ -12,7 +12,7 @@ use Rattle.tile.specs.declared.annex_b.GridTile.the-variants as grid
 use Rattle.tile.specs.declared.original.TileArea.{TileArea}
 use Rattle.tile.specs.declared.original.TileArea.the-variants as area
 use Rattle.tile.specs.declared.rules.Rule.{Rule}
-use Rattle.tile.specs.declared.rules.Rule.the-variants.{AnnexB, Original}
+use Rattle.tile.specs.declared.rules.Rule.the-variants.{AnnexB, Original, InPlace}
 use Rattle.tile.specs.declared.rules.Placed.{Placed}
 use Rattle.tile.specs.declared.rules.Placed.the-variants.{Tile, Refused}
 
@@ -36,3 +36,4 @@ unfoldable pub placedBy : Rule → List ℕ → ℕ → Placed
 unfolding byAnnexB byOriginal
 placedBy AnnexB h tile = byAnnexB (gridTile h tile)
 placedBy Original h tile = byOriginal (tileArea h tile)
+placedBy InPlace h tile = byAnnexB (gridTile h tile)

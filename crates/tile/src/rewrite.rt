@@ -1,5 +1,5 @@
-// The header for one tile. For a tile of full size it stays unchanged, with the whole image's size; for any other SIZ is made to
-// describe the tile as the whole image.
+// The header for one tile: SIZ is made to describe the tile as the whole image, moved to 0 or in its place, as the rule has it.
+// For a tile of full size that would be moved the header stays unchanged, with the whole image's size.
 ghost use mathlib.Core.Path.{_≡_};
 ghost use Prim.Native.Nat.{_+_, _≤_};
 ghost use lib.ListN.{length};
@@ -10,6 +10,7 @@ ghost use Rattle.tile.specs.Rewrite.{sized, sizeIn, tileSize, cutTo, Roo
 use crate::rules::Placed;
 use crate::rules::Rule;
 use crate::siz::MARKER;
+use types::Area;
 use types::Refusal;
 use types::markers::SIZ;
 use types::siz;
@@ -17,7 +18,8 @@ use types::siz;
 pub enum TileSize {
     // The header stays as it is: the tile has full size, or there is no SIZ to go by.
     Whole,
-    Cut { width: u32, height: u32 },
+    // Where the tile lies in the header that is for it alone.
+    Cut(Area),
     Refused(Refusal),
 }
 
@@ -31,11 +33,17 @@ pub enum Written {
 fn full_or_cut(width: u32, height: u32, xtsiz: u32, ytsiz: u32) -> TileSize
     ensures { λ r. ⌜ r ≡ sized width height xtsiz ytsiz ⌝ }
 {
+    let from_zero = Area {
+        x0: 0,
+        y0: 0,
+        x1: width,
+        y1: height,
+    };
     if width != xtsiz {
-        return TileSize::Cut { width, height };
+        return TileSize::Cut(from_zero);
     }
     if height != ytsiz {
-        return TileSize::Cut { width, height };
+        return TileSize::Cut(from_zero);
     }
     TileSize::Whole
 }
@@ -48,6 +56,9 @@ fn size_in(header: &[u8], isot: u16, rule: Rule) -> TileSize
         Placed::Tile(area) => area,
         Placed::Refused(refusal) => return TileSize::Refused(refusal),
     };
+    if let Rule::InPlace = rule {
+        return TileSize::Cut(tile);
+    }
     let xtsiz = crate::siz::field(header, siz::XTSIZ);
     let ytsiz = crate::siz::field(header, siz::YTSIZ);
     full_or_cut(tile.x1 - tile.x0, tile.y1 - tile.y0, xtsiz, ytsiz)
@@ -92,14 +103,15 @@ fn write_pair(out: &mut [u8], place: usize, across: u32, down: u32)
 }
 
 // Image end and origin, tile size and origin.
-fn write_one_tile(out: &mut [u8], width: u32, height: u32)
+fn write_one_tile(out: &mut [u8], tile: Area)
     requires { ⌜ 40 ≤ length (now out) ⌝ }
-    ensures { λ _. ⌜ now (out .exit) ≡ put (now (out .entry)) (marker + XSIZ) (oneTile width height) ⌝ }
+    requires { ⌜ (tile .x0 ≤ tile .x1) × (tile .y0 ≤ tile .y1) ⌝ }
+    ensures { λ _. ⌜ now (out .exit) ≡ put (now (out .entry)) (marker + XSIZ) (oneTile tile) ⌝ }
 {
-    write_pair(out, siz::XSIZ, width, height);
-    write_pair(out, siz::XOSIZ, 0, 0);
-    write_pair(out, siz::XTSIZ, width, height);
-    write_pair(out, siz::XTOSIZ, 0, 0);
+    write_pair(out, siz::XSIZ, tile.x1, tile.y1);
+    write_pair(out, siz::XOSIZ, tile.x0, tile.y0);
+    write_pair(out, siz::XTSIZ, tile.x1 - tile.x0, tile.y1 - tile.y0);
+    write_pair(out, siz::XTOSIZ, tile.x0, tile.y0);
 }
 
 pub fn write_header(header: &[u8], size: TileSize, out: &mut [u8])
@@ -108,8 +120,8 @@ pub fn write_header(header: &[u8], size: TileSize, out: &mut [u8])
     ensures { λ _. ⌜ now (out .exit) ≡ put (now (out .entry)) 0 (cutTo size (now (header .entry))) ⌝ }
 {
     numbers::copy_at(header, out, 0);
-    if let TileSize::Cut { width, height } = size {
-        write_one_tile(out, width, height);
+    if let TileSize::Cut(tile) = size {
+        write_one_tile(out, tile);
     }
 }
 

@@ -18,6 +18,8 @@ pub enum Rule {
     // The standard's.
     AnnexB,
     Original,
+    // The standard's too; the header for one tile keeps it in its place.
+    InPlace,
 }
 
 // Where a tile lies by a rule.
@@ -73,5 +75,6 @@ pub fn place(header: &[u8], isot: u16, rule: Rule) -> Placed
     match rule {
         Rule::AnnexB => by_annex_b(crate::annex_b::tile_area(header, isot)),
         Rule::Original => by_original(crate::original::tile_area(header, isot)),
+        Rule::InPlace => by_annex_b(crate::annex_b::tile_area(header, isot)),
     }
 }

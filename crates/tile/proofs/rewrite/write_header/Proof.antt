@@ -15,7 +15,8 @@ write-one-tile-requires : tie.Need-write-one-tile-requires
 write-one-tile-requires c κs =
     let k = c .before .before .before .before .before .before in
     let s = k .before .before .before .before in
-    omega (arith, k .copy-at .kept, s .pre, cut-room _ _ _ _ (c .before .before .size .given .1) (s .pre .0))
+    let r = cut-room _ _ _ (c .before .before .size .given .1) (s .pre .0) in
+    (omega (arith, k .copy-at .kept, s .pre, r .0), r .1)
 
 same-length : tie.Need-same-length
 same-length c = search needs
@@ -24,7 +25,7 @@ returns : tie.Need-returns
 returns c =
     let k = c .before .before .before .before .before .before .before .before .before in
     let s = k .before .before .before .before in
-    cc (put-cut (s .args .size) _ _ (s .args .header .now) (s .args .out .now) (c .before .before .before .before .before .size .given .1) (s .pre .0) (s .pre .1))
+    cc (put-cut (s .args .size) _ (s .args .header .now) (s .args .out .now) (c .before .before .before .before .before .size .given .1) (s .pre .0) (s .pre .1))
 
 same-length-2 : tie.Need-same-length-2
 same-length-2 c = search needs

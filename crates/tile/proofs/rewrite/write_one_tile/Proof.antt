@@ -10,6 +10,12 @@ write-pair-requires c κs = search needs
 write-pair-requires-2 : tie.Need-write-pair-requires-2
 write-pair-requires-2 c κs = search needs
 
+sub-write-pair : tie.Need-sub-write-pair
+sub-write-pair c = search needs
+
+sub-write-pair-2 : tie.Need-sub-write-pair-2
+sub-write-pair-2 c = search needs
+
 write-pair-requires-3 : tie.Need-write-pair-requires-3
 write-pair-requires-3 c κs = search needs
 
@@ -21,8 +27,8 @@ same-length c = search needs
 
 returns : tie.Need-returns
 returns c =
-    let a = c .before .before .before .before .before .before .before .before .before .before .before .before .before .before .before .before .before .args in
-    cc (put-one (a .out .now) (a .width) (a .height) (search needs))
+    let a = c .before .before .before .before .before .before .before .before .before .before .before .before .before .before .before .before .before .before .before .args in
+    cc (put-one (a .out .now) (a .tile) (search needs))
 
 pub write-one-tile-spec : {M : Type 1} → statement M
 write-one-tile-spec =
@@ -30,6 +36,8 @@ write-one-tile-spec =
     (tie.spec
     write-pair-requires
     write-pair-requires-2
+    sub-write-pair
+    sub-write-pair-2
     write-pair-requires-3
     write-pair-requires-4
     same-length

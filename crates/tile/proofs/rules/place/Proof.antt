@@ -24,6 +24,15 @@ tile-area-requires-2 c κs = search needs
 by-original-requires : tie.Need-by-original-requires
 by-original-requires c κs = search needs
 
+enum-told-3 : tie.Need-enum-told-3
+enum-told-3 c = search needs
+
+tile-area-requires-3 : tie.Need-tile-area-requires-3
+tile-area-requires-3 c κs = search needs
+
+by-annex-b-requires-2 : tie.Need-by-annex-b-requires-2
+by-annex-b-requires-2 c κs = search needs
+
 returns : tie.Need-returns
 unfolding placedBy
 returns c =
@@ -38,6 +47,13 @@ returns-2 c =
     let a = t .before .before .before .before .args in
     c .by-original .ensures ∙ ap byOriginal (t .tile-area2 .ensures) ∙ sym (ap (λ (r : Rule). placedBy r (a .header .now) (a .isot)) (t .before .enum-told2 .given .1))
 
+returns-3 : tie.Need-returns-3
+unfolding placedBy
+returns-3 c =
+    let t = c .before in
+    let a = t .before .before .before .before .args in
+    c .by-annex-b2 .ensures ∙ ap byAnnexB (t .tile-area3 .ensures) ∙ sym (ap (λ (r : Rule). placedBy r (a .header .now) (a .isot)) (t .before .enum-told3 .given .1))
+
 pub place-spec : {M : Type 1} → statement M
 place-spec =
     tie.close
@@ -48,5 +64,9 @@ place-spec =
     enum-told-2
     tile-area-requires-2
     by-original-requires
+    enum-told-3
+    tile-area-requires-3
+    by-annex-b-requires-2
     returns
-    returns-2)
+    returns-2
+    returns-3)
