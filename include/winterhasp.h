@@ -54,15 +54,19 @@ extern "C" {
 #define WINTERHASP_NO_GRID                     30 /* the image size segment (SIZ) lays no grid of tiles over the image */
 #define WINTERHASP_NO_SUCH_TILE                31 /* the grid has no tile of this index */
 
-/* No refusal: what is returned where there is no component of the number that was asked for. */
+/* No refusal: what is returned where there is no component of the number, or no marker of the code, that was asked for. */
 
-enum { WINTERHASP_NO_SUCH_COMPONENT = 256 };
+enum { WINTERHASP_NO_SUCH_COMPONENT = 256, WINTERHASP_NO_SUCH_MARKER = 257 };
 
-/* The rule by which a tile's place is told: the standard's (Annex B), which all functions go by that take no rule, or the one of
-   the program that this library is ported from, which counts tiles from the image origin. Any other number means the standard's.
-   By the standard's the refusals of a tile are 30, then 31, and by the original's 10. */
+/* The rule by which a tile's place is told, and by which it is cut out:
+   - WINTERHASP_RULE_ANNEX_B, by which all functions go that take no rule: it lies where the standard has it, and is moved to 0, 0
+     when it is cut out. Moved, it may decode to other samples than in the whole picture;
+   - WINTERHASP_RULE_ORIGINAL, to compare with the program that this library is ported from, which counts tiles from the image
+     origin: it is moved too;
+   - WINTERHASP_RULE_IN_PLACE, for a tile that is to be decoded: it lies where the standard has it, and stays there.
+   Any other number means Annex B's. The refusals of a tile are 30, then 31, and by the original's rule 10. */
 
-enum { WINTERHASP_RULE_ANNEX_B = 0, WINTERHASP_RULE_ORIGINAL = 1 };
+enum { WINTERHASP_RULE_ANNEX_B = 0, WINTERHASP_RULE_ORIGINAL = 1, WINTERHASP_RULE_IN_PLACE = 2 };
 
 /* A table is lent as bytes, and has a row for each 18: a tile's index (2 bytes), the tile-part's offset in the codestream
    (8) and its length (8), big-endian. Bytes behind the last whole row are none. */
@@ -120,6 +124,11 @@ uint32_t winterhasp_parse_main_header(const uint8_t *codestream, size_t codestre
                                       uint8_t *out, size_t out_len, uint64_t *first_sot, uint64_t *decode_length,
                                       uint64_t *entries);
 
+/* "Markers in the header". Where the first marker of a code, such as 0xFF60 (PPM), stands in the main header: of those that the walk
+   stops at, from SIZ at 2 on and without the first SOT, so that bytes inside a segment are none. WINTERHASP_NO_SUCH_MARKER where
+   there is none, and `value` stays. Refusals: 19, 1 to 6, as winterhasp_parse_main_header has them, wherever the marker stands. */
+uint32_t winterhasp_find_marker(const uint8_t *codestream, size_t codestream_len, uint16_t marker, uint64_t *value);
+
 /* "SIZ reading". The image's width and height, its components, the bits of a sample, and 1 where samples have a sign.
    Refusals: 20, 21, 22. */
 uint32_t winterhasp_parse_siz_marker(const uint8_t *codestream, size_t codestream_len, uint64_t *width, uint64_t *height,
@@ -138,7 +147,8 @@ uint32_t winterhasp_read_components(const uint8_t *codestream, size_t codestream
 uint32_t winterhasp_read_components_in_tile(const uint8_t *codestream, size_t codestream_len, uint16_t tile,
                                             uint64_t *components, uint64_t *x0, uint64_t *y0, uint64_t *x1, uint64_t *y1);
 
-/* "Components". The same by a rule, which WINTERHASP_RULE_.. names. Refusals: 1, 2, 3, 24, 25, 22; then 30, 31, or 10. */
+/* "Components". The same by a rule, which WINTERHASP_RULE_.. names: in place a tile's area is that of Annex B.
+   Refusals: 1, 2, 3, 24, 25, 22; then 30, 31, or 10. */
 uint32_t winterhasp_read_components_in_tile_by_rule(const uint8_t *codestream, size_t codestream_len, uint16_t tile,
                                                     uint32_t rule, uint64_t *components, uint64_t *x0, uint64_t *y0,
                                                     uint64_t *x1, uint64_t *y1);
@@ -187,23 +197,25 @@ uint32_t winterhasp_split_part(const uint8_t *tile, size_t tile_len, uint64_t k,
 uint32_t winterhasp_split_at(const uint8_t *tile, size_t tile_len, uint64_t at, uint8_t *out, size_t out_len,
                              uint64_t *value);
 
-/* "SIZ rewrite". The decode header with a SIZ that speaks of tile `isot` alone goes to `out`, its length to `value`. Of a tile of
-   full size it stays the same. Refusals: 30, 31, 17. */
+/* "SIZ rewrite". The decode header with a SIZ that speaks of tile `isot` alone, from 0, 0 on, goes to `out`, its length to `value`.
+   Of a tile of full size it stays the same, with the whole image's size. Refusals: 30, 31, 17. */
 uint32_t winterhasp_rewrite_siz_for_tile(const uint8_t *decode_header, size_t decode_header_len, uint16_t isot, uint8_t *out,
                                          size_t out_len, uint64_t *value);
 
-/* "SIZ rewrite". The same by a rule, which WINTERHASP_RULE_.. names. Refusals: 30, 31, or 10; then 17. */
+/* "SIZ rewrite", "Tiles kept in place". The same by a rule, which WINTERHASP_RULE_.. names. In place SIZ says where the tile lies,
+   and is always written, of a tile of full size too. Refusals: 30, 31, or 10; then 17. */
 uint32_t winterhasp_rewrite_siz_for_tile_by_rule(const uint8_t *decode_header, size_t decode_header_len, uint16_t isot,
                                                  uint32_t rule, uint8_t *out, size_t out_len, uint64_t *value);
 
 /* "Assembly". A codestream of one tile, as tile 0, goes to `out`, its length to `value`: header, the tile-parts that the rows of
-   `tile_parts` give of `codestream`, EOC. Rows are as the scan writes them, of one tile; their index is not looked at.
-   Refusals: 30, 31, 17. */
+   `tile_parts` give of `codestream`, EOC. Rows are as the scan writes them, of one tile; their index is not looked at. The
+   header is rewritten for the tile as above. Refusals: 30, 31, 17. */
 uint32_t winterhasp_build_minimal_codestream(const uint8_t *decode_header, size_t decode_header_len,
                                              const uint8_t *tile_parts, size_t tile_parts_len, const uint8_t *codestream,
                                              size_t codestream_len, uint8_t *out, size_t out_len, uint64_t *value);
 
-/* "Assembly". The same by a rule, which WINTERHASP_RULE_.. names. Refusals: 30, 31, or 10; then 17. */
+/* "Assembly". The same by a rule, which WINTERHASP_RULE_.. names. In place it is tile 0 too, and a plain decoder shows it alone,
+   of full size too. Refusals: 30, 31, or 10; then 17. */
 uint32_t winterhasp_build_minimal_codestream_by_rule(const uint8_t *decode_header, size_t decode_header_len,
                                                      const uint8_t *tile_parts, size_t tile_parts_len,
                                                      const uint8_t *codestream, size_t codestream_len, uint32_t rule,

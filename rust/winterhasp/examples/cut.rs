@@ -1,12 +1,13 @@
-//! Cuts one tile out of a file, JP2 or bare, and writes a codestream of that tile as tile 0:
+//! Cuts one tile out of a file, JP2 or bare, and writes a codestream of that tile, in its place, as
+//! tile 0:
 //! `cargo run --release -p winterhasp --example cut -- FILE INDEX OUT`.
 
 use std::error::Error;
 use std::{env, fs};
 
 use winterhasp::{
-    build_minimal_codestream, find_codestream, grow_header_region, parse_main_header,
-    scan_sot_markers, TileParts,
+    build_minimal_codestream_by_rule, find_codestream, grow_header_region, parse_main_header,
+    scan_sot_markers, Rule, TileParts,
 };
 
 fn main() -> Result<(), Box<dyn Error>> {
@@ -22,9 +23,8 @@ fn main() -> Result<(), Box<dyn Error>> {
     let header = parse_main_header(&codestream[..region])?;
     let parts = scan_sot_markers(codestream, header.first_sot)?;
     let tile = TileParts::of(index, &parts).ok_or(format!("no part of tile {index}"))?;
-    fs::write(
-        out,
-        build_minimal_codestream(&header.decode_header, &tile, codestream)?,
-    )?;
+    let decode_header = &header.decode_header;
+    let alone = build_minimal_codestream_by_rule(decode_header, &tile, codestream, Rule::InPlace)?;
+    fs::write(out, alone)?;
     Ok(())
 }

@@ -27,6 +27,13 @@ mod archive {
             entries: *mut u64,
         ) -> u32;
 
+        pub fn winterhasp_find_marker(
+            codestream: *const u8,
+            codestream_len: usize,
+            marker: u16,
+            value: *mut u64,
+        ) -> u32;
+
         pub fn winterhasp_scan_sot_markers(
             codestream: *const u8,
             codestream_len: usize,
@@ -262,6 +269,16 @@ pub fn parse_main_header(
     }
 }
 
+/// What the function below answers where the walk over the header stands at no marker of that code;
+/// `value` is then as it was.
+pub const NO_SUCH_MARKER: u32 = 257;
+
+/// The offset of the first marker of that code goes to `value`.
+pub fn find_marker(codestream: &[u8], marker: u16, value: &mut u64) -> u32 {
+    // SAFETY: as at the top of this file.
+    unsafe { archive::winterhasp_find_marker(codestream.as_ptr(), codestream.len(), marker, value) }
+}
+
 /// The tile-parts from `first_sot` on go to `table` as rows of 18 bytes, their number to `value`.
 pub fn scan_sot_markers(
     codestream: &[u8],
@@ -320,9 +337,10 @@ pub fn split_at(tile: &[u8], at: u64, out: &mut [u8], value: &mut u64) -> u32 {
 }
 
 /// The rules by which a tile's place is told, as the functions take them that end in `by_rule`; any
-/// other number means the standard's, by which all other functions go.
+/// other number means Annex B's, by which all other functions go.
 pub const ANNEX_B: u32 = 0;
 pub const ORIGINAL: u32 = 1;
+pub const IN_PLACE: u32 = 2;
 
 /// The header goes to `out`, its length to `value`.
 pub fn rewrite_siz_for_tile(

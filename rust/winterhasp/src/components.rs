@@ -3,7 +3,7 @@
 use std::ops::Range;
 
 use crate::boundary;
-use crate::lent::accepted;
+use crate::lent::{self, accepted};
 use crate::refusal::Refusal;
 use crate::rule::Rule;
 use crate::siz::{pixel_type_from_siz, SampleType};
@@ -360,6 +360,7 @@ pub fn component_in_tile(
 /// };
 /// assert_eq!(width(Rule::AnnexB)?, Some(2));
 /// assert_eq!(width(Rule::Original)?, Some(4));
+/// assert_eq!(width(Rule::InPlace)?, Some(2));
 /// # Ok::<(), Box<dyn std::error::Error>>(())
 /// ```
 pub fn component_in_tile_by_rule(
@@ -373,13 +374,9 @@ pub fn component_in_tile_by_rule(
     })
 }
 
-/// That there is no such component is no refusal.
 fn found(call: impl FnOnce(&mut [u64; 8]) -> u32) -> Result<Option<Component>, Refusal> {
-    match accepted(call) {
-        Ok(numbers) => Ok(Some(Component::of(numbers))),
-        Err(refusal) if refusal.number() == boundary::NO_SUCH_COMPONENT => Ok(None),
-        Err(refusal) => Err(refusal),
-    }
+    let found = lent::found(boundary::NO_SUCH_COMPONENT, call)?;
+    Ok(found.map(Component::of))
 }
 
 #[cfg(test)]
@@ -505,7 +502,10 @@ mod tests {
                 .map_err(|refusal| (refusal.number(), refusal.place()))
         };
         let both = |codestream: &[u8], tile| {
-            [Rule::AnnexB, Rule::Original].map(|rule| read(codestream, tile, rule))
+            let [standard, original, in_place] = [Rule::AnnexB, Rule::Original, Rule::InPlace]
+                .map(|rule| read(codestream, tile, rule));
+            assert_eq!(in_place, standard);
+            [standard, original]
         };
         for tile in 0..6 {
             let [standard, original] = both(SAMPLE, tile);

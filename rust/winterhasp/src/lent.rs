@@ -40,6 +40,18 @@ pub fn accepted<const N: usize>(
     }
 }
 
+/// The same of a function that answers `none` where there is nothing of the kind, which is no refusal.
+pub fn found<const N: usize>(
+    none: u32,
+    call: impl FnOnce(&mut [u64; N]) -> u32,
+) -> Result<Option<[u64; N]>, Refusal> {
+    match accepted(call) {
+        Ok(numbers) => Ok(Some(numbers)),
+        Err(refusal) if refusal.number() == none => Ok(None),
+        Err(refusal) => Err(refusal),
+    }
+}
+
 impl Lent {
     /// The refusal itself if it is of another kind, or there is no such memory.
     fn grow(&mut self, refusal: Refusal) -> Result<(), Refusal> {
@@ -59,7 +71,8 @@ impl Lent {
 
 #[cfg(test)]
 mod tests {
-    use super::{lend, Lent, OUTPUT_TOO_SMALL, TABLE_TOO_SMALL};
+    use super::{found, lend, Lent, OUTPUT_TOO_SMALL, TABLE_TOO_SMALL};
+    use crate::refusal::Refusal;
 
     #[test]
     fn lends_what_is_asked_for() {
@@ -75,6 +88,21 @@ mod tests {
         });
         let (lent, [value]) = answered.expect("there is memory");
         assert_eq!((lent.table.len(), lent.out.len(), value), (54, 3, 3));
+    }
+
+    #[test]
+    fn nothing_of_the_kind_is_no_refusal() {
+        let answered = |number| {
+            found(256, |[value]: &mut [u64; 1]| {
+                *value = 5;
+                number
+            })
+        };
+        assert_eq!(answered(0), Ok(Some([5])));
+        assert_eq!(answered(256), Ok(None));
+        for number in [1, 255, 257] {
+            assert_eq!(answered(number), Err(Refusal::new(number, 5)));
+        }
     }
 
     #[test]

@@ -4,7 +4,7 @@
 //! every input. Each takes byte slices, and gives an answer or a [`Refusal`] that says in words what is
 //! wrong and where. Nothing panics on bad bytes.
 //!
-//! From a file to a codestream of one tile:
+//! From a file to a codestream of one tile, which decodes to what it is in the whole picture:
 //!
 //! ```
 //! use winterhasp::*;
@@ -14,10 +14,13 @@
 //! let header = parse_main_header(codestream.bytes)?;
 //! let parts = scan_sot_markers(codestream.bytes, header.first_sot)?;
 //! let tile = TileParts::of(5, &parts).ok_or("no part of tile 5")?;
-//! let alone = build_minimal_codestream(&header.decode_header, &tile, codestream.bytes)?;
+//! let (decode_header, rule) = (&header.decode_header, Rule::InPlace);
+//! let alone = build_minimal_codestream_by_rule(decode_header, &tile, codestream.bytes, rule)?;
 //! assert_eq!(alone.len(), 63);
 //! # Ok::<(), Box<dyn std::error::Error>>(())
 //! ```
+//!
+//! Functions that take no [`Rule`] go by Annex B's, which moves a tile that is cut out to 0, 0.
 //!
 //! The archive is linked from the folder that `WINTERHASP_LIB` names, or from the repository's
 //! `target/staticlib`, where `rt staticlib host` writes it. It is for x86-64.
@@ -33,6 +36,7 @@ mod extent;
 mod growth;
 mod header;
 mod lent;
+mod marker;
 mod offsets;
 mod refusal;
 mod rule;
@@ -50,6 +54,7 @@ pub use components::{
 pub use extent::{main_header_extent, MainHeaderExtent};
 pub use growth::{grow_header_region, next_region, HeaderRegion};
 pub use header::{parse_main_header, MainHeader};
+pub use marker::find_marker;
 pub use offsets::{CodestreamOffset, FileOffset};
 pub use refusal::{Origin, Refusal};
 pub use rule::Rule;
