@@ -39,6 +39,12 @@ impl<const V: usize, const M: usize> Lent<V, M> {
         self
     }
 
+    /// As a status leaves it that says there is nothing of the kind: all numbers untouched too.
+    pub fn none(mut self, status: u32) -> Self {
+        self.status = status;
+        self
+    }
+
     /// As an answer leaves it: what is beyond the bytes written untouched.
     pub fn accepted(mut self, values: [u64; V], written: [&[u8]; M]) -> Self {
         self.status = 0;

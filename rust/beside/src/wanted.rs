@@ -92,6 +92,13 @@ const BY_ANNEX_B: &[Answer] = &[
     ("refused 30", 0),
     ("refused 31", 0),
 ];
+/// The same in place, where that has to write what Annex B's rule does.
+const IN_PLACE: &[Answer] = &[
+    (ACCEPTED, 60_000),
+    ("refused 17", 0),
+    ("refused 30", 0),
+    ("refused 31", 0),
+];
 /// By any rule, where the original isn't asked.
 const BY_ANY_RULE: &[Answer] = &[
     (ACCEPTED, 0),
@@ -118,6 +125,20 @@ pub const REWRITE_BY_ORIGINAL: Wanted = Wanted {
     answers: &[(ACCEPTED, 150_000), ("refused 10", 0), ("refused 17", 0)],
 };
 
+pub const REWRITE_IN_PLACE: Wanted = Wanted {
+    name: "rewrite_siz_for_tile_by_rule, in place",
+    answers: IN_PLACE,
+};
+
+/// Laws of the rewrite in place, of which the original says nothing.
+pub const AGAIN: &str = "again the same";
+pub const ONE_TILE: &str = "one tile, of the same area";
+pub const AT_0: &str = "from 0, 0 on as by Annex B";
+pub const LAWS_IN_PLACE: Wanted = Wanted {
+    name: "laws of the rewrite in place",
+    answers: &[(AGAIN, 0), (ONE_TILE, 0), (AT_0, 0)],
+};
+
 pub const ASSEMBLY: Wanted = Wanted {
     name: "build_minimal_codestream",
     answers: BY_ANNEX_B,
@@ -133,6 +154,10 @@ pub const ASSEMBLY_BY_ANNEX_B: Wanted = Wanted {
 pub const ASSEMBLY_BY_ORIGINAL: Wanted = Wanted {
     name: "build_minimal_codestream_by_rule, the original's",
     answers: &[(ACCEPTED, 100_000), ("refused 10", 0), ("refused 17", 0)],
+};
+pub const ASSEMBLY_IN_PLACE: Wanted = Wanted {
+    name: "build_minimal_codestream_by_rule, in place",
+    answers: IN_PLACE,
 };
 pub const FROM_PARTS: Wanted = Wanted {
     name: "build_minimal_codestream_from_parts",
@@ -245,6 +270,10 @@ pub const READ_COMPONENTS_BY_ANNEX_B: Wanted = Wanted {
     name: "read_components_in_tile_by_rule, Annex B's",
     ..READ_COMPONENTS_IN_TILE
 };
+pub const READ_COMPONENTS_IN_PLACE: Wanted = Wanted {
+    name: "read_components_in_tile_by_rule, in place",
+    ..READ_COMPONENTS_IN_TILE
+};
 pub const READ_COMPONENTS_BY_ORIGINAL: Wanted = Wanted {
     name: "read_components_in_tile_by_rule, the original's",
     answers: &or_refused::<8>(&[(ACCEPTED, 100_000), ("refused 10", 0)]),
@@ -278,6 +307,10 @@ pub const COMPONENT_BY_ANNEX_B: Wanted = Wanted {
     name: "component_in_tile_by_rule, Annex B's",
     ..COMPONENT_IN_TILE
 };
+pub const COMPONENT_IN_PLACE: Wanted = Wanted {
+    name: "component_in_tile_by_rule, in place",
+    ..COMPONENT_IN_TILE
+};
 pub const COMPONENT_BY_ORIGINAL: Wanted = Wanted {
     name: "component_in_tile_by_rule, the original's",
     answers: &or_refused::<9>(&[(ACCEPTED, 70_000), (NONE, 30_000), ("refused 10", 0)]),
@@ -285,4 +318,11 @@ pub const COMPONENT_BY_ORIGINAL: Wanted = Wanted {
 pub const COMPONENT_WITHIN: Wanted = Wanted {
     name: "component_within",
     answers: &[(ACCEPTED, 300_000), (NONE, 150_000)],
+};
+
+/// Of a header that was rewritten in place, by what the archive says of the one before; of this the
+/// original says nothing.
+pub const COMPONENT_KEPT: Wanted = Wanted {
+    name: "component of a tile alone, in place",
+    answers: &[(ACCEPTED, 0), (NONE, 0)],
 };

@@ -68,4 +68,6 @@ pub const KINDS: &[Kind] = &[
     components::KIND,
     rewrite::KIND_OF_ANNEX_B,
     assembly::KIND_OF_ANNEX_B,
+    rewrite::KIND_IN_PLACE,
+    assembly::KIND_IN_PLACE,
 ];

@@ -1,4 +1,4 @@
-//! Where a tile lies by a rule: "Tiles by Annex B", "Tiles by the original's rule".
+//! Where a tile lies by a rule: "Tiles by Annex B", "Tiles by the original's rule", "Tiles kept in place".
 
 use super::{number, read, Area, Refusal};
 use crate::sample::codestream::SIZ;
@@ -9,6 +9,8 @@ pub enum Rule {
     /// The standard's.
     AnnexB,
     Original,
+    /// The standard's, and a tile that is cut out stays where it lies.
+    InPlace,
 }
 
 impl Rule {
@@ -16,6 +18,7 @@ impl Rule {
     pub fn of(number: u32) -> Self {
         match number {
             1 => Rule::Original,
+            2 => Rule::InPlace,
             _ => Rule::AnnexB,
         }
     }
@@ -37,8 +40,8 @@ pub fn field(header: &[u8], at: usize) -> u64 {
     number(&header[at..at + 4])
 }
 
-/// Whether the rules have to give one answer where both accept: tiles are counted from the image
-/// origin, or there is nothing to go by.
+/// Whether the original's rule and Annex B's have to give one answer where both accept: tiles are
+/// counted from the image origin, or there is nothing to go by.
 pub fn have_to_agree(header: &[u8]) -> bool {
     !has_siz(header) || header[ORIGIN..ORIGIN + 8] == header[TILE_ORIGIN..TILE_ORIGIN + 8]
 }
@@ -46,7 +49,7 @@ pub fn have_to_agree(header: &[u8]) -> bool {
 /// Of a header that holds the fields.
 pub fn tile_area(header: &[u8], isot: u16, rule: Rule) -> Result<Area, Refusal> {
     match rule {
-        Rule::AnnexB => by_annex_b(header, isot),
+        Rule::AnnexB | Rule::InPlace => by_annex_b(header, isot),
         Rule::Original => steps(header, isot).ok_or(Refusal::new(10, 2)),
     }
 }
@@ -108,9 +111,12 @@ mod tests {
     use crate::model::{Area, Refusal};
     use crate::sample::sizes::{header, Fields, MOVED, SAMPLE_A};
 
+    /// In place it is where Annex B has it.
     fn both(fields: Fields, isot: u16) -> [Result<Area, u32>; 2] {
-        [Rule::AnnexB, Rule::Original].map(|rule| {
-            let area = tile_area(&header(fields), isot, rule);
+        let [standard, original, in_place] = [Rule::AnnexB, Rule::Original, Rule::InPlace]
+            .map(|rule| tile_area(&header(fields), isot, rule));
+        assert_eq!(in_place, standard);
+        [standard, original].map(|area| {
             area.map_err(|Refusal { number, place }| {
                 assert_eq!(place, 2);
                 number
@@ -181,7 +187,8 @@ mod tests {
     #[test]
     fn numbers_of_the_boundary() {
         assert_eq!(Rule::of(1), Rule::Original);
-        for number in [0, 2, 7, u32::MAX] {
+        assert_eq!(Rule::of(2), Rule::InPlace);
+        for number in [0, 3, 7, u32::MAX] {
             assert_eq!(Rule::of(number), Rule::AnnexB);
         }
     }

@@ -1,4 +1,4 @@
-//! "SIZ rewrite", "Assembly".
+//! "SIZ rewrite", "Tiles kept in place", "Assembly".
 
 use super::rules::{field, has_siz, tile_area, Rule, ORIGIN, SIZE, TILE, TILE_ORIGIN};
 use super::{read, Range, Refusal};
@@ -15,16 +15,25 @@ pub fn rewrite_siz_for_tile(
     }
     let [x0, y0, x1, y1] = tile_area(&header, isot, rule)?;
     let (width, height) = (x1 - x0, y1 - y0);
-    if [width, height].map(u64::from) != [field(&header, TILE), field(&header, TILE + 4)] {
-        for (at, x, y) in [
+    let full = [width, height].map(u64::from) == [field(&header, TILE), field(&header, TILE + 4)];
+    let written = match rule {
+        Rule::InPlace => [
+            (SIZE, x1, y1),
+            (ORIGIN, x0, y0),
+            (TILE, width, height),
+            (TILE_ORIGIN, x0, y0),
+        ],
+        Rule::AnnexB | Rule::Original if full => return Ok(header),
+        Rule::AnnexB | Rule::Original => [
             (SIZE, width, height),
             (ORIGIN, 0, 0),
             (TILE, width, height),
             (TILE_ORIGIN, 0, 0),
-        ] {
-            header[at..at + 4].copy_from_slice(&x.to_be_bytes());
-            header[at + 4..at + 8].copy_from_slice(&y.to_be_bytes());
-        }
+        ],
+    };
+    for (at, x, y) in written {
+        header[at..at + 4].copy_from_slice(&x.to_be_bytes());
+        header[at + 4..at + 8].copy_from_slice(&y.to_be_bytes());
     }
     Ok(header)
 }
@@ -82,5 +91,33 @@ fn isot(part: &[u8]) -> Option<u16> {
     match read(part, 0, 2) == Some(SOT.into()) {
         true => read(part, 4, 2).map(|isot| isot as u16),
         false => None,
+    }
+}
+
+#[cfg(test)]
+mod tests {
+    use super::rewrite_siz_for_tile;
+    use crate::model::rules::Rule;
+    use crate::sample::sizes::{header, Fields, MOVED};
+
+    /// Each by hand, of a grid of 5 columns and 3 rows.
+    #[test]
+    fn a_header_by_each_rule() {
+        let by = |isot, rule| rewrite_siz_for_tile(&header(MOVED), isot, rule);
+        let says = |fields: Fields| Ok(header(fields));
+        assert_eq!(by(0, Rule::AnnexB), says([2, 3, 0, 0, 2, 3, 0, 0]));
+        assert_eq!(by(0, Rule::InPlace), says([9, 8, 7, 5, 2, 3, 7, 5]));
+        assert_eq!(by(0, Rule::Original), says(MOVED));
+        // of full size
+        assert_eq!(by(6, Rule::AnnexB), says(MOVED));
+        assert_eq!(by(6, Rule::InPlace), says([13, 14, 9, 8, 4, 6, 9, 8]));
+        for rule in [Rule::AnnexB, Rule::InPlace] {
+            assert_eq!(by(15, rule).map_err(|refusal| refusal.number), Err(31));
+        }
+        let cut = &header(MOVED)[..39];
+        assert_eq!(
+            rewrite_siz_for_tile(cut, 15, Rule::InPlace).as_deref(),
+            Ok(cut)
+        );
     }
 }

@@ -200,6 +200,20 @@ pub fn every_side(values: &[u32]) -> Vec<Fields> {
     all
 }
 
+/// Each of some values as width and height of the image and of its tiles, all from 0 on.
+pub fn every_size(values: &[u32]) -> Vec<Fields> {
+    let mut all = Vec::new();
+    for &width in values {
+        for &height in values {
+            for &tile_width in values {
+                let fields = |&down| [width, height, 0, 0, tile_width, down, 0, 0];
+                all.extend(values.iter().map(fields));
+            }
+        }
+    }
+    all
+}
+
 /// Grids of tiles of 1 by 1 whose number passes 16 or 32 bits by little or not at all, or is close
 /// to as large as it can be.
 pub fn crowded() -> Vec<Fields> {
@@ -265,8 +279,8 @@ fn around(fields: Fields, edges: &[u32]) -> Vec<Fields> {
 
 /// A number that means Annex B's rule: its own, or one that means nothing else.
 pub fn annex_b_number(random: &mut Random) -> u32 {
-    let unknown = (random.number() as u32).max(2);
-    random.pick(&[0, 0, 2, 7, u32::MAX, unknown])
+    let unknown = (random.number() as u32).max(3);
+    random.pick(&[0, 0, 3, 7, u32::MAX, unknown])
 }
 
 #[cfg(test)]
@@ -362,10 +376,10 @@ mod tests {
     }
 
     #[test]
-    fn no_number_of_annex_b_is_the_originals() {
+    fn no_number_of_annex_b_is_another_rules() {
         let mut random = Random::new(5);
         let numbers: Vec<_> = (0..1_000).map(|_| annex_b_number(&mut random)).collect();
-        assert!([0, 2, 7, u32::MAX]
+        assert!([0, 3, 7, u32::MAX]
             .iter()
             .all(|number| numbers.contains(number)));
         assert!(numbers

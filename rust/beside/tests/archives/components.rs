@@ -23,10 +23,10 @@ fn image(codestream: &[u8]) -> (u32, [u64; 5]) {
     left(|values| host::read_components(codestream, values))
 }
 
-/// Without a rule, by Annex B's number, and by those that mean no other.
+/// Without a rule, by Annex B's number, by those that mean no other, and in place.
 fn in_tile(codestream: &[u8], tile: u16) -> (u32, [u64; 5]) {
     let plain = left(|values| host::read_components_in_tile(codestream, tile, values));
-    for rule in [host::ANNEX_B, 2, 7, u32::MAX] {
+    for rule in [host::ANNEX_B, 3, 7, u32::MAX, host::IN_PLACE] {
         assert_eq!(in_tile_by(codestream, tile, rule), plain, "{rule}");
     }
     plain
@@ -159,7 +159,7 @@ fn one_component() {
     assert_eq!(found, (0, [12, 1, 2, 3, 3, 1, 5, 2]));
     let by =
         |tile, rule| left(|values| host::component_in_tile_by_rule(&three, tile, rule, 1, values));
-    for rule in [host::ANNEX_B, 2, 7, u32::MAX] {
+    for rule in [host::ANNEX_B, 3, 7, u32::MAX, host::IN_PLACE] {
         assert_eq!(by(1, rule), found);
     }
     assert_eq!(by(1, host::ORIGINAL), (0, [12, 1, 2, 3, 4, 1, 5, 2]));

@@ -1,6 +1,6 @@
-//! "SIZ rewrite", "Assembly".
+//! "SIZ rewrite", "Tiles kept in place", "Assembly".
 
-use beside::model::{rows, Entry, Refusal};
+use beside::model::{rows, Area, Entry, Refusal};
 use beside::sample::sample_a;
 use beside::sample::sizes::{crowded, grid, header, Fields, MOVED, SAMPLE_A};
 use beside::sample::tiles::joined;
@@ -20,23 +20,26 @@ fn rewritten(decode_header: &[u8], isot: u16, room: usize) -> Result<Vec<u8>, Re
     })
 }
 
-/// By the original's rule.
-fn rewritten_by_original(decode_header: &[u8], isot: u16) -> Result<Vec<u8>, Refusal> {
+fn rewritten_by(rule: u32, decode_header: &[u8], isot: u16) -> Result<Vec<u8>, Refusal> {
     written(ROOM, 1, |out, value| {
-        let rule = host::ORIGINAL;
         host::rewrite_siz_for_tile_by_rule(decode_header, isot, rule, out, value)
     })
+}
+
+fn rewritten_by_original(decode_header: &[u8], isot: u16) -> Result<Vec<u8>, Refusal> {
+    rewritten_by(host::ORIGINAL, decode_header, isot)
+}
+
+fn rewritten_in_place(fields: Fields, isot: u16) -> Result<Vec<u8>, Refusal> {
+    rewritten_by(host::IN_PLACE, &header(fields), isot)
 }
 
 /// By Annex B's: the same without a rule, by its number, and by those that mean no other.
 fn rewritten_by_annex_b(fields: Fields, isot: u16) -> Result<Vec<u8>, Refusal> {
     let decode_header = header(fields);
     let plain = rewritten(&decode_header, isot, ROOM);
-    for rule in [host::ANNEX_B, 2, 7, u32::MAX] {
-        let numbered = written(ROOM, 1, |out, value| {
-            host::rewrite_siz_for_tile_by_rule(&decode_header, isot, rule, out, value)
-        });
-        assert_eq!(numbered, plain, "{rule}");
+    for rule in [host::ANNEX_B, 3, 7, u32::MAX] {
+        assert_eq!(rewritten_by(rule, &decode_header, isot), plain, "{rule}");
     }
     plain
 }
@@ -66,6 +69,11 @@ fn refused(number: u32) -> Result<Vec<u8>, Refusal> {
 /// Of a tile that is cut to this size.
 fn alone(width: u32, height: u32) -> Result<Vec<u8>, Refusal> {
     Ok(header([width, height, 0, 0, width, height, 0, 0]))
+}
+
+/// Of a tile that stays where it lies.
+fn kept([x0, y0, x1, y1]: Area) -> Result<Vec<u8>, Refusal> {
+    Ok(header([x1, y1, x0, y0, x1 - x0, y1 - y0, x0, y0]))
 }
 
 #[test]
@@ -171,6 +179,44 @@ fn tiles_where_the_origins_differ() {
     assert_eq!(rewritten_by_original(&header(MOVED), 12), refused(10));
 }
 
+/// Of every size, full size too, which is written as well.
+#[test]
+fn tiles_kept_in_place() {
+    assert_eq!(rewritten_in_place(SAMPLE_A, 0), kept([0, 0, 4, 4]));
+    assert_eq!(rewritten_in_place(SAMPLE_A, 5), kept([8, 4, 10, 6]));
+    for (isot, area) in [
+        (0, [7, 5, 9, 8]),
+        (1, [9, 5, 13, 8]),
+        (5, [7, 8, 9, 14]),
+        (6, [9, 8, 13, 14]),
+        (14, [21, 14, 23, 17]),
+    ] {
+        assert_eq!(rewritten_in_place(MOVED, isot), kept(area));
+        // again, for the only tile that there is
+        let alone = kept(area).unwrap();
+        assert_eq!(rewritten_by(host::IN_PLACE, &alone, 0), kept(area));
+        assert_eq!(rewritten_by(host::IN_PLACE, &alone, 1), refused(31));
+    }
+    for isot in [15, 65_535] {
+        assert_eq!(rewritten_in_place(MOVED, isot), refused(31));
+    }
+    // the tile origin past the image origin, whatever the tile
+    let no_grid = [23, 17, 7, 5, 4, 6, 8, 2];
+    for isot in [0, 65_535] {
+        assert_eq!(rewritten_in_place(no_grid, isot), refused(30));
+    }
+    // the largest numbers: the first tile ends past 2^32
+    const MOST: u32 = u32::MAX;
+    let largest = [MOST, MOST, MOST - 1, 0, MOST, MOST, MOST - 1, 0];
+    assert_eq!(
+        rewritten_in_place(largest, 0),
+        kept([MOST - 1, 0, MOST, MOST])
+    );
+    // a small image is the tile from 0, 0 on, which moves nothing
+    let small = [3, 2, 0, 0, 4, 4, 0, 0];
+    assert_eq!(rewritten_in_place(small, 0), alone(3, 2));
+}
+
 /// Full in one direction is not full.
 #[test]
 fn a_tile_is_full_in_both_directions() {
@@ -227,7 +273,7 @@ fn the_assembly_by_a_rule() {
         })
     };
     let front = |rule: u32| by(rule).map(|built| built[..45].to_vec());
-    for rule in [host::ANNEX_B, 2, 7, u32::MAX] {
+    for rule in [host::ANNEX_B, 3, 7, u32::MAX] {
         assert_eq!(front(rule), alone(2, 6));
         assert_eq!(
             by(rule),
@@ -235,6 +281,10 @@ fn the_assembly_by_a_rule() {
         );
     }
     assert_eq!(front(host::ORIGINAL), Ok(header(MOVED)));
+    assert_eq!(front(host::IN_PLACE), kept([7, 8, 9, 14]));
+    // all behind the header is the same
+    let behind = |rule| by(rule).map(|built| built[45..].to_vec());
+    assert_eq!(behind(host::IN_PLACE), behind(host::ANNEX_B));
 }
 
 #[test]
@@ -246,8 +296,11 @@ fn a_header_without_siz_is_copied() {
     no_siz[3] = 0x52;
     for other in [&sample_a()[..39], &zeros[..39], &no_siz, &[0; 60]] {
         assert_eq!(rewritten(other, 5, ROOM).unwrap(), other);
-        assert_eq!(rewritten_by_original(other, 5).unwrap(), other);
+        for rule in [host::ORIGINAL, host::IN_PLACE] {
+            assert_eq!(rewritten_by(rule, other, 5).unwrap(), other);
+        }
     }
+    assert_eq!(rewritten_by(host::IN_PLACE, &zeros[..40], 5), refused(30));
     let nothing = built(&[1, 2], &[], &[], ROOM);
     assert_eq!(nothing.unwrap(), [1, 2, 0xFF, 0xD9]);
 }
@@ -291,4 +344,11 @@ fn output_one_short_is_left_alone() {
     assert_eq!(short, Err(Refusal::new(17, 63)));
     let short = rewritten(&sample[..45], 5, 44);
     assert_eq!(short, Err(Refusal::new(17, 45)));
+    for (isot, refusal) in [(5, Refusal::new(17, 45)), (6, Refusal::new(31, 2))] {
+        let short = written(44, 1, |out, value| {
+            let rule = host::IN_PLACE;
+            host::rewrite_siz_for_tile_by_rule(&sample[..45], isot, rule, out, value)
+        });
+        assert_eq!(short, Err(refusal));
+    }
 }

@@ -207,10 +207,10 @@ fn rewrite_by_rule(calls: &mut Calls) {
     });
 }
 
-/// The original's half the time.
+/// Each as often as the others.
 fn rule(random: &mut Random) -> u32 {
     let by_annex_b = sizes::annex_b_number(random);
-    random.pick(&[host::ORIGINAL, by_annex_b])
+    random.pick(&[host::ORIGINAL, host::IN_PLACE, by_annex_b])
 }
 
 /// Header, rows and codestream, and room for what is built of them, or about that.

@@ -1,6 +1,7 @@
-//! The replay list's cases of kinds 6 and 14; the payload is the header's length in 4 bytes, the
+//! The replay list's cases of kinds 6, 14 and 16; the payload is the header's length in 4 bytes, the
 //! header, the number of rows in 2 bytes, the rows, and the codestream. Those of 14 are answered by
-//! Annex B's rule, of which the original has none: the answers are the model's.
+//! Annex B's rule and those of 16 in place, of which the original has none: the answers are the
+//! model's.
 
 use original::markers::build_minimal_codestream as original;
 
@@ -36,16 +37,25 @@ pub const KIND_OF_ANNEX_B: Kind = Kind {
     name: wanted::ASSEMBLY.name,
     minimum: 300,
     payloads: |random| inputs_of_annex_b(random).iter().map(framed).collect(),
-    answer: |payload| {
-        let Input {
-            header,
-            ranges,
-            codestream,
-        } = read(payload);
-        let built = build_minimal_codestream(&header, &ranges, &codestream, Rule::AnnexB, ROOM);
-        Some(format!("assembly-b{}", written(built)))
-    },
+    answer: |payload| Some(format!("assembly-b{}", by(Rule::AnnexB, payload))),
 };
+
+pub const KIND_IN_PLACE: Kind = Kind {
+    number: 16,
+    name: wanted::ASSEMBLY_IN_PLACE.name,
+    answer: |payload| Some(format!("assembly-p{}", by(Rule::InPlace, payload))),
+    ..KIND_OF_ANNEX_B
+};
+
+fn by(rule: Rule, payload: &[u8]) -> String {
+    let Input {
+        header,
+        ranges,
+        codestream,
+    } = read(payload);
+    let built = build_minimal_codestream(&header, &ranges, &codestream, rule, ROOM);
+    written(built)
+}
 
 fn framed(input: &Input) -> Vec<u8> {
     [

@@ -1,6 +1,6 @@
 //! The comparison: bytes written, refusals, and the output beyond. By the original's rule beside
-//! the original, and by Annex B's beside the model, and beside the original where the rules have to
-//! agree.
+//! the original, and by Annex B's and in place beside the model, and beside the original where the
+//! rules have to agree.
 
 use original::markers;
 use probe::host;
@@ -36,6 +36,7 @@ pub const COMPARISON: Comparison<Original> = Comparison {
     also: &[
         wanted::ASSEMBLY,
         wanted::ASSEMBLY_BY_ANNEX_B,
+        wanted::ASSEMBLY_IN_PLACE,
         wanted::FROM_PARTS_BY_ORIGINAL,
         wanted::FROM_PARTS,
     ],
@@ -118,10 +119,14 @@ fn check_with(run: &mut Run, input: &Input, size: usize) {
         });
     };
     judge(&mut run.tally, Some(host::ORIGINAL), told, original);
-    let standard = document(Rule::AnnexB);
+    let [standard, in_place] = [Rule::AnnexB, Rule::InPlace].map(document);
+    // it speaks for a tile in place where that is to be the one that is moved
+    let told_in_place = agreed.clone().only_if(in_place == standard);
     judge(&mut run.also[0], None, agreed.clone(), standard.clone());
     let number = annex_b_number(&mut run.random);
     judge(&mut run.also[1], Some(number), agreed, standard);
+    let number = Some(host::IN_PLACE);
+    judge(&mut run.also[2], number, told_in_place, in_place);
 }
 
 /// Sizes needed that pass 2^32 and 2^33, and parts that lie past 2^32, in 5 GB of zeros. For a size
@@ -164,6 +169,7 @@ fn past_4_gigabytes(run: &mut Run) {
         judge(&mut run.tally, Some(host::ORIGINAL), SAMPLE_A);
         judge(&mut run.also[0], None, MOVED);
         judge(&mut run.also[1], Some(host::ANNEX_B), MOVED);
+        judge(&mut run.also[2], Some(host::IN_PLACE), MOVED);
     }
 }
 

@@ -36,6 +36,6 @@ pub fn check(run: &mut Run, input: &Input) {
             format!("header {}, parts {parts:?}, rule {rule:?}", hex(header))
         });
     };
-    judge(&mut run.also[2], Some(host::ORIGINAL), told, original);
-    judge(&mut run.also[3], None, agreed, document(Rule::AnnexB));
+    judge(&mut run.also[3], Some(host::ORIGINAL), told, original);
+    judge(&mut run.also[4], None, agreed, document(Rule::AnnexB));
 }

@@ -1,6 +1,7 @@
 //! The comparison: every number of all seven functions, refusals, and what has to stay as it was.
-//! In a tile by the original's rule, and by Annex B's, of which the original says something where
-//! the rules have to agree.
+//! In a tile by the original's rule, and by Annex B's and in place, of which the original says
+//! something where the rules have to agree. And each component of a tile that is cut out in place is
+//! what it is in the whole.
 
 use std::fmt::{self, Display};
 
@@ -10,6 +11,7 @@ use super::cases::{asked, Asked};
 use super::told::{self, Original, ORIGINAL};
 use super::{counted, numbers};
 use crate::compare::{self, Comparison};
+use crate::functions::rewrite::written;
 use crate::judge::{Case, Leaves, Told};
 use crate::lent::Lent;
 use crate::model::components::{
@@ -40,11 +42,14 @@ pub const COMPARISON: Comparison<Original> = Comparison {
         wanted::READ_COMPONENTS_BY_ORIGINAL,
         wanted::READ_COMPONENTS_IN_TILE,
         wanted::READ_COMPONENTS_BY_ANNEX_B,
+        wanted::READ_COMPONENTS_IN_PLACE,
         wanted::COMPONENT,
         wanted::COMPONENT_BY_ORIGINAL,
         wanted::COMPONENT_IN_TILE,
         wanted::COMPONENT_BY_ANNEX_B,
+        wanted::COMPONENT_IN_PLACE,
         wanted::COMPONENT_WITHIN,
+        wanted::COMPONENT_KEPT,
     ],
     minimum: 1_000_000,
     original: ORIGINAL,
@@ -54,9 +59,13 @@ pub const COMPARISON: Comparison<Original> = Comparison {
 
 /// Where the tallies of functions stand among the others; those in a tile from there on, by rule.
 const READ_IN_TILE: usize = 0;
-const ONE: usize = 3;
-const ONE_IN_TILE: usize = 4;
-const ONE_WITHIN: usize = 7;
+const ONE: usize = 4;
+const ONE_IN_TILE: usize = 5;
+const ONE_WITHIN: usize = 9;
+const ONE_KEPT: usize = 10;
+
+/// In bytes: of more nothing is cut out, as that would be copied.
+const LONGEST_KEPT: usize = 1 << 20;
 
 fn fixed(run: &mut Run) {
     run.each(asked, |run, asked| {
@@ -81,10 +90,7 @@ impl Leaves<8, 0> for Option<[u64; 8]> {
     fn leave(&self, before: Lent<8, 0>) -> Lent<8, 0> {
         match self {
             Some(numbers) => numbers.leave(before),
-            None => Lent {
-                status: NO_SUCH_COMPONENT,
-                ..before
-            },
+            None => before.none(NO_SUCH_COMPONENT),
         }
     }
 }
@@ -130,10 +136,43 @@ pub fn check_with(run: &mut Run, codestream: &[u8], tile: u16, which: &[u64]) {
         // It never refuses: where the others do the original says nothing.
         let told = image.map_or(Told::Nothing, |_| told);
         let any = any_area(&mut run.random);
-        let [by_original, by_annex_b, _] = tiles.map(|tile| tile.document);
+        let [by_original, by_annex_b, ..] = tiles.map(|tile| tile.document);
         let read = [image, by_original, by_annex_b].into_iter().flatten();
         for area in read.map(|(_, area)| area).chain([any]) {
             asked.within(run, area, told);
+        }
+    }
+    kept(run, codestream, tile, which);
+}
+
+/// The law of a tile alone: in tile 0 of its own header, and in the image, each component is what the
+/// archive says that it is in the tile of the whole.
+fn kept(run: &mut Run, codestream: &[u8], tile: u16, which: &[u64]) {
+    if codestream.len() > LONGEST_KEPT {
+        return;
+    }
+    let Some(alone) = written(codestream, tile, host::IN_PLACE) else {
+        return;
+    };
+    for &number in which {
+        let found = |call: &dyn Fn(&mut [u64; 8]) -> u32| {
+            let mut numbers = [0; 8];
+            (call(&mut numbers), numbers)
+        };
+        let whole = found(&|numbers| host::component_in_tile(codestream, tile, number, numbers));
+        let label = match whole.0 {
+            0 => ACCEPTED,
+            NO_SUCH_COMPONENT => NONE,
+            _ => continue,
+        };
+        for alone in [
+            found(&|numbers| host::component_in_tile(&alone, 0, number, numbers)),
+            found(&|numbers| host::component(&alone, number, numbers)),
+        ] {
+            let tally = &mut run.also[ONE_KEPT];
+            tally.compare_by_the_document(label, &alone, &whole, || {
+                format!("{}, tile {tile}", One { codestream, number })
+            });
         }
     }
 }
@@ -149,14 +188,14 @@ struct Tile {
 }
 
 /// In the order of the tallies. Where the image is refused no rule counts, and elsewhere the
-/// original speaks for Annex B's where that has to agree with its own.
+/// original speaks for Annex B's, and for it in place, where that has to agree with its own.
 fn by_rules(
     run: &mut Run,
     codestream: &[u8],
     index: u16,
     image: &Result<Components, Refusal>,
     told: Told<Size>,
-) -> [Tile; 3] {
+) -> [Tile; 4] {
     let tile = |rule, told| Tile {
         index,
         rule,
@@ -171,7 +210,9 @@ fn by_rules(
     let speaks = image.is_err() || have_to_agree(codestream);
     let told = by_original.told.only_if(speaks);
     let number = annex_b_number(&mut run.random);
-    [by_original, tile(None, told), tile(Some(number), told)]
+    let [standard, numbered, in_place] =
+        [None, Some(number), Some(host::IN_PLACE)].map(|rule| tile(rule, told));
+    [by_original, standard, numbered, in_place]
 }
 
 fn rule_of(number: Option<u32>) -> Rule {

@@ -103,7 +103,7 @@ mod tests {
     fn holds(original: Original) -> bool {
         let comparison = Comparison {
             wanted: ANY,
-            also: &[ANY; 8],
+            also: &[ANY; 11],
             minimum: 1,
             original,
             fixed: |run| {

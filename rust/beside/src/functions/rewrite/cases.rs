@@ -1,6 +1,6 @@
-//! The replay list's cases of kinds 5 and 13; the payload is the tile's index in 2 bytes, and the
-//! header. Those of 13 are answered by Annex B's rule, of which the original has none: the answers
-//! are the model's.
+//! The replay list's cases of kinds 5, 13 and 15; the payload is the tile's index in 2 bytes, and the
+//! header. Those of 13 are answered by Annex B's rule and those of 15 in place, of which the original
+//! has none: the answers are the model's.
 
 use original::markers::rewrite_siz_for_tile as original;
 
@@ -32,12 +32,20 @@ pub const KIND_OF_ANNEX_B: Kind = Kind {
     name: wanted::REWRITE.name,
     minimum: 300,
     payloads: |random| inputs_of_annex_b(random).iter().map(framed).collect(),
-    answer: |payload| {
-        let (isot, header) = read(payload);
-        let rewritten = rewrite_siz_for_tile(header, isot, Rule::AnnexB);
-        Some(format!("rewrite-b{}", written(rewritten)))
-    },
+    answer: |payload| Some(format!("rewrite-b{}", by(Rule::AnnexB, payload))),
 };
+
+pub const KIND_IN_PLACE: Kind = Kind {
+    number: 15,
+    name: wanted::REWRITE_IN_PLACE.name,
+    answer: |payload| Some(format!("rewrite-p{}", by(Rule::InPlace, payload))),
+    ..KIND_OF_ANNEX_B
+};
+
+fn by(rule: Rule, payload: &[u8]) -> String {
+    let (isot, header) = read(payload);
+    written(rewrite_siz_for_tile(header, isot, rule))
+}
 
 /// A header and an index.
 type Input = (Vec<u8>, u16);
