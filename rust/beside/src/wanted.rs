@@ -38,6 +38,24 @@ pub const HEADER_RECORDS: Wanted = Wanted {
     ..HEADER
 };
 
+/// Of a marker that isn't there.
+pub const NO_MARKER: &str = "no such marker";
+/// The original says what is refused, and of TLM and SIZ whether they are there.
+pub const FIND_MARKER: Wanted = Wanted {
+    name: "find_marker",
+    answers: &[
+        (ACCEPTED, 25_000),
+        (NO_MARKER, 3_000),
+        ("refused 1", 30_000),
+        ("refused 2", 30_000),
+        ("refused 3", 400_000),
+        ("refused 4", 15_000),
+        ("refused 5", 40_000),
+        ("refused 6", 25_000),
+        (TOO_LONG, 0),
+    ],
+};
+
 pub const SCAN: Wanted = Wanted {
     name: "scan_sot_markers",
     answers: &[

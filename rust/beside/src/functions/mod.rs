@@ -6,6 +6,7 @@ mod entries;
 mod extent;
 mod growth;
 mod header;
+mod marker;
 mod part;
 mod pixel;
 mod plain;
@@ -24,6 +25,7 @@ use crate::compare::Compared;
 pub const COMPARISONS: &[&dyn Compared] = &[
     &extent::COMPARISON,
     &header::COMPARISON,
+    &marker::COMPARISON,
     &scan::COMPARISON,
     &split::COMPARISON,
     &rewrite::COMPARISON,
@@ -70,4 +72,5 @@ pub const KINDS: &[Kind] = &[
     assembly::KIND_OF_ANNEX_B,
     rewrite::KIND_IN_PLACE,
     assembly::KIND_IN_PLACE,
+    marker::KIND,
 ];

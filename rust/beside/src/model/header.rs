@@ -1,4 +1,6 @@
-//! "Header walk", "Header extent", "TLM", "Decode header".
+//! "Header walk", "Header extent", "TLM", "Decode header", "Markers in the header".
+
+use std::iter;
 
 use super::{number, read, Entry, Refusal};
 use crate::sample::codestream::{SIZ, SOC, SOT, TLM};
@@ -70,6 +72,28 @@ pub fn needed(codestream: &[u8]) -> (usize, usize) {
     }
 }
 
+/// What is answered in place of a marker that isn't there, as it is no refusal.
+pub const NO_SUCH_MARKER: u32 = 257;
+
+/// Where the first marker of this code stands; nothing where there is none.
+pub fn find_marker(codestream: &[u8], marker: u16) -> Result<Option<u64>, Refusal> {
+    parse_main_header(codestream)?;
+    let found = markers(codestream).find(|&(_, here)| here == marker);
+    Ok(found.map(|(at, _)| at))
+}
+
+/// The places at which the steps from 2 on stand, and their markers: up to the first SOT, or to
+/// where one is cut short.
+pub fn markers(codestream: &[u8]) -> impl Iterator<Item = (u64, u16)> + '_ {
+    let stands = |at| {
+        let marker = read(codestream, at, 2)? as u16;
+        (marker != SOT).then_some((at, marker))
+    };
+    iter::successors(stands(2), move |&(at, marker)| {
+        stands(step(codestream, marker.into(), at)?)
+    })
+}
+
 /// The first SOT, if the walk comes to it.
 pub fn main_header_extent(prefix: &[u8]) -> Option<u64> {
     if prefix.len() < 4 || read(prefix, 0, 2)? != SOC.into() {
@@ -124,4 +148,49 @@ fn placed(first_sot: u64, listed: Vec<(u16, u64)>) -> Vec<Entry> {
         entry
     };
     listed.into_iter().map(place).collect()
+}
+
+#[cfg(test)]
+mod tests {
+    use super::{find_marker, markers};
+    use crate::model::Refusal;
+    use crate::sample::codestream::{Codestream, COM, EPH, PPM, SIZ, SOC, SOT, TLM};
+    use crate::sample::{opened, sample_a};
+
+    /// In a header that is accepted.
+    fn place(codestream: &[u8], marker: u16) -> Option<u64> {
+        find_marker(codestream, marker).expect("accepted")
+    }
+
+    /// Each by hand.
+    #[test]
+    fn where_the_walk_stands() {
+        let sample = sample_a();
+        assert!(markers(&sample).eq([(2, SIZ), (45, TLM)]));
+        assert_eq!(place(&sample, SIZ), Some(2));
+        assert_eq!(place(&sample, TLM), Some(45));
+        for marker in [SOC, SOT, PPM, TLM & 0xFF, 0xFF00] {
+            assert_eq!(place(&sample, marker), None);
+        }
+        // a comment that holds PPM and SOT, a delimiter, PPM of length 0, and what its length field is
+        let mut built: Codestream = opened();
+        built.segment(COM, &[0xFF, 0x60, 0xFF, 0x90]).marker(EPH);
+        built.segment_saying(PPM, 0, &[0, 2]).marker(SOT);
+        assert!(markers(&built.bytes).eq([(2, SIZ), (6, COM), (14, EPH), (16, PPM), (18, 0)]));
+        assert_eq!(place(&built.bytes, PPM), Some(16));
+        assert_eq!(place(&built.bytes, 0), Some(18));
+        assert_eq!(place(&built.bytes, 0x0060), None);
+    }
+
+    /// Wherever the marker stands.
+    #[test]
+    fn what_the_walk_refuses_is_refused() {
+        let refused = |codestream: &[u8]| find_marker(codestream, PPM).unwrap_err();
+        let mut built = opened();
+        built.segment(PPM, &[]);
+        assert_eq!(refused(&built.bytes), Refusal::new(6, 10));
+        built.segment(TLM, &[0]);
+        assert_eq!(refused(&built.bytes), Refusal::new(4, 10));
+        assert_eq!(refused(&built.bytes[..13]), Refusal::new(3, 10));
+    }
 }

@@ -6,10 +6,13 @@ pub const SIZ: u16 = 0xFF51;
 pub const COD: u16 = 0xFF52;
 pub const COC: u16 = 0xFF53;
 pub const TLM: u16 = 0xFF55;
+pub const PLM: u16 = 0xFF57;
 pub const QCD: u16 = 0xFF5C;
+pub const PPM: u16 = 0xFF60;
 pub const COM: u16 = 0xFF64;
 pub const SOT: u16 = 0xFF90;
 pub const EPH: u16 = 0xFF92;
+pub const SOD: u16 = 0xFF93;
 pub const EOC: u16 = 0xFFD9;
 
 /// A SIZ segment with components of 8 bits, unsigned, not subsampled.

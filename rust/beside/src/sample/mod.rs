@@ -5,6 +5,7 @@ pub mod codestream;
 pub mod components;
 pub mod damage;
 pub mod headers;
+pub mod markers;
 pub mod parts;
 pub mod short;
 pub mod sizes;

@@ -1,7 +1,9 @@
-//! "Header walk", "TLM", "Decode header"; and the same with records.
+//! "Header walk", "TLM", "Decode header", "Markers in the header"; and the same with records.
 
+use beside::model::header::NO_SUCH_MARKER;
 use beside::model::rows;
-use beside::sample::codestream::{Codestream, Tlm, SOT, TLM};
+use beside::sample::codestream::{Codestream, Tlm, COM, EOC, EPH, PPM, SIZ, SOC, SOD, SOT, TLM};
+use beside::sample::tlms::STLM;
 use beside::sample::{opened, sample_a};
 use probe::{host, TilePartEntry};
 
@@ -107,4 +109,73 @@ fn sample_a_s_entries_as_records() {
     let status = probe::header_records(&sample, &mut table, &mut out, &mut values);
     assert_eq!((status, values), (18, [2, 7, 7]));
     assert_eq!((table, out), ([untouched; 1], [0xEE; 45]));
+}
+
+/// The answer, and the number lent as it stands after it.
+fn found(codestream: &[u8], marker: u16) -> (u32, u64) {
+    let mut value = 7;
+    (host::find_marker(codestream, marker, &mut value), value)
+}
+
+const NONE: (u32, u64) = (NO_SUCH_MARKER, 7);
+
+#[test]
+fn the_status_of_no_marker_is_257() {
+    assert_eq!(NO_SUCH_MARKER, 257);
+    assert_eq!(host::NO_SUCH_MARKER, NO_SUCH_MARKER);
+}
+
+#[test]
+fn sample_a_s_markers() {
+    let sample = sample_a();
+    assert_eq!(found(&sample, SIZ), (0, 2));
+    assert_eq!(found(&sample, TLM), (0, 45));
+    for marker in [SOC, SOT, SOD, EOC, PPM, TLM ^ 1, TLM ^ 0x0100, TLM & 0xFF] {
+        assert_eq!(found(&sample, marker), NONE, "{marker:04X}");
+    }
+    // SIZ's own length, and Ltlm with Ztlm, at which the walk does not stand
+    for at in [4, 5, 47, 48] {
+        let inside = u16::from_be_bytes([sample[at], sample[at + 1]]);
+        assert_eq!(found(&sample, inside), NONE, "{at}");
+    }
+}
+
+#[test]
+fn a_marker_counts_only_where_the_walk_stands() {
+    let mut built = opened();
+    built.segment(COM, &PPM.to_be_bytes()).marker(EPH);
+    let inside = [&built.bytes[..], &SOT.to_be_bytes(), &PPM.to_be_bytes()].concat();
+    assert_eq!(found(&inside, COM), (0, 6));
+    assert_eq!(found(&inside, EPH), (0, 12));
+    assert_eq!(found(&inside, PPM), NONE);
+    built.segment(PPM, &[1]).segment(PPM, &[2]).marker(SOT);
+    assert_eq!(found(&built.bytes, PPM), (0, 14));
+    // segments of length 0 and 1: their length field, or its second byte, is a marker's
+    let mut short = opened();
+    short.segment_saying(PPM, 0, &[0, 2]);
+    short.segment_saying(COM, 1, &[0x30]).marker(SOT);
+    for (marker, place) in [(PPM, 6), (0, 8), (COM, 12), (0x0130, 15)] {
+        assert_eq!(found(&short.bytes, marker), (0, place), "{marker:04X}");
+    }
+}
+
+/// With the marker before it or not, and whatever it is.
+#[test]
+fn what_the_main_header_refuses() {
+    let sample = sample_a();
+    let mut form = opened();
+    form.segment(PPM, &[]).segment(TLM, &[0, STLM[3]]);
+    let mut too_short = opened();
+    too_short.segment(PPM, &[]).segment(TLM, &[0]);
+    let headers = [form, too_short].map(|built| built.bytes);
+    let prefixes = (0..59).map(|end| &sample[..end]);
+    let prefixes = prefixes.chain((0..=headers[0].len()).map(|end| &headers[0][..end]));
+    for codestream in prefixes.chain([&headers[1][..]]) {
+        for marker in [SIZ, TLM, PPM, COM] {
+            assert_eq!(found(codestream, marker), refused(codestream));
+        }
+    }
+    assert_eq!(found(&headers[0], PPM), (5, 10));
+    assert_eq!(found(&headers[1], PPM), (4, 10));
+    assert_eq!(found(&sample[..59], PPM), NONE);
 }

@@ -2,11 +2,12 @@
 
 use beside::lent::{room, table};
 use beside::model::components::NO_SUCH_COMPONENT;
+use beside::model::header::NO_SUCH_MARKER;
 use beside::model::{self, Refusal};
 use beside::random::Random;
 use beside::sample::damage::damage;
-use beside::sample::{boxes, components, headers, padded, parts, sizes, tiles};
-use beside::wanted::{self, Wanted, COMPLETE, COUNT, NONE, TRUNCATED};
+use beside::sample::{boxes, components, headers, markers, padded, parts, sizes, tiles};
+use beside::wanted::{self, Wanted, COMPLETE, COUNT, NONE, NO_MARKER, TRUNCATED};
 use probe::host;
 
 use super::calls::{Calls, ROOM};
@@ -18,6 +19,7 @@ pub const FUNCTIONS: &[Function] = &[
     (wanted::EXTENT, extent),
     (wanted::HEADER, header),
     (wanted::HEADER_RECORDS, header_records),
+    (wanted::FIND_MARKER, find_marker),
     (wanted::SCAN, scan),
     (wanted::SCAN_RECORDS, scan_records),
     (wanted::SPLIT_COUNT, split_count),
@@ -99,6 +101,15 @@ fn header_records(calls: &mut Calls) {
         usual,
         |[codestream], [out], table, values| probe::header_records(codestream, table, out, values),
     );
+}
+
+fn find_marker(calls: &mut Calls) {
+    let codestream = codestream(&mut calls.random);
+    let marker = markers::code(&mut calls.random, &codestream);
+    let answer = usual_or_none;
+    calls.call([codestream], [], answer, |[codestream], [], [value]| {
+        host::find_marker(codestream, marker, value)
+    });
 }
 
 /// A codestream, a start, and room for its entries, or about that.
@@ -340,6 +351,7 @@ fn components_input(random: &mut Random) -> (Vec<u8>, u16, u64) {
 fn usual_or_none(status: u32) -> &'static str {
     match status {
         NO_SUCH_COMPONENT => NONE,
+        NO_SUCH_MARKER => NO_MARKER,
         _ => usual(status),
     }
 }

@@ -14,7 +14,7 @@ pub use compare::COMPARISON;
 pub use rows::BENCHMARK;
 
 /// The original's answer, if it accepts; a table that is absent has no entries.
-fn original(codestream: &[u8]) -> Option<Header> {
+pub fn original(codestream: &[u8]) -> Option<Header> {
     let told = markers::parse_main_header(codestream).ok()?;
     Some(Header {
         first_sot: told.first_sot_offset,
