@@ -183,6 +183,24 @@ fn tile_parts(random: &mut Random, built: &mut Codestream) {
     }
 }
 
+/// Behind what is built, `count` segments of three kinds in turn, and SOT.
+pub fn segments(mut built: Codestream, count: usize, body: &[u8]) -> Vec<u8> {
+    for code in [COD, QCD, COM].into_iter().cycle().take(count) {
+        built.segment(code, body);
+    }
+    built.marker(SOT);
+    built.bytes
+}
+
+/// The same of delimiters.
+pub fn delimiters(mut built: Codestream, count: usize) -> Vec<u8> {
+    for _ in 0..count {
+        built.marker(EPH);
+    }
+    built.marker(SOT);
+    built.bytes
+}
+
 #[cfg(test)]
 mod tests {
     use super::codestream;

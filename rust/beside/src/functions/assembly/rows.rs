@@ -1,5 +1,5 @@
 //! The benchmarks: tiles of one part and of many, by the original's rule beside the original, and
-//! by Annex B's beside plain Rust. The output that is lent is not cleared between calls; the
+//! by Annex B's and in place beside plain Rust. The output that is lent is not cleared between calls; the
 //! original allocates its own.
 
 use std::cell::RefCell;
@@ -24,7 +24,18 @@ pub const BENCHMARK: Benchmark = Benchmark {
 pub const BENCHMARK_OF_ANNEX_B: Benchmark = Benchmark {
     name: wanted::ASSEMBLY.name,
     beside: PLAIN,
-    rows: rows_of_annex_b,
+    rows: || beside_plain(|timed| timed.built(None), |timed| timed.plain(plain::moved)),
+};
+
+pub const BENCHMARK_IN_PLACE: Benchmark = Benchmark {
+    name: wanted::ASSEMBLY_IN_PLACE.name,
+    beside: PLAIN,
+    rows: || {
+        beside_plain(
+            |timed| timed.built(Some(host::IN_PLACE)),
+            |timed| timed.plain(plain::in_place),
+        )
+    },
 };
 
 struct Timed {
@@ -59,6 +70,14 @@ impl Timed {
             _ => None,
         }
     }
+
+    fn plain(&self, fields: impl plain::Fields) -> Option<u64> {
+        let Input {
+            header, codestream, ..
+        } = &self.input;
+        let mut out = self.out.borrow_mut();
+        plain::build(header, &self.rows, codestream, fields, &mut out)
+    }
 }
 
 fn ours_by_original(timed: &Timed) -> Option<u64> {
@@ -83,17 +102,6 @@ fn copied(timed: &Timed) -> Option<u64> {
     Some(out.len() as u64)
 }
 
-fn ours(timed: &Timed) -> Option<u64> {
-    timed.built(None)
-}
-
-fn plain(timed: &Timed) -> Option<u64> {
-    let Input {
-        header, codestream, ..
-    } = &timed.input;
-    plain::build(header, &timed.rows, codestream, &mut timed.out.borrow_mut())
-}
-
 fn rows() {
     for (count, size) in [
         (1, 14),
@@ -116,7 +124,7 @@ fn rows() {
     }
 }
 
-fn rows_of_annex_b() {
+fn beside_plain(ours: fn(&Timed) -> Option<u64>, plain: fn(&Timed) -> Option<u64>) {
     for (count, size) in [
         (1, 14),
         (10, 64),

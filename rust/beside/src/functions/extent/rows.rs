@@ -4,7 +4,8 @@ use original::markers::{self, MainHeaderExtent};
 use probe::host;
 
 use crate::bench::{row, Benchmark, ORIGINAL};
-use crate::sample::codestream::{Codestream, COD, COM, EPH, QCD, SOT};
+use crate::sample::codestream::Codestream;
+use crate::sample::headers::{delimiters, segments};
 use crate::sample::{padded, sample_a, SAMPLE_A_FIRST_SOT};
 use crate::wanted;
 
@@ -32,30 +33,15 @@ fn rows() {
     let measure = |name, prefix: &[u8]| row(name, prefix, ours, original);
     measure("sample A", &sample);
     measure("sample A, cut in its SOT", &sample[..=SAMPLE_A_FIRST_SOT]);
-    measure("10 segments", &segments(10, &[0; 12]));
-    measure("1,000 segments of 16 bytes", &segments(1000, &[0; 12]));
-    measure("16,000 segments of L = 2", &segments(16_000, &[]));
-    measure("30,000 delimiters", &delimiters(30_000));
+    let soc = || {
+        let mut built = Codestream::default();
+        built.soc();
+        built
+    };
+    measure("10 segments", &segments(soc(), 10, &[0; 12]));
+    let thousand = segments(soc(), 1000, &[0; 12]);
+    measure("1,000 segments of 16 bytes", &thousand);
+    measure("16,000 segments of L = 2", &segments(soc(), 16_000, &[]));
+    measure("30,000 delimiters", &delimiters(soc(), 30_000));
     measure("SOT at 1 MB, longest segments", &padded(1 << 20));
-}
-
-/// SOC, `count` segments of three kinds in turn, SOT.
-fn segments(count: usize, body: &[u8]) -> Vec<u8> {
-    let mut built = Codestream::default();
-    built.soc();
-    for code in [COD, QCD, COM].into_iter().cycle().take(count) {
-        built.segment(code, body);
-    }
-    built.marker(SOT);
-    built.bytes
-}
-
-fn delimiters(count: usize) -> Vec<u8> {
-    let mut built = Codestream::default();
-    built.soc();
-    for _ in 0..count {
-        built.marker(EPH);
-    }
-    built.marker(SOT);
-    built.bytes
 }

@@ -2,6 +2,8 @@
 
 mod cases;
 mod compare;
+mod rows;
 
 pub use cases::KIND;
 pub use compare::COMPARISON;
+pub use rows::BENCHMARK;

@@ -8,4 +8,4 @@ mod rows;
 
 pub use cases::{KIND, KIND_IN_PLACE, KIND_OF_ANNEX_B};
 pub use compare::{written, COMPARISON};
-pub use rows::{BENCHMARK, BENCHMARK_OF_ANNEX_B};
+pub use rows::{BENCHMARK, BENCHMARK_IN_PLACE, BENCHMARK_OF_ANNEX_B};

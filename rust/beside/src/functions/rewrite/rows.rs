@@ -1,12 +1,13 @@
 //! The benchmarks: tiles that are rewritten and tiles that aren't, in short and long headers, by
-//! the original's rule beside the original, and by Annex B's beside plain Rust. The output that is
-//! lent is not cleared between calls; the original allocates its own.
+//! the original's rule beside the original, and by Annex B's and in place beside plain Rust. The
+//! output that is lent is not cleared between calls; the original allocates its own.
 
 use std::cell::RefCell;
 
 use original::markers;
 use probe::host;
 
+use super::compare::rewritten;
 use crate::bench::{row, Benchmark, ORIGINAL};
 use crate::functions::plain::{self, PLAIN};
 use crate::sample::codestream::Codestream;
@@ -22,7 +23,23 @@ pub const BENCHMARK: Benchmark = Benchmark {
 pub const BENCHMARK_OF_ANNEX_B: Benchmark = Benchmark {
     name: wanted::REWRITE.name,
     beside: PLAIN,
-    rows: rows_of_annex_b,
+    rows: || {
+        beside_plain(
+            |input| input.rewritten(None),
+            |input| input.plain(plain::moved),
+        )
+    },
+};
+
+pub const BENCHMARK_IN_PLACE: Benchmark = Benchmark {
+    name: wanted::REWRITE_IN_PLACE.name,
+    beside: PLAIN,
+    rows: || {
+        beside_plain(
+            |input| input.rewritten(Some(host::IN_PLACE)),
+            |input| input.plain(plain::in_place),
+        )
+    },
 };
 
 const SIZES: [usize; 3] = [45, 4096, 1 << 20];
@@ -45,34 +62,27 @@ impl Input {
             out: vec![0; size].into(),
         }
     }
+
+    fn rewritten(&self, rule: Option<u32>) -> Option<u64> {
+        let (mut out, mut size) = (self.out.borrow_mut(), 0);
+        match rewritten(rule, &self.header, self.isot, &mut out, &mut size) {
+            0 => Some(size),
+            _ => None,
+        }
+    }
+
+    fn plain(&self, fields: impl plain::Fields) -> Option<u64> {
+        plain::rewrite(&self.header, self.isot, fields, &mut self.out.borrow_mut())
+    }
 }
 
 fn ours_by_original(input: &Input) -> Option<u64> {
-    let mut size = 0;
-    let mut out = input.out.borrow_mut();
-    let (header, isot) = (&input.header, input.isot);
-    match host::rewrite_siz_for_tile_by_rule(header, isot, host::ORIGINAL, &mut out, &mut size) {
-        0 => Some(size),
-        _ => None,
-    }
+    input.rewritten(Some(host::ORIGINAL))
 }
 
 fn theirs(input: &Input) -> Option<u64> {
     let rewritten = markers::rewrite_siz_for_tile(&input.header, input.isot);
     Some(rewritten.len() as u64)
-}
-
-fn ours(input: &Input) -> Option<u64> {
-    let mut size = 0;
-    let mut out = input.out.borrow_mut();
-    match host::rewrite_siz_for_tile(&input.header, input.isot, &mut out, &mut size) {
-        0 => Some(size),
-        _ => None,
-    }
-}
-
-fn plain(input: &Input) -> Option<u64> {
-    plain::rewrite(&input.header, input.isot, &mut input.out.borrow_mut())
 }
 
 fn rows() {
@@ -85,7 +95,7 @@ fn rows() {
     }
 }
 
-fn rows_of_annex_b() {
+fn beside_plain(ours: fn(&Input) -> Option<u64>, plain: fn(&Input) -> Option<u64>) {
     for size in SIZES {
         for (which, isot) in [("full", 6), ("at the origin", 0), ("at the edge", 14)] {
             let input = Input::new(MOVED, size, isot);
