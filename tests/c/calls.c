@@ -57,6 +57,48 @@ static void headers(const uint8_t *sample)
     CHECK(width == 2 && height == 6 && components == 1 && bits == 8 && sign == 0);
 }
 
+/* SIZ stands at 2 and TLM at 45; the first SOT, at 57, ends the search, which refuses what the main header is refused for. */
+static void markers(const uint8_t *sample)
+{
+    enum { SOC = 0xFF4F, SIZ = 0xFF51, TLM = 0xFF55, PPM = 0xFF60, SOT = 0xFF90 };
+    static const uint16_t absent[] = { SOC, PPM, SOT, TLM & 0xFF, TLM ^ 0x100 };
+    static const struct { size_t length; uint32_t refusal; uint64_t place; } cut[] = {
+        { 0, WINTERHASP_NO_SOC, 0 },
+        { 3, WINTERHASP_NO_SIZ, 2 },
+        { 44, WINTERHASP_SEGMENT_PAST_END, 2 },
+        { 45, WINTERHASP_NO_TILE_PART, 45 },
+        { 56, WINTERHASP_SEGMENT_PAST_END, 45 },
+        { 58, WINTERHASP_NO_TILE_PART, 58 },
+    };
+    uint8_t other[SAMPLE_BYTES];
+    uint64_t value = 7;
+    CHECK(winterhasp_find_marker(sample, SAMPLE_BYTES, SIZ, &value) == 0 && value == 2);
+    CHECK(winterhasp_find_marker(sample, 59, TLM, &value) == 0 && value == 45);
+    for (size_t i = 0; i < sizeof absent / sizeof *absent; i++)
+        CHECK(winterhasp_find_marker(sample, SAMPLE_BYTES, absent[i], &value) == WINTERHASP_NO_SUCH_MARKER && value == 45);
+    for (size_t i = 0; i < sizeof cut / sizeof *cut; i++) {
+        CHECK(winterhasp_find_marker(cut[i].length ? sample : NULL, cut[i].length, SIZ, &value) == cut[i].refusal);
+        CHECK(value == cut[i].place);
+    }
+
+    /* a TLM of an unknown form, and one that is too short, behind SIZ */
+    memcpy(other, sample, SAMPLE_BYTES);
+    other[50] = 0x30;
+    CHECK(winterhasp_find_marker(other, SAMPLE_BYTES, SIZ, &value) == WINTERHASP_TLM_FORM_UNKNOWN && value == 45);
+    other[48] = 3;
+    CHECK(winterhasp_find_marker(other, SAMPLE_BYTES, TLM, &value) == WINTERHASP_TLM_TOO_SHORT && value == 45);
+
+    /* PPM in the place of TLM, and then in a comment of as many bytes */
+    memcpy(other, sample, SAMPLE_BYTES);
+    other[46] = 0x60;
+    CHECK(winterhasp_find_marker(other, SAMPLE_BYTES, PPM, &value) == 0 && value == 45);
+    other[46] = 0x64;
+    other[49] = 0xFF;
+    other[50] = 0x60;
+    value = 7;
+    CHECK(winterhasp_find_marker(other, SAMPLE_BYTES, PPM, &value) == WINTERHASP_NO_SUCH_MARKER && value == 7);
+}
+
 /* The sample has one component of 10 by 6, of which tile 5 is the corner from 8, 4 on. */
 static void components(const uint8_t *sample)
 {
@@ -102,7 +144,7 @@ static void components(const uint8_t *sample)
     CHECK(count == 2 && x0 == 1);
 }
 
-/* The image from 3 and the tiles from 1 on: tile 0 is the part from 3 to 5 by the standard's rule, and to 7 by the original's. */
+/* The image from 3 and the tiles from 1 on: tile 0 is the part from 3 to 5, and by the original's rule to 7. */
 static void moved(const uint8_t *sample, uint8_t *header)
 {
     memcpy(header, sample, 45);
@@ -112,7 +154,7 @@ static void moved(const uint8_t *sample, uint8_t *header)
 
 static void components_by_rule(const uint8_t *sample)
 {
-    static const uint32_t standard[] = { WINTERHASP_RULE_ANNEX_B, 2, UINT32_MAX };
+    static const uint32_t standard[] = { WINTERHASP_RULE_ANNEX_B, WINTERHASP_RULE_IN_PLACE, 3, UINT32_MAX };
     uint8_t header[45];
     uint64_t count = 7, x0 = 7, y0 = 7, x1 = 7, y1 = 7, bits = 7, sign = 7, xrsiz = 7, yrsiz = 7;
     moved(sample, header);
@@ -220,17 +262,58 @@ static void tile(const uint8_t *sample, const uint8_t *decode_header)
     CHECK(winterhasp_big_endian(out + 49, 2) == 0 && memcmp(out + 51, sample + 77, 10) == 0);
 }
 
-/* Whether a header says that the image is a single tile of this size, from 0, 0 on. */
+/* Whether a header says that the image is a single tile of this area. */
+static int lies(const uint8_t *header, uint64_t x0, uint64_t y0, uint64_t x1, uint64_t y1)
+{
+    return winterhasp_big_endian(header + 8, 4) == x1 && winterhasp_big_endian(header + 12, 4) == y1 &&
+           winterhasp_big_endian(header + 16, 4) == x0 && winterhasp_big_endian(header + 20, 4) == y0 &&
+           winterhasp_big_endian(header + 24, 4) == x1 - x0 && winterhasp_big_endian(header + 28, 4) == y1 - y0 &&
+           winterhasp_big_endian(header + 32, 4) == x0 && winterhasp_big_endian(header + 36, 4) == y0;
+}
+
+/* The same of a size, from 0, 0 on. */
 static int says(const uint8_t *header, uint64_t width, uint64_t height)
 {
-    return winterhasp_big_endian(header + 8, 4) == width && winterhasp_big_endian(header + 12, 4) == height &&
-           winterhasp_big_endian(header + 16, 8) == 0 && winterhasp_big_endian(header + 24, 4) == width &&
-           winterhasp_big_endian(header + 28, 4) == height && winterhasp_big_endian(header + 32, 8) == 0;
+    return lies(header, 0, 0, width, height);
+}
+
+/* Tile 0 is cut off by the image, and tile 1, from 5 to 9, has full size: in place both are written. */
+static void tile_in_place(const uint8_t *sample, const uint8_t *row)
+{
+    enum { RULE = WINTERHASP_RULE_IN_PLACE };
+    uint8_t header[45], out[64];
+    uint64_t value;
+    moved(sample, header);
+    memset(out, HELD, sizeof out);
+    CHECK(winterhasp_rewrite_siz_for_tile_by_rule(header, 45, 6, RULE, NULL, 0, &value) == WINTERHASP_NO_SUCH_TILE && value == 2);
+    CHECK(winterhasp_rewrite_siz_for_tile_by_rule(header, 45, 0, RULE, out, 44, &value) == WINTERHASP_OUTPUT_TOO_SMALL);
+    CHECK(value == 45 && all_held(out, sizeof out));
+    CHECK(winterhasp_rewrite_siz_for_tile_by_rule(header, 45, 0, RULE, out, sizeof out, &value) == 0 && value == 45);
+    CHECK(lies(out, 3, 0, 5, 4) && memcmp(out + 40, header + 40, 5) == 0 && all_held(out + 45, sizeof out - 45));
+    CHECK(winterhasp_rewrite_siz_for_tile_by_rule(header, 45, 1, RULE, out, sizeof out, &value) == 0 && lies(out, 5, 0, 9, 4));
+    CHECK(winterhasp_rewrite_siz_for_tile_by_rule(header, 39, 6, RULE, out, sizeof out, &value) == 0);
+    CHECK(value == 39 && memcmp(out, header, 39) == 0);
+
+    memset(out, HELD, sizeof out);
+    CHECK(winterhasp_build_minimal_codestream_by_rule(header, 45, row, WINTERHASP_ROW_BYTES, sample, SAMPLE_BYTES, RULE, out, 60,
+                                                      &value) == WINTERHASP_OUTPUT_TOO_SMALL);
+    CHECK(value == 61 && all_held(out, sizeof out));
+    CHECK(winterhasp_build_minimal_codestream_by_rule(header, 45, row, WINTERHASP_ROW_BYTES, sample, SAMPLE_BYTES, RULE, out,
+                                                      sizeof out, &value) == 0);
+    CHECK(value == 61 && lies(out, 3, 0, 5, 4) && memcmp(out + 45, sample + FIRST_SOT, 14) == 0 && out[61] == HELD);
+
+    /* no grid: the tiles from 4 on, which is past the image's origin */
+    header[35] = 4;
+    memset(out, HELD, sizeof out);
+    CHECK(winterhasp_rewrite_siz_for_tile_by_rule(header, 45, 6, RULE, out, sizeof out, &value) == WINTERHASP_NO_GRID && value == 2);
+    CHECK(winterhasp_build_minimal_codestream_by_rule(header, 45, row, WINTERHASP_ROW_BYTES, sample, SAMPLE_BYTES, RULE, NULL, 0,
+                                                      &value) == WINTERHASP_NO_GRID);
+    CHECK(value == 2 && all_held(out, sizeof out));
 }
 
 static void tile_by_rule(const uint8_t *sample)
 {
-    static const uint32_t standard[] = { WINTERHASP_RULE_ANNEX_B, 2, UINT32_MAX };
+    static const uint32_t standard[] = { WINTERHASP_RULE_ANNEX_B, 3, UINT32_MAX };
     /* the sample's first part, which is of tile 0 */
     static const uint8_t row[WINTERHASP_ROW_BYTES] = { [9] = FIRST_SOT, [17] = 14 };
     uint8_t header[45], out[64];
@@ -268,6 +351,7 @@ static void tile_by_rule(const uint8_t *sample)
     CHECK(winterhasp_build_minimal_codestream_by_rule(header, 45, row, sizeof row, sample, SAMPLE_BYTES, WINTERHASP_RULE_ORIGINAL,
                                                       out, sizeof out, &value) == 0);
     CHECK(value == 61 && memcmp(out, header, 45) == 0);
+    tile_in_place(sample, row);
 
     /* no grid: the tiles from 4 on, which is past the image's origin */
     header[35] = 4;
@@ -285,6 +369,7 @@ int main(void)
         return EXIT_FAILURE;
     places();
     headers(sample);
+    markers(sample);
     components(sample);
     components_by_rule(sample);
     main_header(sample, decode_header);
