@@ -43,12 +43,18 @@ sample, and x1, y1 lie behind the last.";
 
 const TILE: &str = "\
 Examples:
-  winterhasp tile flight.jp2 5                writes flight.tile5.j2k
+  winterhasp tile flight.jp2 5                    writes flight.tile5.j2k
+  opj_decompress -i flight.tile5.j2k -o five.pgm  decodes it
   winterhasp tile flight.jp2 5 -o five.j2k
-  winterhasp tile flight.jp2 5 -o - | opj_decompress ..
+  winterhasp tile flight.jp2 5 -o - | sha256sum   on standard output; opj_decompress reads no pipe
   winterhasp tile flight.jp2 5 --rule original    to compare with the ported program
 
-OUT is written beside and renamed when it is whole; it is never the file that is read.";
+Rules:
+  in-place    the tile stays where it lies, with its own pixels, and a plain decode shows it alone
+  annex-b     the tile is moved to 0, 0, and may decode to other pixels: a note says where
+  original    counted from the image's origin, as the ported program does, and moved too
+OUT is written beside and renamed when it is whole; it is never the file that is read. A file whose main header holds the packet
+headers of all tiles (PPM) is refused by every rule.";
 
 const GRID: &str = "\
 Examples:
@@ -123,15 +129,16 @@ pub struct Tile {
     /// current folder]
     #[arg(short, long, value_name = "OUT")]
     pub out: Option<PathBuf>,
-    /// annex-b counts tiles from the tiles' origin, as the standard does. original counts them from the
-    /// image's origin, as the ported program does
+    /// Where the tile lies once it is cut out
     #[arg(long, value_enum, default_value_t)]
     pub rule: Rule,
 }
 
+/// The default is not the library's, which is Annex B's: who cuts out a tile wants its pixels.
 #[derive(Clone, Copy, Default, ValueEnum)]
 pub enum Rule {
     #[default]
+    InPlace,
     AnnexB,
     Original,
 }
@@ -139,6 +146,7 @@ pub enum Rule {
 impl From<Rule> for winterhasp::Rule {
     fn from(rule: Rule) -> Self {
         match rule {
+            Rule::InPlace => winterhasp::Rule::InPlace,
             Rule::AnnexB => winterhasp::Rule::AnnexB,
             Rule::Original => winterhasp::Rule::Original,
         }
@@ -185,11 +193,17 @@ mod tests {
     }
 
     #[test]
-    fn the_standards_rule_is_the_default() {
-        assert_eq!(rule(&[]), Some(winterhasp::Rule::default()));
+    fn a_tile_stays_in_place_by_default() {
+        let in_place = Some(winterhasp::Rule::InPlace);
+        assert_eq!(rule(&[]), in_place);
+        assert_eq!(rule(&["--rule", "in-place"]), in_place);
         assert_eq!(rule(&["--rule", "annex-b"]), Some(winterhasp::Rule::AnnexB));
         assert_eq!(rule(&["--rule=original"]), Some(winterhasp::Rule::Original));
-        for wrong in ["", "annex", "AnnexB", "annex_b", "Original", "2"] {
+        let wrong = ["in", "InPlace", "in_place", "inplace", "2"];
+        for wrong in ["", "annex", "AnnexB", "annex_b", "Original"]
+            .into_iter()
+            .chain(wrong)
+        {
             assert_eq!(rule(&["--rule", wrong]), None, "{wrong}");
         }
         assert_eq!(rule(&["--rule"]), None);

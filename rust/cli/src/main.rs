@@ -10,6 +10,7 @@ mod list;
 #[allow(unsafe_code)]
 mod mapped;
 mod names;
+mod offsets;
 mod output;
 mod picture;
 mod show;

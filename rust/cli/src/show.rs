@@ -5,17 +5,16 @@ use std::ops::RangeInclusive;
 use std::path::Path;
 
 use serde::Serialize;
-use winterhasp::{
-    parse_siz_marker, Codestream, CodestreamOffset, Components, FileOffset, Refusal, TilePart,
-};
+use winterhasp::{parse_siz_marker, Codestream, Components, FileOffset, Refusal, TilePart};
 
 use crate::arguments;
 use crate::components::{InTile, Line, Sizes};
 use crate::contents::Contents;
 use crate::names::shown;
+use crate::offsets::Offsets;
 use crate::output::{print, tell};
 use crate::siz::{box_text, Grid, Pair, Siz};
-use crate::stages::{parts_without_tlm, End, Stages, Stopped};
+use crate::stages::{packed_headers, parts_without_tlm, End, Stages, Stopped};
 use crate::tiles::{ranges_text, Tiles};
 use crate::trouble::{about, sentence, Refused, Status, Trouble};
 
@@ -86,6 +85,8 @@ struct Header {
     decode_length: u64,
     /// None: there is no table.
     tlm_entries: Option<u64>,
+    /// Where packet headers of all tiles start; none: there are none, and tiles can be cut out.
+    ppm: Option<Offsets>,
 }
 
 #[derive(Serialize)]
@@ -93,13 +94,6 @@ struct TileParts {
     count: u64,
     bytes: u64,
     first: Offsets,
-}
-
-/// One place, counted from the start of the codestream and of the file.
-#[derive(Serialize, Clone, Copy)]
-struct Offsets {
-    offset: u64,
-    file_offset: Option<u64>,
 }
 
 #[derive(Serialize)]
@@ -146,11 +140,7 @@ impl Report {
             refused: refusal.map(|refusal| Refused::new(refusal, start)),
             container: stages.codestream.map(container),
             codestream: stages.codestream.map(place),
-            header: stages.header.as_ref().map(|header| Header {
-                length: header.first_sot.0,
-                decode_length: header.decode_header.len() as u64,
-                tlm_entries: header.tlm.as_ref().map(|entries| entries.len() as u64),
-            }),
+            header: header_of(&stages),
             image: None,
             tile: None,
             grid: None,
@@ -223,6 +213,7 @@ impl Report {
         let behind = [
             ("header", self.header.as_ref().map(Header::text)),
             ("tlm", self.header.as_ref().map(Header::tlm_text)),
+            ("ppm", self.header.as_ref().and_then(Header::ppm_text)),
             ("tile-parts", self.tile_parts.as_ref().map(TileParts::text)),
             ("present", self.present_text()),
             ("missing", tiles.map(TilesReport::missing_text)),
@@ -282,6 +273,18 @@ fn place(codestream: Codestream) -> Place {
         start: codestream.start.0,
         length: codestream.bytes.len() as u64,
     }
+}
+
+fn header_of(stages: &Stages) -> Option<Header> {
+    let (codestream, header) = stages.codestream.zip(stages.header.as_ref())?;
+    // A header that was accepted is not refused here.
+    let ppm = packed_headers(codestream.bytes, header).ok().flatten();
+    Some(Header {
+        length: header.first_sot.0,
+        decode_length: header.decode_header.len() as u64,
+        tlm_entries: header.tlm.as_ref().map(|entries| entries.len() as u64),
+        ppm: ppm.map(|at| Offsets::of(at, codestream.start)),
+    })
 }
 
 fn known<const N: usize>(lines: [(&str, Option<String>); N]) -> impl Iterator<Item = Line> + '_ {
@@ -352,6 +355,13 @@ impl Header {
             None => "none".to_string(),
         }
     }
+
+    fn ppm_text(&self) -> Option<String> {
+        let place = self.ppm?.text();
+        Some(format!(
+            "PACKET HEADERS OF ALL TILES, from {place} on: no tile can be cut out"
+        ))
+    }
 }
 
 impl TileParts {
@@ -362,26 +372,6 @@ impl TileParts {
             first,
         } = self;
         format!("{count}, {bytes} bytes, from {} on", first.text())
-    }
-}
-
-impl Offsets {
-    fn of(offset: CodestreamOffset, start: FileOffset) -> Self {
-        Offsets {
-            offset: offset.0,
-            file_offset: offset.in_file(start).map(|place| place.0),
-        }
-    }
-
-    fn text(&self) -> String {
-        let offset = self.offset;
-        let place = self
-            .file_offset
-            .map(|place| format!(", byte {place} of the file"));
-        format!(
-            "byte {offset} of the codestream{}",
-            place.unwrap_or_default()
-        )
     }
 }
 

@@ -1,11 +1,13 @@
 //! From a file's bytes to its tile-parts, stage by stage.
 
 use winterhasp::{
-    find_codestream, grow_header_region, main_header_extent, parse_main_header, scan_sot_markers,
-    Codestream, CodestreamOffset, FileOffset, MainHeader, MainHeaderExtent, Refusal, TilePart,
+    find_codestream, find_marker, grow_header_region, main_header_extent, parse_main_header,
+    scan_sot_markers, Codestream, CodestreamOffset, FileOffset, MainHeader, MainHeaderExtent,
+    Refusal, TilePart,
 };
 
 const MARKER: u64 = 2;
+const PPM: u16 = 0xFF60;
 const EOC: [u8; 2] = [0xFF, 0xD9];
 const PSOT_AT: u64 = 6;
 
@@ -70,11 +72,24 @@ fn main_header(codestream: &[u8]) -> Result<MainHeader, Refusal> {
     let region = first(codestream, grow_header_region(codestream).length);
     match main_header_extent(region) {
         MainHeaderExtent::Complete(first_sot) => {
-            let copied = first(region, first_sot.0.saturating_add(MARKER)).to_vec();
-            parse_main_header(&copied)
+            parse_main_header(&with_first_sot(region, first_sot))
         }
         MainHeaderExtent::Truncated => parse_main_header(region),
     }
+}
+
+/// A copy of the header, with the marker of the first SOT behind it.
+fn with_first_sot(codestream: &[u8], first_sot: CodestreamOffset) -> Vec<u8> {
+    first(codestream, first_sot.0.saturating_add(MARKER)).to_vec()
+}
+
+/// Where the header, which was accepted, starts to hold the packet headers of all tile-parts, in the order
+/// of the file (PPM); nothing if these stand with the tile-parts, so that a tile can be cut out.
+pub fn packed_headers(
+    codestream: &[u8],
+    header: &MainHeader,
+) -> Result<Option<CodestreamOffset>, Refusal> {
+    find_marker(&with_first_sot(codestream, header.first_sot), PPM)
 }
 
 fn first(bytes: &[u8], length: u64) -> &[u8] {
@@ -141,7 +156,7 @@ fn reaches_to_the_end(codestream: &[u8], last: &TilePart) -> bool {
 
 #[cfg(test)]
 mod tests {
-    use super::{Accepted, End, Stopped};
+    use super::{packed_headers, Accepted, End, Stopped};
 
     const SAMPLE: &[u8] = include_bytes!("../../../crates/tileparts/stdin");
 
@@ -164,5 +179,29 @@ mod tests {
         let mut open = SAMPLE.to_vec();
         open[71 + 9] = 0;
         assert_eq!(end(&open), (89, Stopped::InLastPart, 0));
+    }
+    /// What stands between SIZ and the first tile-part of the sample, in place of TLM.
+    fn packed(between: &[u8], parts: &[u8]) -> Option<u64> {
+        let file = [&SAMPLE[..45], between, parts].concat();
+        let accepted = Accepted::of(&file).expect("accepted");
+        let found = packed_headers(accepted.codestream.bytes, &accepted.header);
+        found.expect("not refused").map(|at| at.0)
+    }
+
+    #[test]
+    fn packet_headers_are_found_where_the_header_has_them() {
+        let parts = &SAMPLE[57..];
+        let ppm = [0xFF, 0x60, 0, 7, 0, 0, 0, 0, 0];
+        let comment = [0xFF, 0x64, 0, 6, 0, 1, 0xFF, 0x60];
+        assert_eq!(packed(&[], parts), None);
+        assert_eq!(packed(&ppm, parts), Some(45));
+        assert_eq!(packed(&[ppm, ppm].concat(), parts), Some(45));
+        assert_eq!(packed(&[&comment, &ppm[..]].concat(), parts), Some(53));
+        // not in a comment, behind the first SOT, or of another high byte
+        assert_eq!(packed(&comment, parts), None);
+        let mut behind = parts.to_vec();
+        behind[12..14].copy_from_slice(&ppm[..2]);
+        assert_eq!(packed(&[], &behind), None);
+        assert_eq!(packed(&[0xFE, 0x60, 0, 2], parts), None);
     }
 }

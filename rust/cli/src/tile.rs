@@ -3,14 +3,16 @@
 use std::path::{Path, PathBuf};
 
 use winterhasp::{
-    build_minimal_codestream_by_rule, rewrite_siz_for_tile_by_rule, Components, Rule, TileParts,
+    build_minimal_codestream_by_rule, rewrite_siz_for_tile_by_rule, Components, Refusal, Rule,
+    TileParts,
 };
 
 use crate::arguments::Tile;
 use crate::contents::Contents;
+use crate::offsets::Offsets;
 use crate::output::{tell, Destination};
 use crate::siz::{Grid, Siz};
-use crate::stages::Accepted;
+use crate::stages::{packed_headers, Accepted};
 use crate::trouble::{about, sentence, Status, Trouble};
 
 pub fn tile(arguments: &Tile) -> Result<Status, Trouble> {
@@ -48,21 +50,28 @@ struct Cut {
 fn cut(file: &Path, contents: &Contents, index: u16, rule: Rule) -> Result<Cut, Trouble> {
     let accepted = Accepted::of(contents.bytes());
     let accepted = accepted.map_err(|(why, at)| Trouble::refused(file, sentence(why, at)))?;
+    let start = accepted.codestream.start;
+    let codestream = accepted.codestream.bytes;
+    let packed = packed_headers(codestream, &accepted.header);
+    let packed = packed.map_err(|why| Trouble::refused(file, sentence(why, Some(start))))?;
+    if let Some(at) = packed {
+        let why = of_all_tiles(Offsets::of(at, start));
+        return Err(Trouble::refused(file, why));
+    }
     let header = &accepted.header.decode_header;
     let siz = Siz::of(header);
     if let Some(grid) = siz.as_ref().and_then(Siz::grid) {
         inside(index, grid).map_err(|why| Trouble::refused(file, why))?;
     }
-    let refused = |refusal| {
-        let start = Some(accepted.codestream.start);
-        Trouble::refused(file, format!("tile {index}: {}", sentence(refusal, start)))
+    let refused = |refusal: Refusal| {
+        let why = sentence(refusal, Some(start));
+        Trouble::refused(file, format!("tile {index}: {why}"))
     };
     // Asked first: where there is no grid no tile is missing.
     let rewritten = rewrite_siz_for_tile_by_rule(header, index, rule).map_err(refused)?;
     let parts = TileParts::of(index, &accepted.parts);
     let parts = parts.ok_or_else(|| Trouble::refused(file, none_of(index)))?;
     contents.expect_order();
-    let codestream = accepted.codestream.bytes;
     let bytes = build_minimal_codestream_by_rule(header, &parts, codestream, rule);
     let bytes = bytes.map_err(refused)?;
     let kept = rewritten == *header;
@@ -85,9 +94,25 @@ fn none_of(index: u16) -> String {
     format!("tile {index} has no tile-part; `winterhasp show` lists the tiles that are missing")
 }
 
-/// What has to be known of the tile before it is decoded: `moved` is why other pixels may come of a tile
-/// that is moved, and `kept` whether it has the whole image's header.
+/// A decoder would take the first packet headers for the tile's own, whichever tile that is. So does OpenJPEG
+/// where it is asked for one tile of the whole file.
+fn of_all_tiles(at: Offsets) -> String {
+    let place = at.text();
+    format!(
+        "its main header holds the packet headers of all tiles (PPM, at {place}): a tile cut out of it would decode to other \
+         pixels; decode the whole file, or have it written without PPM"
+    )
+}
+
+const KEEPS: &str = "note: the default rule (in-place) keeps the tile's pixels, and a plain decode shows the tile alone";
+
+/// What has to be known of the tile before it is decoded, which is nothing where it stays in its place:
+/// `moved` is why other pixels may come of a tile that is moved, and `kept` whether it has the whole image's
+/// header.
 fn notes(siz: &Siz, index: u16, rule: Rule, moved: Option<&str>, kept: bool) -> Vec<String> {
+    if rule == Rule::InPlace {
+        return Vec::new();
+    }
     let elsewhere = rule == Rule::Original && siz.origin != siz.tile_origin;
     let elsewhere = elsewhere.then(|| {
         format!(
@@ -117,14 +142,18 @@ fn notes(siz: &Siz, index: u16, rule: Rule, moved: Option<&str>, kept: bool) -> 
         )
     });
     let notes = [elsewhere, moved, canvas, smaller];
-    notes.into_iter().flatten().collect()
+    let mut notes: Vec<_> = notes.into_iter().flatten().collect();
+    if !notes.is_empty() {
+        notes.push(KEEPS.to_string());
+    }
+    notes
 }
 
 #[cfg(test)]
 mod tests {
     use winterhasp::Rule;
 
-    use super::{notes, Siz};
+    use super::{notes, of_all_tiles, Offsets, Siz, KEEPS};
 
     /// 8 by 8 in tiles of 4 by 4.
     fn siz(origin: u64, tile_origin: u64) -> Siz {
@@ -136,7 +165,8 @@ mod tests {
         }
     }
 
-    /// Which notes there are of a tile for whose pixels there is a reason to fear.
+    /// Which notes there are of a tile for whose pixels there is a reason to fear, before the one that the
+    /// default rule keeps them.
     fn kinds(siz: &Siz, index: u16, rule: Rule, kept: bool) -> Vec<&'static str> {
         let kinds = [
             ("by --rule original", "elsewhere"),
@@ -144,7 +174,8 @@ mod tests {
             ("opj_decompress -t 0", "canvas"),
             ("it decodes wrong", "smaller"),
         ];
-        let notes = notes(siz, index, rule, Some("it is so"), kept);
+        let mut notes = notes(siz, index, rule, Some("it is so"), kept);
+        assert!(notes.pop().is_none_or(|last| last == KEEPS));
         let kind = |note: &String| kinds.iter().find(|(words, _)| note.contains(words));
         notes
             .iter()
@@ -185,7 +216,28 @@ mod tests {
     fn no_reason_to_fear_is_no_note() {
         let told = |rule, kept| notes(&siz(0, 0), 1, rule, None, kept).len();
         for rule in [Rule::AnnexB, Rule::Original] {
-            assert_eq!((told(rule, false), told(rule, true)), (0, 1));
+            // of the canvas, and of the rule that has none
+            assert_eq!((told(rule, false), told(rule, true)), (0, 2));
         }
+    }
+
+    #[test]
+    fn a_tile_in_its_place_has_no_note() {
+        let all = [siz(0, 0), siz(2, 2), siz(2, 0), siz(0, 1)];
+        for (siz, index) in all.iter().flat_map(|siz| [(siz, 0), (siz, 4)]) {
+            for kept in [false, true] {
+                assert!(notes(siz, index, Rule::InPlace, Some("it is so"), kept).is_empty());
+            }
+        }
+    }
+
+    #[test]
+    fn packet_headers_of_all_tiles_are_told_with_their_place() {
+        let at = Offsets {
+            offset: 45,
+            file_offset: Some(85),
+        };
+        let place = "(PPM, at byte 45 of the codestream, byte 85 of the file)";
+        assert!(of_all_tiles(at).contains(place));
     }
 }
