@@ -23,6 +23,7 @@ import xml.etree.ElementTree as xml
 from pathlib import Path
 from typing import NamedTuple
 
+import packed
 from listing import EOC, LONGEST, PROGRAM as LISTING, ROOT, SIGNATURE, SOC, codestream, listing, part, rows, segment, siz
 from refusals import RULES, refusals
 
@@ -36,7 +37,8 @@ TOO_LARGE = "File too large (os error 27)"
 CHANGED = "the file changed while it was read: wait until nobody writes to it, then try again"
 SAME = "this is the file that is read, and it is not written over"
 NOT_AN_INDEX = "a number from 0 to 65535 is needed, in plain digits"
-ANNEX_B, ORIGINAL = RULES_OF_TILES = ["annex-b", "original"]
+# The first is the default.
+IN_PLACE, ANNEX_B, ORIGINAL = RULES_OF_TILES = ["in-place", "annex-b", "original"]
 
 # What was in OUT before, where something was.
 KEPT = b"kept"
@@ -117,7 +119,7 @@ def with_header(*segments, parts):
     return SOC + b"".join(segments) + parts + EOC
 
 
-# Tiles by either rule, in a codestream without TLM whose SIZ is whole
+# Tiles by each rule, in a codestream without TLM whose SIZ is whole
 
 FIELDS = ["Xsiz", "Ysiz", "XOsiz", "YOsiz", "XTsiz", "YTsiz", "XTOsiz", "YTOsiz"]
 
@@ -164,15 +166,17 @@ def original(axes, tile):
 def cut_of(content, tile, rule):
     """The codestream that a tile has to be cut to, or the number of the refusal."""
     numbers = struct.unpack_from(">8I", content, 8)
-    area = {ANNEX_B: annex_b, ORIGINAL: original}[rule]([numbers[0::2], numbers[1::2]], tile)
+    area = {IN_PLACE: annex_b, ANNEX_B: annex_b, ORIGINAL: original}[rule]([numbers[0::2], numbers[1::2]], tile)
     if isinstance(area, int):
         return area
     first = content.index(b"\xff\x90\0\x0a")
     header, at, parts = content[:first], first, b""
     width, height = (end - start for start, end in area)
-    if (width, height) != numbers[4:6]:
-        sizes = [width, height, 0, 0, width, height, 0, 0]
-        header = edited(header, **dict(zip(FIELDS, sizes)))
+    if rule == IN_PLACE:
+        (x0, x1), (y0, y1) = area
+        header = edited(header, **dict(zip(FIELDS, [x1, y1, x0, y0, width, height, x0, y0])))
+    elif (width, height) != numbers[4:6]:
+        header = edited(header, **dict(zip(FIELDS, [width, height, 0, 0, width, height, 0, 0])))
     while content[at : at + 2] != EOC:
         index, length = struct.unpack_from(">HI", content, at + 4)
         if index == tile:
@@ -200,6 +204,10 @@ SHORT_PSOT = THREE_PARTS[: SECOND + 9] + b"\x1e" + THREE_PARTS[SECOND + 10 :]
 OPEN = TWO_PARTS[: SECOND + 9] + b"\0" + TWO_PARTS[SECOND + 10 :]
 # a grid by which the original's rule refuses a tile that is there
 FAR = size_segment((2, 6), (2**32 - 1, 4), origin=(1, 0))
+# the packet headers of both parts, of 5 bytes each; the same bytes in a comment, and behind the first SOT
+PPM = segment(0xFF60, b"\0" + (struct.pack(">I", 5) + bytes(5)) * 2)
+COMMENT = segment(0xFF64, b"\0\1" + PPM)
+PPM_BEHIND = part(0, 14)[:6] + struct.pack(">I", 14 + len(PPM)) + part(0, 14)[10:12] + PPM + b"\xff\x93"
 MANY = 12_000
 COMPONENTS = [(7, 1, 1), (7, 2, 3), (7, 2, 3), (0x8B, 1, 1)]
 MOST_COMPONENTS = 16_384
@@ -238,6 +246,23 @@ FILES = {
     "no-grid.j2k": with_header(size_segment((8, 8), (0, 4)), parts=part(0, 14)),
     "siz-cut.j2k": with_header(segment(0xFF51, b""), parts=part(0, 14)),
     "siz-back.j2k": with_header(size_segment((1, 1), (4, 4), (2, 0)), parts=part(0, 14)),
+    "comment.j2k": with_header(siz(), COMMENT, parts=part(0, 14) + part(5, 20)),
+    "ppm-behind.j2k": with_header(siz(), parts=PPM_BEHIND + part(5, 20)),
+    "plm.j2k": with_header(siz(), segment(0xFF57, b"\0\1\x05\1\x05"), parts=part(0, 14) + part(5, 20)),
+}
+
+# Where PPM stands in a codestream whose tiles are not cut out, and the codestream's own place
+PACKED = {
+    "ppm.j2k": (len(HEADER), 0),
+    "ppm.jp2": (len(HEADER), START),
+    "ppm-later.jp2": (len(HEADER) + len(COMMENT), START),
+    "ppm-no-grid.j2k": (len(HEADER), 0),
+}
+FILES |= {
+    "ppm.j2k": with_header(siz(), PPM, parts=part(0, 14) + part(5, 20)),
+    "ppm.jp2": jp2(with_header(siz(), PPM, parts=part(0, 14) + part(5, 20))),
+    "ppm-later.jp2": jp2(with_header(siz(), COMMENT, PPM, PPM, parts=part(0, 14) + part(5, 20))),
+    "ppm-no-grid.j2k": with_header(size_segment((8, 8), (0, 4)), PPM, parts=part(0, 14)),
 }
 
 
@@ -289,17 +314,15 @@ FILES |= {name: refused.content for name, refused in REFUSED.items()}
 # What is told of them
 
 
-def alone(size, tile, at, length):
+def alone(at, length, *sizes):
     """A codestream of one tile-part: sample A's SIZ with these sizes, no TLM, and Isot 0."""
-    moved = SAMPLE[at : at + 4] + bytes(2) + SAMPLE[at + 6 : at + length]
-    return SOC + size_segment(size, tile) + moved + EOC
+    first = SAMPLE[at : at + 4] + bytes(2) + SAMPLE[at + 6 : at + length]
+    return SOC + size_segment(*sizes) + first + EOC
 
 
-TILES = {
-    # of full size: the image's size stays
-    0: alone((10, 6), (4, 4), 57, 14),
-    5: alone((2, 2), (2, 2), 71, 16),
-}
+# In place, and as they are moved by both other rules; one of full size has the image's size there
+TILES = {0: alone(57, 14, (4, 4), (4, 4)), 5: alone(71, 16, (10, 6), (2, 2), (8, 4), (8, 4))}
+MOVED = {0: alone(57, 14, (10, 6), (4, 4)), 5: alone(71, 16, (2, 2), (2, 2))}
 
 
 def canvas(tile, size):
@@ -320,6 +343,21 @@ def elsewhere(tile):
     return (
         f"note: by --rule original tile {tile} is counted from the image's origin, and not from the tiles' origin: "
         f"it may be another piece of ground than the standard's tile {tile}"
+    )
+
+
+KEEPS = "note: the default rule (in-place) keeps the tile's pixels, and a plain decode shows the tile alone"
+
+
+def notes(file, said):
+    """On standard error, the last one behind all others."""
+    return "".join(about(file, note) for note in [*said, KEEPS]) if said else ""
+
+
+def of_all_tiles(place, start):
+    return (
+        f"its main header holds the packet headers of all tiles (PPM, at byte {place} of the codestream, byte {start + place} of the "
+        "file): a tile cut out of it would decode to other pixels; decode the whole file, or have it written without PPM"
     )
 
 
@@ -378,6 +416,13 @@ SHOWS = {
     "behind-it.jp2": ["tiles       4 by 4, from 2, 0 on; they make no grid"],
     "not-reached.j2k": ["tiles       4 by 4, from 0, 0 on; they make no grid"],
     "empty.j2k": ["image       0 by 4, from 4, 0 on", "tiles       4 by 4, from 0, 0 on; they make no grid"],
+    **{
+        file: [
+            f"ppm         PACKET HEADERS OF ALL TILES, from byte {place} of the codestream, byte {start + place} of the file on: "
+            "no tile can be cut out"
+        ]
+        for file, (place, start) in PACKED.items()
+    },
 }
 
 
@@ -443,8 +488,12 @@ class Runs:
         sample = listing(0, 89, 57, 45, SAMPLE_LISTED, SAMPLE_LISTED)
         for file, name, start in ("a.j2k", "a.j2k", 0), ("a.jp2", "a.jp2", START), (b"\xff.j2k", "\\xff.j2k", 0):
             self.case(Case(["list", file], out=sample.replace("codestream 0 ", f"codestream {start} ")))
-            notes = {0: about(name, canvas(0, (10, 6))), 5: ""}
-            self.cases(Case(["tile", file, str(tile), "-o", OUT], error=notes[tile], made=made) for tile, made in TILES.items())
+            for rule in [], ["--rule", IN_PLACE]:
+                self.cases(Case(["tile", file, str(tile), "-o", OUT, *rule], made=made) for tile, made in TILES.items())
+            said = {0: notes(name, [canvas(0, (10, 6))]), 5: ""}
+            for rule in ANNEX_B, ORIGINAL:
+                words = lambda tile: ["tile", file, str(tile), "-o", OUT, "--rule", rule]
+                self.cases(Case(words(tile), error=said[tile], made=made) for tile, made in MOVED.items())
         for file, text in SHOWN.items():
             self.case(Case(["show", file], out=text))
         for file, lines in SHOWS.items():
@@ -583,17 +632,17 @@ class Runs:
                     self.cases([Case(["tile", file, index, "-o", OUT, *rule], 1, error=about(file, why.format(index)))])
             self.cases([Case(["tile", "outside.j2k", "6", "-o", OUT, *rule], 1, error=about("outside.j2k", outside.format(6)))])
         origin = "the image or its tiles do not start at 0"
-        notes = {
+        of_files = {
             "odd.j2k": [moved(1, "the sides of its tiles are not powers of two"), canvas(1, (9, 3))],
             "moved.j2k": [moved(1, origin), canvas(1, (8, 8))],
             "third.j2k": [moved(1, "its subsampling is not by powers of two"), canvas(1, (8, 8))],
             "0-apart.j2k": [moved(1, "its size segment (SIZ) does not tell the subsampling"), canvas(1, (8, 8))],
             "one.j2k": [],
         }
-        for file, said in notes.items():
+        for file, said in of_files.items():
             index = "0" if file == "one.j2k" else "1"
-            error = "".join(about(file, note) for note in said)
             for rule in RULES_OF_TILES:
+                error = "" if rule == IN_PLACE else notes(file, said)
                 self.hold(f"tile {file} {rule}", self.run("tile", file, index, "--rule", rule, "-o", OUT), (0, "", error))
         # standard output, and a name made of the file's and the index
         ended = subprocess.run([self.program, "tile", "a.j2k", "5", "-o", "-"], cwd=self.folder, capture_output=True)
@@ -603,24 +652,71 @@ class Runs:
         made = {file.name: file.read_bytes() for file in (self.folder / "below").iterdir()}
         self.hold("tile ../a.jp2 5", (ended.returncode, made), (0, {"a.tile5.j2k": TILES[5]}))
         # parts in the order of the file, and both made to be tile 0
-        self.run("tile", "twice.j2k", "0", "-o", OUT)
-        joined = HEADER + part(0, 14) + part(0, 15) + EOC
-        self.hold("tile twice.j2k 0", (self.folder / OUT).read_bytes(), joined)
+        header = {IN_PLACE: SOC + size_segment((4, 4), (4, 4)), ANNEX_B: HEADER, ORIGINAL: HEADER}
+        for rule in RULES_OF_TILES:
+            self.run("tile", "twice.j2k", "0", "-o", OUT, "--rule", rule)
+            joined = header[rule] + part(0, 14) + part(0, 15) + EOC
+            self.hold(f"tile twice.j2k 0 {rule}", (self.folder / OUT).read_bytes(), joined)
+
+    def packed(self):
+        """A main header with the packet headers of all tiles: no tile is cut out, by any rule, also of one that is not there. All
+        else goes on, and so does a tile where the same bytes stand elsewhere."""
+        rules = [[], *(["--rule", rule] for rule in RULES_OF_TILES)]
+        for file, (place, start) in PACKED.items():
+            error = about(file, of_all_tiles(place, start))
+            for rule in rules:
+                for tile in "0", "5", "3", "6":
+                    self.cases([Case(["tile", file, tile, "-o", OUT, *rule], 1, error=error)])
+                self.case(Case(["tile", file, "0", "-o", "-", *rule], 1, error=error))
+            self.hold(f"list {file}", self.run("list", file)[::2], (0, ""))
+            status, out, said = self.run("show", "--json", file)
+            header = json.loads(out)["header"]
+            self.hold(f"show --json {file}", (status, header["ppm"], said), (0, {"offset": place, "file_offset": start + place}, ""))
+            drawn = (1, "its tiles make no grid; nothing is drawn") if "no-grid" in file else (0, None)
+            status, out, said = self.run("grid", file, "-o", "-")
+            self.hold(f"grid {file}", (status, said), (drawn[0], about(file, drawn[1]) if drawn[1] else ""))
+        for file in "comment.j2k", "ppm-behind.j2k", "plm.j2k":
+            for rule in RULES_OF_TILES:
+                for tile in 0, 5:
+                    self.hold(f"tile {file} {tile} {rule}", self.cut(file, tile, rule), (0, cut_of(FILES[file], tile, rule), None))
+            status, out, _ = self.run("show", file)
+            ppm = json.loads(self.run("show", "--json", file)[1])["header"]["ppm"]
+            self.hold(f"show {file}", (status, "\nppm " in out, ppm), (0, False, None))
+        self.packed_of_openjpeg()
+
+    def packed_of_openjpeg(self):
+        """The same of OpenJPEG's files; what decoders make of them is seen in tests/openjpeg.py."""
+        self.slope()
+        words = "opj_compress -i slope.pgm -o packed.j2k -t 64,64 -n 3 -SOP -EPH"
+        self.hold(words, subprocess.run(words.split(), cwd=self.folder, capture_output=True).returncode, 0)
+        content = (self.folder / "packed.j2k").read_bytes()
+        made = packed.with_ppm(content)
+        place = made.index(struct.pack(">H", packed.PPM))
+        for file, start in ("packed.j2k", 0), ("packed.jp2", START):
+            (self.folder / file).write_bytes(jp2(made) if start else made)
+            self.hold(f"list {file}", self.run("list", file), (0, self.listing((self.folder / file).read_bytes()), ""))
+            for rule in RULES_OF_TILES:
+                error = about(file, of_all_tiles(place, start))
+                self.cases([Case(["tile", file, "4", "-o", OUT, "--rule", rule], 1, error=error)])
+        kept = packed.with_segment(content, packed.COM, b"\0\1" + bytes(made[place : place + 20]))
+        behind = packed.with_segment_behind(content, packed.PPM, made[place + 4 : place + 20])
+        for name, content in ("com.j2k", kept), ("behind-sot.j2k", behind):
+            self.by_rules(name, content, [0, 4])
 
     def rules(self):
-        """Tiles by either rule, where tiles start before the image: built here, by editing sample A, and of OpenJPEG, as it is and with
+        """Tiles by each rule, where tiles start before the image: built here, by editing sample A, and of OpenJPEG, as it is and with
         a damaged SIZ."""
         origin = "the image or its tiles do not start at 0"
         # 3 columns from 1 on, and the image from 3 on: the first is 2 wide, the next has full size, and the last is 2 wide
-        notes = {
+        of_rules = {
+            IN_PLACE: {0: [], 1: [], 2: []},
             ANNEX_B: {0: [moved(0, origin)], 1: [smaller(1)], 2: [moved(2, origin)]},
             ORIGINAL: {0: [elsewhere(0), canvas(0, (8, 8))], 1: [elsewhere(1), moved(1, origin), canvas(1, (8, 8))]},
         }
-        for rule, of_tiles in notes.items():
+        for rule, of_tiles in of_rules.items():
             for tile, said in of_tiles.items():
-                error = "".join(about("before.j2k", note) for note in said)
                 words = ["tile", "before.j2k", str(tile), "-o", OUT, "--rule", rule]
-                self.cases([Case(words, error=error, made=cut_of(FILES["before.j2k"], tile, rule))])
+                self.cases([Case(words, error=notes("before.j2k", said), made=cut_of(FILES["before.j2k"], tile, rule))])
         far = f"tile 0: {sentence(10, 2, START)}"
         self.cases([Case(["tile", "far.jp2", "0", "-o", OUT, "--rule", ORIGINAL], 1, error=about("far.jp2", far))])
         self.by_rules("far.jp2", FILES["far.jp2"][START:], [0])
@@ -632,22 +728,27 @@ class Runs:
             self.by_rules(f"edited{number}.j2k", edited(without_tlm, **fields), [0, 5])
         self.rules_of_openjpeg()
 
-    def rules_of_openjpeg(self):
+    def slope(self):
         width, height = 130, 100
         slope = bytes(x * 3 + y * 5 & 255 for y in range(height) for x in range(width))
         (self.folder / "slope.pgm").write_bytes(f"P5\n{width} {height}\n255\n".encode() + slope)
+
+    def rules_of_openjpeg(self):
+        self.slope()
         words = "opj_compress -i slope.pgm -o started.j2k -t 64,64 -n 3 -d 37,35 -T 5,3"
         made = subprocess.run(words.split(), cwd=self.folder, capture_output=True)
         self.hold(words, made.returncode, 0)
         content = (self.folder / "started.j2k").read_bytes()
         self.by_rules("started.j2k", content, range(10))
         self.by_rules("started.jp2", content, [0, 4, 8])
-        # what is cut by the standard's rule decodes to the tile's size, and where that is full to the first one's
-        for tile, size in (0, (32, 32)), (1, (64, 32)), (2, (34, 32)), (4, (32, 32)), (8, (34, 4)):
-            self.run("tile", "started.j2k", str(tile), "-o", OUT)
-            decoded = subprocess.run(["opj_decompress", "-i", OUT, "-o", "tile.pgm", "-t", "0"], cwd=self.folder, capture_output=True)
-            head = (self.folder / "tile.pgm").read_bytes().split(b"\n255\n")[0].split()[-2:]
-            self.hold(f"tile {tile} of started.j2k, decoded", (decoded.returncode, tuple(map(int, head))), (0, size))
+        # what is cut decodes to the tile's size, and by the standard's rule where that is full to the first one's
+        for tile, size in (0, (32, 32)), (1, (64, 32)), (2, (34, 32)), (4, (64, 64)), (8, (34, 4)):
+            for rule, words in ([], []), (["--rule", ANNEX_B], ["-t", "0"]):
+                self.run("tile", "started.j2k", str(tile), "-o", OUT, *rule)
+                decoded = subprocess.run(["opj_decompress", "-i", OUT, "-o", "tile.pgm", *words], cwd=self.folder, capture_output=True)
+                head = (self.folder / "tile.pgm").read_bytes().split(b"\n255\n")[0].split()[-2:]
+                wanted = (32, 32) if rule and tile == 4 else size
+                self.hold(f"tile {tile} of started.j2k {rule}, decoded", (decoded.returncode, tuple(map(int, head))), (0, wanted))
         # a field by which there is no grid, and its neighbour by which there is one
         edges = [("XTOsiz", 38, 37), ("YTOsiz", 36, 35), ("XTsiz", 32, 33), ("YTsiz", 32, 33), ("Xsiz", 37, 38), ("Ysiz", 35, 36)]
         for field, number, neighbour in [*edges, ("XTsiz", 0, 64), ("YTsiz", 0, 64)]:
@@ -666,14 +767,14 @@ class Runs:
         self.hold("show fewer.j2k", "outside     tile-parts of tiles that the grid does not have: 3-8" in shown, True)
 
     def by_rules(self, file, content, tiles):
-        """Tiles of a codestream, bare or in a JP2 by the file's name: what is cut by no rule and by either, and what `show` tells."""
+        """Tiles of a codestream, bare or in a JP2 by the file's name: what is cut by no rule and by each, and what `show` tells."""
         (self.folder / file).write_bytes(jp2(content) if file.endswith(".jp2") else content)
         numbers = struct.unpack_from(">8I", content, 8)
         for tile in tiles:
             area = annex_b([numbers[0::2], numbers[1::2]], tile)
-            for rule in None, ANNEX_B, ORIGINAL:
+            for rule in None, *RULES_OF_TILES:
                 # no tile outside the standard's grid is cut by any rule
-                wanted = 31 if area == 31 else cut_of(content, tile, rule or ANNEX_B)
+                wanted = 31 if area == 31 else cut_of(content, tile, rule or IN_PLACE)
                 wanted = (1, None, wanted) if isinstance(wanted, int) else (0, wanted, None)
                 self.hold(f"tile {file} {tile} {rule}", self.cut(file, tile, rule), wanted)
             status, out, _ = self.run("show", "--json", "--tile", str(tile), file)
@@ -805,6 +906,7 @@ class Runs:
         self.hold("a device that ends", self.run("list", "/dev/null")[:2], (1, "refused 11 0\n"))
 
     def words(self):
+        (self.folder / OUT).unlink(missing_ok=True)
         few = [[], *([command] for command in COMMANDS), ["tile", "a.j2k"], ["grid", "a.j2k"]]
         many = [["show", "a.j2k", "a.j2k"], ["tile", "a.j2k", "0", "1"], ["grid", "a.j2k", "a.j2k", "-o", OUT]]
         unknown = [["part", "a.j2k"], ["LIST", "a.j2k"], [b"\xff", "a.j2k"], ["list", "--what", "a.j2k"]]
@@ -819,14 +921,14 @@ class Runs:
             self.hold(f"INDEX {index}", (status, out, why, (self.folder / OUT).exists()), (2, "", True, False))
             status, out, error = self.run("show", "--tile", index, "a.j2k")
             self.hold(f"show --tile {index}", (status, out, NOT_AN_INDEX in error or why), (2, "", True))
-        for rule in "x", "", "annex", "Annex-B", "annex_b", "ORIGINAL", "0", b"\xff":
+        for rule in "x", "", "annex", "Annex-B", "annex_b", "ORIGINAL", "in", "In-Place", "in_place", "inplace", "0", "2", b"\xff":
             status, out, error = self.run("tile", "a.j2k", "5", "-o", OUT, "--rule", rule)
-            why = "[possible values: annex-b, original]" in error or rule == b"\xff"
+            why = "[possible values: in-place, annex-b, original]" in error or rule == b"\xff"
             self.hold(f"--rule {rule}", (status, out, why, (self.folder / OUT).exists()), (2, "", True, False))
         twice = self.run("tile", "a.j2k", "5", "-o", OUT, "--rule", ANNEX_B, "--rule", ORIGINAL)
         self.hold("--rule twice", (twice[0], (self.folder / OUT).exists()), (2, False))
         help_text = self.run("tile", "--help")[1]
-        for words in "annex-b counts tiles from the tiles' origin, as the standard does.", "[default: annex-b]":
+        for words in "in-place    the tile stays where it lies, with its own pixels", "[default: in-place]":
             self.hold(f"tile --help: {words}", words in help_text, True)
         self.hold("--version", self.run("--version"), (0, "winterhasp 0.1.0\n", ""))
         for words in [], *([command] for command in COMMANDS):
@@ -834,7 +936,7 @@ class Runs:
             self.hold(f"{words} --help", (status, f"  winterhasp {words[0] if words else 'list'} " in out, error), (0, True, ""))
         status, out, _ = self.run("completions", "bash")
         judged = subprocess.run(["bash", "-n"], input=out.encode(), capture_output=True)
-        words = [*COMMANDS, "--rule", "annex-b original"]
+        words = [*COMMANDS, "--rule", "in-place annex-b original"]
         self.hold("completions bash", (status, judged.returncode, [word for word in words if word not in out]), (0, 0, []))
 
     def not_written(self):
@@ -995,7 +1097,7 @@ class Runs:
                 saw, memory = self.measured(["tile", name, str(last), "-o", OUT])
                 piece = written[at][:4] + bytes(2) + written[at][6:] + bytes(size - 12)
                 # tile 2 lies at the edge
-                header = HEADER if last == 1 else SOC + size_segment((2, 4), (2, 4))
+                header = SOC + (size_segment((8, 4), (4, 4), (4, 0), (4, 0)) if last == 1 else size_segment((10, 4), (2, 4), (8, 0), (8, 0)))
                 self.hold(f"tile {name}", (saw[0], (self.folder / OUT).read_bytes()), (0, header + piece + EOC))
                 self.hold(f"tile {name}, memory", memory < 128 << 20, True)
             self.hold(f"show {name}", f"tile-parts  {len(sizes)}, {sum(sizes)} bytes" in self.run("show", name)[1], True)
@@ -1070,14 +1172,19 @@ class Runs:
             self.hold(f"tile {name}", self.run("tile", name, str(tiles - 1), "-o", OUT)[0], 0)
             again = self.run("show", "--json", OUT)[1]
             self.hold(f"show the tile of {name}", json.loads(again)["scan_ended"]["at"], "EOC")
-            decoded = subprocess.run(["opj_decompress", "-i", OUT, "-o", "tile.ppm", "-t", "0"], cwd=self.folder, capture_output=True)
+            decoded = subprocess.run(["opj_decompress", "-i", OUT, "-o", "tile.ppm"], cwd=self.folder, capture_output=True)
             self.hold(f"the tile of {name}, decoded", decoded.returncode, 0)
+            # the crop of the whole picture, which is compressed without loss
+            left, top, right, bottom = json.loads(self.run("show", "--json", "--tile", str(tiles - 1), name)[1])["in_tile"]["area"].values()
+            rows = [slope[3 * (row * width + left) : 3 * (row * width + right)] for row in range(top, bottom)]
+            saw = (self.folder / "tile.ppm").read_bytes().split(b"\n255\n", 1)[1]
+            self.hold(f"the tile of {name}, its pixels", saw == b"".join(rows), True)
 
 
 GROUPS = [
-    Runs.accepted, Runs.refused, Runs.components, Runs.tiles, Runs.rules, Runs.never_over_the_input, Runs.machines, Runs.pictures,
-    Runs.not_read, Runs.words, Runs.not_written, Runs.streams, Runs.damaged, Runs.folders, Runs.large, Runs.shrinking,
-    Runs.encoders,
+    Runs.accepted, Runs.refused, Runs.components, Runs.tiles, Runs.packed, Runs.rules, Runs.never_over_the_input, Runs.machines,
+    Runs.pictures, Runs.not_read, Runs.words, Runs.not_written, Runs.streams, Runs.damaged, Runs.folders, Runs.large,
+    Runs.shrinking, Runs.encoders,
 ]  # fmt: skip
 
 

@@ -1,0 +1,106 @@
+"""Codestreams whose main header speaks of all tile-parts' packets, made of OpenJPEG's: `with_ppm` moves packet headers there, and
+`with_plm` packet lengths (ISO/IEC 15444-1, A.7.2 and A.7.4). No tool at hand writes such a file."""
+
+import struct
+from typing import NamedTuple
+
+SOC, EOC = b"\xff\x4f", b"\xff\xd9"
+SOT, SOD, SOP, EPH = 0xFF90, 0xFF93, b"\xff\x91\0\4", b"\xff\x92"
+PLM, PLT, PPM, COM = 0xFF57, 0xFF58, 0xFF60, 0xFF64
+# What a segment holds at most, behind its length and its number.
+LONGEST = 65_535 - 3
+
+
+class Part(NamedTuple):
+    """A tile-part: its SOT without Psot, the segments behind it, and what stands behind SOD."""
+
+    tile: int
+    numbers: bytes
+    segments: list
+    packets: bytes
+
+    def written(self):
+        header = b"".join(written(*segment) for segment in self.segments) + struct.pack(">H", SOD)
+        length = 12 + len(header) + len(self.packets)
+        return struct.pack(">HHHI", SOT, 10, self.tile, length) + self.numbers + header + self.packets
+
+
+def written(marker, content):
+    return struct.pack(">HH", marker, 2 + len(content)) + content
+
+
+def segments_until(codestream, at, last):
+    """The segments from there up to a marker, and where that stands."""
+    found = []
+    while True:
+        marker, length = struct.unpack_from(">HH", codestream, at)
+        if marker == last:
+            return found, at
+        found.append((marker, codestream[at + 4 : at + 2 + length]))
+        at += 2 + length
+
+
+def taken_apart(codestream):
+    """The main header's segments, and the tile-parts."""
+    header, at = segments_until(codestream, len(SOC), SOT)
+    parts = []
+    while codestream[at : at + 2] != EOC:
+        _, _, tile, length = struct.unpack_from(">HHHI", codestream, at)
+        segments, sod = segments_until(codestream, at + 12, SOD)
+        parts.append(Part(tile, codestream[at + 10 : at + 12], segments, codestream[sod + 2 : at + length]))
+        at += length
+    return header, parts
+
+
+def joined(header, parts):
+    return SOC + b"".join(written(*segment) for segment in header) + b"".join(part.written() for part in parts) + EOC
+
+
+def numbered(marker, content, most=LONGEST):
+    """As many segments as it takes, each with its number."""
+    pieces = [content[at : at + most] for at in range(0, len(content), most)]
+    return [(marker, bytes([number]) + piece) for number, piece in enumerate(pieces)]
+
+
+def divided(packets):
+    """Each packet's SOP, header with its EPH, and body. No two bytes above FF8F stand inside a header or a body."""
+    found = []
+    for packet in packets.split(SOP)[1:]:
+        header, eph, body = packet[2:].partition(EPH)
+        found.append((SOP + packet[:2], header + eph, body))
+    return found
+
+
+def with_ppm(codestream, most=LONGEST):
+    """The same picture, compressed with -SOP -EPH, with the packet headers of all tile-parts in its main header."""
+    header, parts = taken_apart(codestream)
+    packed, bare = b"", []
+    for part in parts:
+        packets = divided(part.packets)
+        headers = b"".join(header for _, header, _ in packets)
+        packed += struct.pack(">I", len(headers)) + headers
+        bare.append(part._replace(packets=b"".join(sop + body for sop, _, body in packets)))
+    return joined(header + numbered(PPM, packed, most), bare)
+
+
+def with_plm(codestream):
+    """The same picture, compressed with -PLT, with the packet lengths of all tile-parts in its main header."""
+    header, parts = taken_apart(codestream)
+    packed, bare = b"", []
+    for part in parts:
+        lengths = b"".join(content[1:] for marker, content in part.segments if marker == PLT)
+        packed += struct.pack("B", len(lengths)) + lengths
+        bare.append(part._replace(segments=[segment for segment in part.segments if segment[0] != PLT]))
+    return joined(header + numbered(PLM, packed), bare)
+
+
+def with_segment(codestream, marker, content):
+    """One more segment at the end of the main header."""
+    header, parts = taken_apart(codestream)
+    return joined([*header, (marker, content)], parts)
+
+
+def with_segment_behind(codestream, marker, content):
+    """One more segment in the first tile-part's header."""
+    header, (first, *parts) = taken_apart(codestream)
+    return joined(header, [first._replace(segments=[*first.segments, (marker, content)]), *parts])
