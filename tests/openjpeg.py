@@ -3,11 +3,20 @@
 
 Makes small images, compresses them by opj_compress over a grid of options, and for each file holds
   the tile-parts that `winterhasp list` lists to those that OpenJPEG meets as it decodes,
-  each tile that `winterhasp tile` cuts, by either rule, decoded, to the crop of the whole picture, decoded,
+  each tile that `winterhasp tile` cuts, by each rule, decoded, to the crop of the whole picture, decoded,
   the components that `winterhasp show` tells to those that opj_dump tells, and
   their sizes and places, in the image and in some tiles, and these tiles' own, to OpenJPEG's as it decodes.
-A tile is moved to the origin as it is cut, by both rules, so that pixels may be wrong: right and wrong tiles
-are counted by kind of grid and by rule. What has to hold:
+
+In place, by the default rule, every tile has to be equal, decoded plainly, with its own size and place, on
+every grid and however it is compressed: to the crop of the whole picture, or if the whole is not decoded to
+what OpenJPEG decodes of it where it is asked for that tile. Of a tile in which a component has no sample it
+decodes neither. By Grok too every tile has to be equal, wherever it decodes the whole; of that it leaves out
+a tile whose TNsot counts tile-parts that are not there, as OpenJPEG writes it with -POC and -TP. Components
+are compared as they are decoded; where both tools make RGB of fewer samples of colour, the first column and
+row of a tile that starts at an odd one may have other colours, and nothing else.
+
+By the two other rules a tile is moved to the origin as it is cut, so that pixels may be wrong: right and
+wrong tiles are counted by kind of grid and by rule. What has to hold:
   By both rules every tile is equal where image and tile origin are 0 and tile sides and subsampling are
   powers of two, a side at least 2^levels times the subsampling.
   By Annex B's rule so is every tile but those of full size where the image starts half a side behind the
@@ -17,14 +26,16 @@ are counted by kind of grid and by rule. What has to hold:
   if it has full size, and so keeps its header, to where that has tile 0. In samples that is another size
   than its own where the subsampling falls otherwise there, or where that header's tile 0 is smaller.
   Of a tile that decodes wrong `tile` has said so, but where a side is too small.
-What is cut is decoded twice: tile 0 of it, and plainly, all of it. A tile of full size keeps the
+What they cut is decoded twice: tile 0 of it, and plainly, all of it. A tile of full size keeps the
 whole image's size, so there the plain picture is that large, and the tile is its upper left corner.
+
+A file with the packet headers of all tiles in its main header (PPM) is made of OpenJPEG's, and has to be
+refused by every rule: decoded, a tile that is cut out of it all the same is wrong. With packet lengths
+there (PLM), or packet headers in each tile-part's header (PPT), tiles have to be equal by both decoders.
 Status 1 if anything differs that must not, or if too little was compared; 2 if the run can't be made.
 """
 
 import argparse
-import contextlib
-import ctypes
 import itertools
 import json
 import random
@@ -40,13 +51,17 @@ from concurrent.futures import ThreadPoolExecutor
 from pathlib import Path
 from typing import NamedTuple
 
+import packed
+from pictures import Component, Library, corner, decoded, grok, in_gray_jp2, install, rectangle, sizes, told
+
 ROOT = Path(__file__).resolve().parent.parent
 SEED = 15444
 WORKERS = 2
-ANNEX_B, ORIGINAL = RULES = ["annex-b", "original"]
+IN_PLACE, *MOVING = RULES = ["in-place", "annex-b", "original"]
+ANNEX_B, ORIGINAL = MOVING
 MUST = "origins 0, powers of two, large enough"
 HALF = "image half a side behind the tiles, powers of two, large enough"
-# There have to be so many in a run of 100 seconds; with the command under an emulator there are some twice as many.
+# There have to be so many in a run of 180 seconds; with the command under an emulator there are some twice as many.
 # Files of the first kind, and tiles that are equal by each rule.
 LEAST_FILES = 15
 LEAST_TILES = 100
@@ -57,6 +72,10 @@ LEAST_APART = 40
 # Tiles in which components are held, where image and tile origin are equal, and where they differ.
 LEAST_SIZED = 60
 LEAST_SIZED_APART = 20
+# Tiles that are equal in place by OpenJPEG, and by Grok; of each feature of a file; and shown as RGB by each.
+LEAST_IN_PLACE = 400
+LEAST_OF_A_FEATURE = 10
+LEAST_RGB = 10
 
 
 class Image(NamedTuple):
@@ -81,6 +100,9 @@ class Grid(NamedTuple):
     origin: tuple = (0, 0)
     tile_origin: tuple = (0, 0)
     subsampling: tuple = (1, 1)
+
+    def is_sampled_fully(self):
+        return {*self.image.components, self.subsampling} == {(1, 1)}
 
     def words(self):
         pair = "{0[0]},{0[1]}".format
@@ -111,6 +133,11 @@ HALF_WIDTH = Image(128, 60, ((1, 1), (2, 1)))
 CHROMA_HALVED = Image(128, 96, ((1, 1), (2, 2), (2, 2), (1, 1)))
 # 4:2:0
 CHROMA_420 = Image(126, 90, ((1, 1), (2, 2), (2, 2)))
+CHROMA_422 = Image(126, 90, ((1, 1), (2, 1), (2, 1)))
+CHROMA_QUARTERED = Image(60, 52, ((1, 1), (4, 4)))
+MIXED = Image(120, 99, ((1, 1), (3, 3), (2, 1)))
+SMALL = Image(41, 33)
+TINY = Image(16, 14)
 SIGNED = Image(80, 60, signed=True)
 NARROW = Image(3, 150)
 
@@ -180,17 +207,48 @@ GRIDS_COUNTED = [
     Grid(GRAY_12, (50, 40), 2, origin=(7, 9), tile_origin=(7, 9), subsampling=(3, 2)),
 ]
 
-# Of these the components alone are held: of three components, two of them with fewer samples,
-# opj_decompress makes RGB.
-GRIDS_OF_COMPONENTS = [
-    Grid(CHROMA_420, (64, 64), 4),
-    Grid(CHROMA_420, (50, 40), 2),
-    Grid(CHROMA_420, (126, 90), 1),
-    Grid(CHROMA_420, (51, 33), 2, origin=(7, 9), tile_origin=(7, 9)),
-    Grid(CHROMA_420, (64, 64), 4, origin=(1, 1), tile_origin=(1, 1)),
-    Grid(CHROMA_420, (64, 64), 4, origin=(3, 5)),
-    Grid(CHROMA_420, (50, 40), 2, origin=(9, 8), tile_origin=(5, 3)),
-]
+# Of these tiles are cut in place alone. Of three components, two of them with fewer samples, opj_decompress makes RGB.
+GRIDS_IN_PLACE = {
+    "4:2:0": [
+        Grid(CHROMA_420, (64, 64), 4),
+        Grid(CHROMA_420, (50, 40), 2),
+        Grid(CHROMA_420, (126, 90), 1),
+        Grid(CHROMA_420, (51, 33), 2, origin=(7, 9), tile_origin=(7, 9)),
+        Grid(CHROMA_420, (64, 64), 4, origin=(1, 1), tile_origin=(1, 1)),
+        Grid(CHROMA_420, (64, 64), 4, origin=(3, 5)),
+        Grid(CHROMA_420, (50, 40), 2, origin=(9, 8), tile_origin=(5, 3)),
+    ],
+    "4:2:2": [
+        Grid(CHROMA_422, (64, 64), 4),
+        Grid(CHROMA_422, (51, 33), 2, origin=(7, 9), tile_origin=(3, 2)),
+    ],
+    "sides odd": [
+        Grid(GRAY, (33, 17), 4),
+        Grid(GRAY, (37, 29), 4, origin=(13, 7), tile_origin=(1, 3)),
+        Grid(COLOUR, (33, 31), 3, origin=(1, 1)),
+    ],
+    "sides small": [
+        Grid(SMALL, (8, 8), 3),
+        Grid(SMALL, (9, 11), 3, origin=(5, 3), tile_origin=(2, 1)),
+        Grid(SMALL, (7, 4), 2, origin=(3, 2), tile_origin=(1, 1)),
+        Grid(TINY, (3, 5), 0),
+        Grid(TINY, (1, 1000), 0),
+        Grid(CHROMA_QUARTERED, (16, 16), 4, origin=(3, 3)),
+    ],
+    "subsampling 3": [
+        Grid(GRAY_12, (64, 64), 4, subsampling=(3, 3)),
+        Grid(COLOUR, (40, 40), 3, origin=(7, 5), tile_origin=(2, 3), subsampling=(3, 2)),
+        Grid(MIXED, (37, 29), 2, origin=(5, 9), tile_origin=(4, 2)),
+    ],
+    "origins far from 0": [
+        Grid(GRAY, (64, 64), 3, origin=(1_000_003, 70_001), tile_origin=(1_000_001, 70_000)),
+        Grid(GRAY, (50, 40), 3, origin=(2_000_000_003, 1_999_999_999), tile_origin=(2_000_000_000, 1_999_999_990)),
+    ],
+    "a component without a sample": [
+        Grid(Image(8, 8, ((1, 1), (2, 2))), (1, 3), 0),
+        Grid(Image(12, 8, ((1, 1), (4, 4), (1, 1))), (3, 3), 0),
+    ],
+}
 
 PROGRESSIONS = ["LRCP", "RLCP", "RPCL", "PCRL", "CPRL"]
 DIVISIONS = [[], ["-TP", "R"], ["-TP", "L"], ["-TP", "C"]]
@@ -198,23 +256,104 @@ TLM = [[], ["-TLM"]]
 SUFFIXES = ["j2k", "jp2"]
 LAYERS = [[], ["-r", "20,5,1"]]
 EXTRAS = [[], ["-I"], ["-b", "32,16"], ["-SOP"], ["-PLT"], ["-c", "[128,128]"]]
+GRK_COMPRESS = "grk_compress"
+# More ways, in place alone: code-blocks, precincts and modes of every kind, and a change of progression.
+POC = "POC"
+EXTRAS_IN_PLACE = [
+    *EXTRAS,
+    *(["-M", mode] for mode in ("1", "2", "4", "8", "16", "32", "63")),
+    *(["-b", block] for block in ("4,4", "64,16", "8,64")),
+    *(["-c", precincts] for precincts in ("[32,32]", "[64,64],[32,32],[16,16]", "[256,128],[64,64]")),
+    *(["-I", *words] for words in (["-c", "[32,32]"], ["-b", "8,16"], ["-r", "40,10"], ["-M", "5"])),
+    *(["-EPH"], ["-SOP", "-EPH"], ["-SOP", "-EPH", "-PLT"], ["-ROI", "c=0,U=7"], [POC]),
+]
+# Ways of grk_compress, with the same words for a grid; of fewer samples it takes no file that is made here.
+WAYS_OF_GROK = [
+    *([], ["-I"], ["-M", "64"], ["-M", "64", "-I"], ["-S", "-E", "-p", "RPCL"], ["-L", "-u", "R"], ["-X", "-u", "C", "-p", "CPRL"]),
+    *(["-r", "20,5,1", "-u", "L"], ["-I", "-r", "20,5"], ["-c", "[32,32]", "-p", "PCRL"], ["-b", "8,16", "-I", "-p", "RLCP"]),
+]
 FILES_OF_A_GRID = 10
 FILES_OF_A_COUNTED_GRID = 6
+FILES_OF_A_GRID_IN_PLACE = 8
+
+
+class Case(NamedTuple):
+    """What one file is made of; of some, tiles are cut in place alone, under the name of a kind."""
+
+    grid: Grid
+    options: list
+    suffix: str
+    in_place: str = None
+    tool: str = "opj_compress"
+
+    def words(self):
+        return [*self.grid.words(), *self.options]
+
+    def name(self):
+        image = self.grid.image
+        size = f"{image.width} by {image.height}, {image.bits} bits at {image.sampling()}"
+        return f"{self.suffix} of {size}: {self.tool} {' '.join(self.words())}"
+
+    def features(self):
+        """What pixels might hang on, beside the kind of grid."""
+        words = self.options
+        yield "9-7" if "-I" in words else "5-3"
+        yield words[words.index("-p") + 1] if "-p" in words else PROGRESSIONS[0]
+        if self.tool == GRK_COMPRESS:
+            yield "written by Grok"
+            yield from ["high throughput"] * ("64" in words)
+            return
+        named = {"-c": "precincts", "-b": "code-blocks", "-M": "modes", "-ROI": "ROI", "-POC": POC, "-r": "several layers"}
+        named |= {"-TP": "several tile-parts", "-SOP": "SOP", "-EPH": "EPH", "-PLT": "PLT", "-TLM": "TLM"}
+        yield from (feature for option, feature in named.items() if option in words)
 
 
 def cases():
-    """(grid, other options, suffix) of each file, in an order that mixes them well."""
+    """Of each file, in an order that mixes them well."""
     chance = random.Random(SEED)
     ways = list(itertools.product(PROGRESSIONS, DIVISIONS, TLM, LAYERS, EXTRAS, SUFFIXES))
     chance.shuffle(ways)
     found = []
     grids = GRIDS * FILES_OF_A_GRID + GRIDS_COUNTED * FILES_OF_A_COUNTED_GRID + [MANY_TILES] * 2
     for grid, way in zip(grids, ways):
-        progression, *options, suffix = way
-        found.append((grid, ["-p", progression, *itertools.chain(*options)], suffix))
+        found.append(case(grid, way))
+    found += cases_in_place(chance)
     chance.shuffle(found)
-    of_components = [(grid, [], suffix) for grid in GRIDS_OF_COMPONENTS for suffix in SUFFIXES]
-    return of_components + found
+    return some_of_each_feature_first(found)
+
+
+def some_of_each_feature_first(found):
+    """So that a slow run has them too."""
+    met, first, later = Counter(), [], []
+    for case in found:
+        features = list(case.features()) if case.in_place else []
+        (first if any(met[feature] < 2 for feature in features) else later).append(case)
+        met.update(features)
+    return first + later
+
+
+def case(grid, way, in_place=None):
+    progression, *options, suffix = way
+    options = list(itertools.chain(*options))
+    if POC in options:
+        ends = f"{grid.levels + 1},{len(grid.image.components)}"
+        options[options.index(POC) :] = ["-POC", f"T1=0,0,1,{ends},RLCP/T1=0,0,3,{ends},CPRL"]
+    return Case(grid, ["-p", progression, *options], suffix, in_place)
+
+
+def cases_in_place(chance):
+    """Each way is taken about as often as any other."""
+    ways_of_grok = itertools.cycle(WAYS_OF_GROK)
+    ways = [list(itertools.product([extra], PROGRESSIONS, DIVISIONS, TLM, LAYERS, SUFFIXES)) for extra in EXTRAS_IN_PLACE]
+    extras = itertools.cycle(ways)
+    for kind, grids in GRIDS_IN_PLACE.items():
+        for grid in grids:
+            yield from (Case(grid, [], suffix, kind) for suffix in SUFFIXES)
+            for _ in range(FILES_OF_A_GRID_IN_PLACE):
+                extra, progression, *options, suffix = chance.choice(next(extras))
+                yield case(grid, (progression, *options, extra, suffix), kind)
+            for suffix in SUFFIXES * 2 if grid.is_sampled_fully() else []:
+                yield Case(grid, next(ways_of_grok), suffix, kind, GRK_COMPRESS)
 
 
 def give_up(why):
@@ -239,14 +378,14 @@ def write_image(image, folder):
     """Gives the words that have opj_compress read it."""
     planes = [list(samples(image, dx, dy, salt)) for salt, (dx, dy) in enumerate(image.components)]
     code = "B" if image.bits <= 8 else ">H"
-    packed = lambda numbers: b"".join(struct.pack(code, number) for number in numbers)
+    in_bytes = lambda numbers: b"".join(struct.pack(code, number) for number in numbers)
     head = f"{image.width} {image.height}\n{(1 << image.bits) - 1}\n".encode()
     if len(planes) == 1 and not image.signed:
-        path, content = folder / "image.pgm", b"P5\n" + head + packed(planes[0])
+        path, content = folder / "image.pgm", b"P5\n" + head + in_bytes(planes[0])
     elif image.components == ((1, 1),) * 3:
-        path, content = folder / "image.ppm", b"P6\n" + head + packed(sum(zip(*planes), ()))
+        path, content = folder / "image.ppm", b"P6\n" + head + in_bytes(sum(zip(*planes), ()))
     else:
-        path, content = folder / "image.raw", b"".join(map(packed, planes))
+        path, content = folder / "image.raw", b"".join(map(in_bytes, planes))
     path.write_bytes(content)
     if path.suffix != ".raw":
         return ["-i", str(path)]
@@ -257,139 +396,12 @@ def write_image(image, folder):
 def write_images(folder):
     """The words for each image of the grids."""
     words = {}
-    for image in {grid.image for grid in GRIDS + GRIDS_COUNTED + GRIDS_OF_COMPONENTS + [MANY_TILES]}:
+    in_place = itertools.chain(*GRIDS_IN_PLACE.values())
+    for image in {grid.image for grid in [*GRIDS, *GRIDS_COUNTED, *in_place, MANY_TILES]}:
         place = folder / f"image{len(words)}"
         place.mkdir()
         words[image] = write_image(image, place)
     return words
-
-
-# OpenJPEG
-
-
-def install():
-    if shutil.which("opj_compress") is None:
-        for words in ["update -q", "install -y -q libopenjp2-tools"]:
-            if subprocess.run(["apt-get", *words.split()]).returncode:
-                give_up("libopenjp2-tools can't be installed")
-
-
-def told(words):
-    """A program's answer, as bytes, or none if it fails."""
-    ended = subprocess.run([str(word) for word in words], capture_output=True)
-    return ended.stdout if ended.returncode == 0 else None
-
-
-class OpjComponent(ctypes.Structure):
-    NUMBERS = "dx dy w h x0 y0 prec bpp sgnd resno_decoded factor"
-    _fields_ = [*((name, ctypes.c_uint32) for name in NUMBERS.split()), ("data", ctypes.c_void_p), ("alpha", ctypes.c_uint16)]
-
-
-class OpjImage(ctypes.Structure):
-    NUMBERS = "x0 y0 x1 y1 numcomps color_space"
-    _fields_ = [*((name, ctypes.c_uint32) for name in NUMBERS.split()), ("comps", ctypes.POINTER(OpjComponent))]
-
-
-class Library:
-    """The library behind the tools. opj_dump reads the main header alone and lists no tile-part;
-    the library's own dump, asked for once the file is decoded, lists them all. Not strictly
-    decoded, as there are files of its own that it fails to decode otherwise. Nor does opj_dump tell
-    the size of a component, or anything of one tile; the library's own image does."""
-
-    SUFFIX_FORMATS = {"j2k": 0, "jp2": 2}
-    MAIN_HEADER_INDEX = 16
-    IS_INPUT = 1
-    # More than opj_dparameters_t has.
-    PARAMETERS = 1 << 16
-
-    def __init__(self):
-        self.opj = ctypes.CDLL("libopenjp2.so.7")
-        self.libc = ctypes.CDLL(None)
-        for function in [
-            self.opj.opj_create_decompress,
-            self.opj.opj_stream_create_default_file_stream,
-            self.libc.fopen,
-        ]:
-            function.restype = ctypes.c_void_p
-
-    @contextlib.contextmanager
-    def opened(self, path):
-        """Codec, stream, and the image by its main header; none if that can't be read."""
-        opj = self.opj
-        codec = ctypes.c_void_p(opj.opj_create_decompress(self.SUFFIX_FORMATS[path.suffix[1:]]))
-        parameters = ctypes.create_string_buffer(self.PARAMETERS)
-        opj.opj_set_default_decoder_parameters(parameters)
-        name = str(path).encode()
-        stream = ctypes.c_void_p(opj.opj_stream_create_default_file_stream(name, self.IS_INPUT))
-        image = ctypes.POINTER(OpjImage)()
-        read = (
-            opj.opj_setup_decoder(codec, parameters)
-            and opj.opj_decoder_set_strict_mode(codec, False)
-            and opj.opj_read_header(stream, codec, ctypes.byref(image))
-        )
-        try:
-            yield (codec, stream, image) if read else None
-        finally:
-            opj.opj_stream_destroy(stream)
-            opj.opj_destroy_codec(codec)
-            opj.opj_image_destroy(image)
-
-    def dump(self, path, out):
-        """Writes the index of `path` to `out`; whether that went well."""
-        with self.opened(path) as opened:
-            if not opened or not self.opj.opj_decode(*opened):
-                return False
-            file = ctypes.c_void_p(self.libc.fopen(str(out).encode(), b"w"))
-            self.opj.opj_dump_codec(opened[0], self.MAIN_HEADER_INDEX, file)
-            self.libc.fclose(file)
-            return True
-
-    def components(self, path, tile=None):
-        """The area of the image, or of a tile, which is decoded, and its components; none if it can't be."""
-        with self.opened(path) as opened:
-            if not opened or tile is not None and not self.opj.opj_get_decoded_tile(*opened, tile):
-                return None
-            image = opened[2].contents
-            return (image.x0, image.y0, image.x1, image.y1), [
-                Component(one.prec, one.sgnd == 1, (one.dx, one.dy), (one.x0, one.y0, one.x0 + one.w, one.y0 + one.h))
-                for one in image.comps[: image.numcomps]
-            ]
-
-    def index(self, path):
-        """Where the codestream starts in the file, and (tile, offset in the file, length) of each
-        tile-part in the file's order; nothing if the file can't be decoded."""
-        out = path.with_suffix(".index")
-        return read_index(out.read_text()) if self.dump(path, out) else None
-
-
-def read_index(text):
-    start = int(re.search(r"Main header start position=(\d+)", text)[1])
-    tile, parts = None, []
-    line = r"nb of tile-part in tile \[(\d+)\]|star_pos=(\d+), end_header=\d+, end_pos=(\d+)"
-    for new_tile, begin, end in re.findall(line, text):
-        if new_tile:
-            tile = int(new_tile)
-        else:
-            parts.append((tile, int(begin), int(end) - int(begin)))
-    return start, sorted(parts, key=lambda part: part[1])
-
-
-def decoded(path, *words):
-    """(width, height, bytes of a sample, samples) of each component, or none."""
-    out = path.with_suffix(".pgx")
-    if told(["opj_decompress", "-quiet", "-i", path, "-o", out, *words]) is None:
-        return None
-    planes = []
-    while (plane := path.with_name(f"{path.stem}_{len(planes)}.pgx")).exists():
-        planes.append(read_pgx(plane.read_bytes()))
-        plane.unlink()
-    return planes
-
-
-def read_pgx(content):
-    head, _, body = content.partition(b"\n")
-    bits, width, height = map(int, head.split()[-3:])
-    return width, height, (bits + 7) // 8, body
 
 
 # Codestreams, ISO/IEC 15444-1 Annex A, and tiles, Annex B
@@ -476,45 +488,58 @@ def moved(siz, tile):
     return [(0, end - start) for start, end in bounds(siz, tile)]
 
 
-def rectangle(plane, left, top, columns, rows):
-    """A part of a component, as `decoded` gives it."""
-    width, _, sample, body = plane
-    starts = [(row * width + left) * sample for row in range(top, top + rows)]
-    cut = b"".join(body[start : start + columns * sample] for start in starts)
-    return columns, rows, sample, cut
+def area(axes, factors=(1, 1)):
+    """x0, y0, x1, y1 of ((x0, x1), (y0, y1)), or of a component there, on its own grid."""
+    (x0, x1), (y0, y1) = ([up(edge, factor) for edge in edges] for edges, factor in zip(axes, factors))
+    return x0, y0, x1, y1
+
+
+def areas(siz, tile):
+    """Of a tile's components, each on its own grid."""
+    return [area(bounds(siz, tile), factors) for factors in siz.components]
 
 
 def crop(siz, tile, planes):
-    """A tile's part of the whole picture, as `decoded` gives it."""
+    """A tile's part of the whole picture's planes."""
     found = []
     for factors, plane in zip(siz.components, planes):
         left, top = (up(start, factor) for start, factor in zip(siz.origin, factors))
-        axes = zip(bounds(siz, tile), factors)
-        (x0, x1), (y0, y1) = ([up(edge, factor) for edge in edges] for edges, factor in axes)
+        x0, y0, x1, y1 = area(bounds(siz, tile), factors)
         found.append(rectangle(plane, x0 - left, y0 - top, x1 - x0, y1 - y0))
     return found
 
 
-def corner(planes, part):
-    """The upper left of each component, as large as `part`'s is."""
-    return [rectangle(plane, 0, 0, *size) for plane, size in zip(planes, sizes(part))]
+# Colours
 
 
-def sizes(planes):
-    return [(width, height) for width, height, _, _ in planes]
+def is_shown_as_rgb(siz):
+    """Whether both tools make RGB of it: three components of which two have fewer samples."""
+    first, *others = siz.components
+    return first == (1, 1) and others in ([(2, 2)] * 2, [(2, 1)] * 2)
+
+
+RGB = EQUAL_RGB, FIRST_RGB, OTHER_RGB = ["equal", "first column or row", "other"]
+
+
+def rgb(siz, tile, shown, whole):
+    """What came of a tile as RGB beside the crop of the whole: a tile that starts at an odd column or row has no sample of colour
+    there, and so the tools give that column or row, and no other, colours of its own."""
+    if not shown or not whole:
+        return None
+    full = siz._replace(components=[(1, 1)] * len(siz.components))
+    wanted = crop(full, tile, whole)
+    if shown == wanted:
+        return EQUAL_RGB
+    x, y, _, _ = area(bounds(siz, tile))
+    cut = lambda planes: [rectangle(plane, x % 2, y % 2, plane[0] - x % 2, plane[1] - y % 2) for plane in planes]
+    if sizes(shown) == sizes(wanted) and (x % 2 or y % 2) and cut(shown) == cut(wanted):
+        return FIRST_RGB
+    return OTHER_RGB
 
 
 # Components
 
 EDGES = ["x0", "y0", "x1", "y1"]
-
-
-class Component(NamedTuple):
-    bits: int
-    signed: bool
-    factors: tuple
-    # x0, y0, x1, y1, on its own grid.
-    area: tuple = None
 
 
 def dumped(path):
@@ -553,19 +578,21 @@ def view(shown, tile, whole):
 
 # One file
 
-# In place of a kind, for a file of which no tile is cut.
-ONLY_COMPONENTS = "components alone"
-NOT_MADE = "not compressed by opj_compress"
+NOT_MADE = "not compressed"
 LISTS_DIFFER = "tile-parts differ"
 
 # Outcomes of a tile that was cut, and that there is something to hold to.
 EQUAL = "equal"
 WRONG = OTHER_PIXELS, OTHER_SIZE, NOT_DECODED = ["other pixels", "other size", "not decoded"]
-# Outcomes of one that was not, or that there is nothing to hold to.
-NOT_CUT = "not cut"
-NOT_HELD = [NOT_CUT, "cut with TLM", "whole not decoded"]
+# Outcomes of one that was not, or that there is nothing to hold to. Where a component has no sample OpenJPEG decodes
+# neither the tile alone nor, where it is asked for it, the tile of the whole.
+NOT_CUT, WITH_TLM, NO_WHOLE, NO_SAMPLE = "not cut", "cut with TLM", "whole not decoded", "no sample"
+NOT_HELD = [NOT_CUT, WITH_TLM, NO_WHOLE, NO_SAMPLE]
+# Of one that Grok decodes, and does not put into the whole.
+LEFT_OUT = "left out of the whole"
 # Parts of the notes by which `tile` tells of a wrong one before it is decoded.
 MAY_BE_WRONG, IS_WRONG = "may decode to other pixels", "decodes wrong"
+OPENJPEG, GROK = DECODERS = ["OpenJPEG", "Grok"]
 
 
 class Cut(NamedTuple):
@@ -590,18 +617,22 @@ OWN_SIZE = "own size"
 
 class Seen(NamedTuple):
     """What came of one file: tiles counted by rule under their outcome, and under what a plain decode of them
-    shows; those that had to be as they are; some counted under what came of the sizes in them; troubles as text."""
+    shows; those that had to be as they are; some counted under what came of the sizes in them; in place, by decoder
+    under their outcome, and as RGB; what the file has; troubles as text."""
 
     kind: str
     outcomes: Counter
     views: Counter
     bound: Counter
     sized: Counter
+    decoders: Counter
+    rgb: Counter
+    features: tuple
     troubles: list
 
     @classmethod
-    def empty(cls, kind):
-        return cls(kind, *(Counter() for _ in range(4)), [])
+    def empty(cls, kind, features=()):
+        return cls(kind, *(Counter() for _ in range(6)), tuple(features), [])
 
     @classmethod
     def without_tiles(cls, kind, name):
@@ -619,6 +650,26 @@ def told_wrong(cut, held, kind):
         yield f"equal, and it was said: {cut.said}"
 
 
+def outcome_of(planes, wanted):
+    if not wanted:
+        return NO_WHOLE
+    if not planes:
+        return NOT_DECODED
+    if sizes(planes) != sizes(wanted):
+        return OTHER_SIZE
+    return EQUAL if planes == wanted else OTHER_PIXELS
+
+
+class Whole(NamedTuple):
+    """One file: its bare codestream, the picture as the library decodes it, and its planes by opj_decompress."""
+
+    path: Path
+    codestream: Path
+    siz: Siz
+    picture: object
+    planes: list
+
+
 class Run:
     def __init__(self, binary, folder, seconds):
         self.winterhasp = binary
@@ -627,52 +678,132 @@ class Run:
         self.library = Library()
         self.images = write_images(folder)
 
-    def file(self, number, grid, options, suffix):
+    def file(self, number, case):
         """What was seen, or none if time is up."""
         if time.monotonic() > self.until:
             return None
         folder = self.folder / f"file{number}"
         folder.mkdir()
-        path = folder / f"whole.{suffix}"
-        words = [*grid.words(), *options]
-        image = grid.image
-        size = f"{image.width} by {image.height}, {image.bits} bits at {image.sampling()}"
-        name = f"{suffix} of {size}: {' '.join(words)}"
+        path = folder / f"whole.{case.suffix}"
         try:
-            made = told(["opj_compress", *self.images[image], "-o", path, *words])
-            if made is None or not path.exists():
-                return Seen.without_tiles(NOT_MADE, name)
-            return self.compared(path, grid, name)
+            if not self.compressed(case.grid.image, path, case.words(), case.tool):
+                return Seen.without_tiles(NOT_MADE, case.name())
+            return self.compared(path, case)
         finally:
             shutil.rmtree(folder)
 
-    def compared(self, path, grid, name):
+    def compressed(self, image, path, words, tool="opj_compress"):
+        read = self.images[image]
+        if tool == GRK_COMPRESS:
+            read = ["-H", "1", *("-Y" if word == "-mct" else word for word in read)]
+        return told([tool, *read, "-o", path, *words]) is not None and path.exists()
+
+    def compared(self, path, case):
+        name = case.name()
         listed = self.listed(path)
         (start, length), *_ = [*listed["codestream"], (0, 0)]
         parts = [(tile, start + at, size) for tile, at, size in listed["part"]]
-        if self.library.index(path) != (start, parts):
+        index = self.library.index(path)
+        # there are some that it wrote, and that it does not decode at all
+        if index != (start, parts) and not (case.in_place and index is None):
             return Seen.without_tiles(LISTS_DIFFER, name)
         # As a bare codestream, since a JP2's colours may be converted.
         codestream = path.with_name("codestream.j2k")
         codestream.write_bytes(path.read_bytes()[start : start + length])
         siz = read_siz(codestream.read_bytes())
         tiles = sorted({tile for tile, _, _ in parts})
-        only_components = grid in GRIDS_OF_COMPONENTS
-        seen = Seen.empty(ONLY_COMPONENTS if only_components else kind(siz, grid.levels))
+        seen = Seen.empty(case.in_place or kind(siz, case.grid.levels), case.features())
         some = {tiles[0], tiles[len(tiles) // 2], tiles[-1]}
         for what in self.components(path, siz, some, seen.sized):
             seen.troubles.append(f"{what}: {name}")
-        if only_components:
-            return seen
-        planes = decoded(codestream)
-        for tile in tiles:
-            for what in self.tile(path, siz, tile, planes, seen):
+        whole = Whole(path, codestream, siz, self.library.picture(codestream), decoded(codestream))
+        for what in self.in_place(whole, tiles, some if case.in_place else tiles, seen):
+            seen.troubles.append(f"{what} {IN_PLACE}: {name}")
+        for tile in () if case.in_place else tiles:
+            for what in self.tile(whole, tile, seen):
                 seen.troubles.append(f"tile {tile} {what}: {name}")
         return seen
 
-    def tile(self, path, siz, tile, planes, seen):
-        """Counts what came of a tile by either rule; gives what must not be and is."""
-        cuts = {rule: self.cut(path, tile, rule) for rule in RULES}
+    # In place
+
+    def in_place(self, whole, tiles, some, seen):
+        """Counts what came of each tile in place, by OpenJPEG and by Grok; gives what must not be and is. The tool decodes some."""
+        folder = whole.path.with_name(IN_PLACE)
+        folder.mkdir()
+        for tile in tiles:
+            cut = self.cut(whole.path, tile, IN_PLACE, folder / f"tile{tile}.j2k")
+            outcome = self.outcome_in_place(whole, tile, cut)
+            seen.outcomes[IN_PLACE, outcome] += 1
+            seen.decoders[OPENJPEG, outcome] += 1
+            if outcome in WRONG or outcome in (NOT_CUT, WITH_TLM):
+                yield f"tile {tile} {outcome} {cut.said}"
+            if cut.said:
+                yield f"tile {tile}, and it was said: {cut.said}"
+            if tile in some and outcome == EQUAL:
+                yield from self.shown_in_place(whole, tile, cut, seen)
+        yield from self.grok_in_place(whole, tiles, folder, seen)
+
+    def outcome_in_place(self, whole, tile, cut):
+        if cut.content is None:
+            return NOT_CUT
+        if TLM_MARKER in markers(cut.content):
+            return WITH_TLM
+        siz = whole.siz
+        if whole.picture:
+            wanted = crop(siz, tile, whole.picture.planes)
+        else:
+            asked = self.library.picture(whole.codestream, tile)
+            wanted = asked and asked.planes
+        picture = self.library.picture(cut.path)
+        if not picture and any(0 in size for size in samples_in(siz, bounds(siz, tile))):
+            return NO_SAMPLE if not self.library.picture(whole.codestream, tile) else NOT_DECODED
+        if picture and (picture.area, picture.areas) != (area(bounds(siz, tile)), areas(siz, tile)):
+            return OTHER_SIZE
+        return outcome_of(picture and picture.planes, wanted)
+
+    def shown_in_place(self, whole, tile, cut, seen):
+        """What opj_decompress makes of it, plainly."""
+        shown = decoded(cut.path)
+        if is_shown_as_rgb(whole.siz):
+            yield from self.shown_as_rgb(OPENJPEG, whole, tile, shown, whole.planes, seen)
+        elif whole.planes:
+            seen.views[IN_PLACE, shown_as := view(shown, crop(whole.siz, tile, whole.planes), whole.planes)] += 1
+            if shown_as != THE_TILE:
+                yield f"tile {tile} {shown_as}"
+
+    def shown_as_rgb(self, decoder, whole, tile, shown, planes, seen):
+        outcome = rgb(whole.siz, tile, shown, planes)
+        seen.rgb[decoder, outcome] += 1
+        if outcome == OTHER_RGB:
+            yield f"tile {tile} as RGB by {decoder}: {outcome}"
+
+    def grok_in_place(self, whole, tiles, folder, seen):
+        """All at once; where it makes RGB of them, the components as they are from a JP2 as well."""
+        shutil.copy(whole.codestream, folder / "whole.j2k")
+        shown = grok(folder)
+        if is_shown_as_rgb(whole.siz):
+            for tile in tiles:
+                yield from self.shown_as_rgb(GROK, whole, tile, shown[f"tile{tile}"], shown["whole"], seen)
+            for path in list(folder.iterdir()):
+                path.with_suffix(".jp2").write_bytes(in_gray_jp2(path.read_bytes()))
+                path.unlink()
+            shown = grok(folder)
+        unfinished = packed.unfinished(whole.codestream.read_bytes())
+        for tile in tiles:
+            wanted = shown["whole"] and crop(whole.siz, tile, shown["whole"])
+            outcome = outcome_of(shown[f"tile{tile}"], wanted)
+            if outcome == OTHER_PIXELS and tile in unfinished:
+                outcome = LEFT_OUT
+            seen.decoders[GROK, outcome] += 1
+            if outcome in WRONG:
+                yield f"tile {tile} by {GROK}: {outcome}"
+
+    # Moved
+
+    def tile(self, whole, tile, seen):
+        """Counts what came of a tile by either rule that moves it; gives what must not be and is."""
+        siz, planes = whole.siz, whole.planes
+        cuts = {rule: self.cut(whole.path, tile, rule) for rule in MOVING}
         same = cuts[ANNEX_B].content == cuts[ORIGINAL].content
         if siz.origin == siz.tile_origin and not same:
             yield "is cut otherwise by the other rule"
@@ -706,9 +837,11 @@ class Run:
             if held.sizes != samples_in(siz, moved(siz, tile)):
                 yield f"has the size {held.sizes}"
 
-    def cut(self, path, tile, rule):
-        out = path.with_name(f"tile{tile}.{rule}.j2k")
-        words = [self.winterhasp, "tile", path, tile, "--rule", rule, "-o", out]
+    def cut(self, path, tile, rule, out=None):
+        out = out or path.with_name(f"tile{tile}.{rule}.j2k")
+        # the default rule has no need to be named
+        named = [] if rule == IN_PLACE else ["--rule", rule]
+        words = [self.winterhasp, "tile", path, tile, *named, "-o", out]
         ended = subprocess.run([str(word) for word in words], capture_output=True, text=True)
         return Cut(out, out.read_bytes() if ended.returncode == 0 else None, ended.stderr.strip())
 
@@ -716,16 +849,14 @@ class Run:
         if cut.content is None:
             return Held(NOT_CUT)
         if TLM_MARKER in markers(cut.content):
-            return Held("cut with TLM")
+            return Held(WITH_TLM)
         planes = decoded(cut.path, "-t", "0")
         if not expected:
-            return Held("whole not decoded", planes and sizes(planes))
+            return Held(NO_WHOLE, planes and sizes(planes))
         shown = view(decoded(cut.path), expected, whole)
-        if not planes:
-            return Held(NOT_DECODED, None, shown)
-        if sizes(planes) != sizes(expected):
-            return Held(OTHER_SIZE, sizes(planes), shown)
-        return Held(EQUAL if planes == expected else OTHER_PIXELS, sizes(planes), shown)
+        return Held(outcome_of(planes, expected), planes and sizes(planes), shown)
+
+    # Components and lists
 
     def components(self, path, siz, tiles, sized):
         """Counts what came of the components in each of these tiles; gives what must not differ and does."""
@@ -762,49 +893,184 @@ class Run:
         return found
 
 
+# Packets in the main header
+
+PACKED_GRIDS = [Grid(GRAY, (64, 64), 3), Grid(COLOUR, (32, 32), 2, origin=(7, 9), tile_origin=(3, 5))]
+PACKED_WAYS = [[], ["-I", "-c", "[32,32]", "-p", "RPCL"], ["-r", "20,5,1", "-p", "CPRL"]]
+PPM, PLM, PPT = FORMS = ["PPM", "PLM", "PPT"]
+# What OpenJPEG makes of one tile of the whole file is counted, and nothing hangs on it.
+ASKED = f"{OPENJPEG}, asked for one tile of the whole"
+REFUSED_PPM = "its main header holds the packet headers of all tiles (PPM"
+
+
+class Packed:
+    """Files with packet headers or lengths where OpenJPEG writes none."""
+
+    def __init__(self, run):
+        self.run = run
+        self.tiles = Counter()
+        self.troubles = []
+
+    def all(self):
+        for number, (grid, way) in enumerate(itertools.product(PACKED_GRIDS, PACKED_WAYS)):
+            folder = self.run.folder / f"packed{number}"
+            folder.mkdir()
+            words = [*grid.words(), *way, "-SOP", "-EPH"]
+            for what in self.file(folder, grid, words):
+                self.troubles.append(f"{what}: {' '.join(words)}")
+            shutil.rmtree(folder)
+
+    def file(self, folder, grid, words):
+        plain, lengths = folder / "plain.j2k", folder / "lengths.j2k"
+        if not self.run.compressed(grid.image, plain, words) or not self.run.compressed(grid.image, lengths, [*words, "-PLT"]):
+            yield NOT_MADE
+            return
+        made = {
+            PPM: packed.with_ppm(plain.read_bytes()),
+            PPT: packed.with_ppt(plain.read_bytes()),
+            PLM: packed.with_plm(lengths.read_bytes()),
+        }
+        siz = read_siz(plain.read_bytes())
+        pictures = self.decoded(folder / "of-the-whole", {"plain": plain.read_bytes()} | made)
+        for form, codestream in made.items():
+            for decoder, found in pictures.items():
+                if not found["plain"] or found[form] != found["plain"]:
+                    yield f"{form}: the whole is another picture by {decoder}"
+            yield from self.cut(folder / form, form, codestream, siz, {decoder: found["plain"] for decoder, found in pictures.items()})
+
+    def cut(self, folder, form, codestream, siz, pictures):
+        """Each tile: of PPM by our own hand, once the command has refused it."""
+        path = folder.with_suffix(".j2k")
+        path.write_bytes(codestream)
+        tiles = {}
+        for tile in sorted({part.tile for part in packed.taken_apart(codestream)[1]}):
+            if form == PPM:
+                yield from self.refused(path, tile)
+                asked = self.run.library.picture(path, tile)
+                self.tiles[PPM, ASKED, outcome_of(asked and asked.planes, crop(siz, tile, pictures[OPENJPEG]))] += 1
+                tiles[tile] = packed.cut_out(codestream, tile, area(bounds(siz, tile)))
+            else:
+                cut = self.run.cut(path, tile, IN_PLACE)
+                tiles[tile] = cut.content
+                if cut.content != packed.cut_out(codestream, tile, area(bounds(siz, tile))):
+                    yield f"{form}: tile {tile} is cut otherwise {cut.said}"
+                    return
+        for decoder, shown in self.decoded(folder, tiles).items():
+            for tile, planes in shown.items():
+                outcome = outcome_of(planes, crop(siz, tile, pictures[decoder]))
+                self.tiles[form, decoder, outcome] += 1
+                # of PPM the first tile takes its own packet headers, and any other that one's
+                if (outcome == EQUAL) != (form != PPM or tile == 0):
+                    yield f"{form}: tile {tile} {outcome} by {decoder}"
+
+    def refused(self, path, tile):
+        for rule in RULES:
+            cut = self.run.cut(path, tile, rule)
+            if cut.content is not None or REFUSED_PPM not in cut.said or cut.path.exists():
+                yield f"tile {tile} by {rule} is not refused: {cut.said}"
+
+    def decoded(self, folder, codestreams):
+        """Planes of each, by either decoder."""
+        folder.mkdir()
+        paths = {name: folder / f"{name}.j2k" for name in codestreams}
+        for name, path in paths.items():
+            path.write_bytes(codestreams[name])
+        pictures = {name: self.run.library.picture(path) for name, path in paths.items()}
+        by_grok = grok(folder)
+        return {
+            OPENJPEG: {name: picture and picture.planes for name, picture in pictures.items()},
+            GROK: {name: by_grok[str(name)] for name in codestreams},
+        }
+
+
 # All of them
 
 
+def kinds(seen):
+    return sorted({one.kind for one in seen}, key=lambda kind: (kind in GRIDS_IN_PLACE, kind != MUST, kind))
+
+
 def table(seen):
-    """A row for each kind of grid and rule, or for both rules where all is counted alike."""
+    """A row for each kind of grid and rule, or for both that move a tile where all is counted alike."""
     columns = [EQUAL, *WRONG, *NOT_HELD]
     views = [THE_TILE, AT_THE_CORNER, SOMETHING_ELSE]
     print("| kind of grid | rule | files | tiles | " + " | ".join(columns + views) + " |")
     print("|---|---|" + "---:|" * (2 + len(columns + views)))
-    for sort in sorted({one.kind for one in seen}, key=lambda sort: (sort != MUST, sort)):
+    for sort in kinds(seen):
         chosen = [one for one in seen if one.kind == sort]
         sums = sum((one.outcomes for one in chosen), Counter())
         shown = sum((one.views for one in chosen), Counter())
         rows = {}
-        for rule in RULES:
+        for rule in [IN_PLACE] if sort in GRIDS_IN_PLACE else RULES:
             outcomes = [sums[rule, column] for column in columns]
             rows[rule] = [len(chosen), sum(outcomes), *outcomes, *(shown[rule, column] for column in views)]
-        if rows[ANNEX_B] == rows[ORIGINAL]:
-            rows = {"both": rows[ANNEX_B]}
+        if ANNEX_B in rows and rows[ANNEX_B] == rows[ORIGINAL]:
+            rows = {IN_PLACE: rows[IN_PLACE], "both others": rows[ANNEX_B]}
         for rule, cells in rows.items():
             print(f"| {sort} | {rule} | " + " | ".join(map(str, cells)) + " |")
 
 
-def summary(results):
+def table_of_grok(seen):
+    """Tiles in place, by Grok."""
+    columns = [EQUAL, *WRONG, LEFT_OUT, NO_WHOLE]
+    print("| kind of grid | tiles | " + " | ".join(columns) + " |")
+    print("|---|" + "---:|" * (1 + len(columns)))
+    for sort in kinds(seen):
+        sums = sum((one.decoders for one in seen if one.kind == sort), Counter())
+        cells = [sums[GROK, column] for column in columns]
+        print(f"| {sort} | {sum(cells)} | " + " | ".join(map(str, cells)) + " |")
+
+
+def table_of_features(seen):
+    """Tiles that are equal in place, by what their file has; gives the fewest of any by either decoder."""
+    found = {feature: Counter() for case in cases() for feature in case.features()}
+    for one in seen:
+        for feature, decoder in itertools.product(one.features, DECODERS):
+            found[feature][decoder] += one.decoders[decoder, EQUAL]
+    print("| what a file has | " + " | ".join(f"equal by {decoder}" for decoder in DECODERS) + " |")
+    print("|---|" + "---:|" * len(DECODERS))
+    for feature, counts in sorted(found.items()):
+        print(f"| {feature} | " + " | ".join(str(counts[decoder]) for decoder in DECODERS) + " |")
+    return {decoder: min(counts[decoder] for counts in found.values()) for decoder in DECODERS}
+
+
+def summary(results, files_packed):
     """Prints it; whether all is as it must be. A file that wasn't made is none of our trouble."""
-    for trouble in itertools.chain(*(one.troubles for one in results if one)):
+    for trouble in itertools.chain(files_packed.troubles, *(one.troubles for one in results if one and one.kind != NOT_MADE)):
         print(trouble)
+    not_made = sum(one is not None and one.kind == NOT_MADE for one in results)
     seen = [one for one in results if one and one.kind != NOT_MADE]
     table(seen)
+    table_of_grok(seen)
+    of_a_feature = table_of_features(seen)
+    as_rgb = sum((one.rgb for one in seen), Counter())
+    for decoder in DECODERS:
+        counts = ", ".join(f"{as_rgb[decoder, outcome]} {outcome}" for outcome in RGB)
+        print(f"openjpeg: tiles in place as RGB by {decoder}: {counts}")
+    for form, decoder in [*itertools.product(FORMS, DECODERS), (PPM, ASKED)]:
+        counts = ", ".join(f"{files_packed.tiles[form, decoder, outcome]} {outcome}" for outcome in [EQUAL, *WRONG])
+        print(f"openjpeg: tiles of files with {form} by {decoder}: {counts}")
+    print(f"openjpeg: {not_made} files {NOT_MADE}")
     if None in results:
         print(f"{results.count(None)} files left out, as time was up")
-    troubles = list(itertools.chain(*(one.troubles for one in seen)))
+    troubles = [*files_packed.troubles, *itertools.chain(*(one.troubles for one in seen))]
     outcomes = sum((one.outcomes for one in seen), Counter())
-    tiles = sum(count for (rule, _), count in outcomes.items() if rule == ANNEX_B)
-    right = ", ".join(f"{outcomes[rule, EQUAL]} by {rule}" for rule in RULES)
+    tiles = Counter()
+    for (rule, _), count in outcomes.items():
+        tiles[rule] += count
+    right = ", ".join(f"{outcomes[rule, EQUAL]} of {tiles[rule]} by {rule}" for rule in RULES)
     same = sum(one.kind != LISTS_DIFFER for one in seen)
-    print(f"openjpeg: {len(seen)} files, {same} tile-part lists equal, {tiles} tiles, equal: {right}; {len(troubles)} troubles")
+    print(f"openjpeg: {len(seen)} files, {same} tile-part lists equal, tiles equal: {right}; {len(troubles)} troubles")
     bound = sum((one.bound for one in seen), Counter())
     sized = sum((one.sized for one in seen), Counter())
+    decoders = sum((one.decoders for one in seen), Counter())
     files = sum(one.kind == MUST for one in seen)
     least = [
+        *((f"tiles equal in place by {decoder}", decoders[decoder, EQUAL], LEAST_IN_PLACE) for decoder in DECODERS),
+        *((f"of these at least by {decoder}, whatever a file has", of_a_feature[decoder], LEAST_OF_A_FEATURE) for decoder in DECODERS),
+        *((f"tiles in place as RGB by {decoder}", as_rgb[decoder, EQUAL_RGB], LEAST_RGB) for decoder in DECODERS),
         (f"files: {MUST}", files, LEAST_FILES),
-        *((f"tiles equal by {rule}: {MUST}", bound[rule, MUST], LEAST_TILES) for rule in RULES),
+        *((f"tiles equal by {rule}: {MUST}", bound[rule, MUST], LEAST_TILES) for rule in MOVING),
         (f"tiles equal by {ANNEX_B}: {HALF}", bound[ANNEX_B, HALF], LEAST_HALF),
         (f"tiles with their own size by {ANNEX_B}, where tiles start before the image", bound[OWN_SIZE], LEAST_APART),
         ("tiles with equal components, where origins are equal", sized[True, "equal"], LEAST_SIZED),
@@ -827,24 +1093,29 @@ def binary(folder):
     for command in ["list", "show", "tile"]:
         if f"winterhasp {command} " not in help_text:
             give_up(f"{path} has no command {command}")
-    if "--rule" not in subprocess.run([path, "tile", "--help"], capture_output=True, text=True).stdout:
-        give_up(f"{path} cuts tiles by one rule")
+    help_text = subprocess.run([path, "tile", "--help"], capture_output=True, text=True).stdout
+    if not all(rule in help_text for rule in RULES):
+        give_up(f"{path} does not cut tiles by {', '.join(RULES)}")
     return path
 
 
 def main():
     arguments = argparse.ArgumentParser(description=__doc__.splitlines()[0])
-    arguments.add_argument("--seconds", type=float, default=100)
+    arguments.add_argument("--seconds", type=float, default=180)
     arguments.add_argument("--bin", default=ROOT / "rust/cli/target/release")
     chosen = arguments.parse_args()
     program = binary(chosen.bin)
-    install()
+    if not install():
+        give_up("libopenjp2-tools and grokj2k-tools can't be installed")
     with tempfile.TemporaryDirectory() as folder:
         run = Run(program, Path(folder), chosen.seconds)
+        files_packed = Packed(run)
         with ThreadPoolExecutor(WORKERS) as workers:
-            files = [workers.submit(run.file, at, *case) for at, case in enumerate(cases())]
+            first = workers.submit(files_packed.all)
+            files = [workers.submit(run.file, at, case) for at, case in enumerate(cases())]
             results = [file.result() for file in files]
-    return 0 if summary(results) else 1
+            first.result()
+    return 0 if summary(results, files_packed) else 1
 
 
 if __name__ == "__main__":

@@ -1,18 +1,19 @@
 """Codestreams whose main header speaks of all tile-parts' packets, made of OpenJPEG's: `with_ppm` moves packet headers there, and
-`with_plm` packet lengths (ISO/IEC 15444-1, A.7.2 and A.7.4). No tool at hand writes such a file."""
+`with_plm` packet lengths; `with_ppt` moves packet headers to those of their own tile-parts (ISO/IEC 15444-1, A.7). No tool at
+hand writes such a file."""
 
 import struct
 from typing import NamedTuple
 
 SOC, EOC = b"\xff\x4f", b"\xff\xd9"
 SOT, SOD, SOP, EPH = 0xFF90, 0xFF93, b"\xff\x91\0\4", b"\xff\x92"
-PLM, PLT, PPM, COM = 0xFF57, 0xFF58, 0xFF60, 0xFF64
+SIZ, PLM, PLT, PPM, PPT, COM = 0xFF51, 0xFF57, 0xFF58, 0xFF60, 0xFF61, 0xFF64
 # What a segment holds at most, behind its length and its number.
 LONGEST = 65_535 - 3
 
 
 class Part(NamedTuple):
-    """A tile-part: its SOT without Psot, the segments behind it, and what stands behind SOD."""
+    """A tile-part: its tile, TPsot and TNsot, the segments behind SOT, and what stands behind SOD."""
 
     tile: int
     numbers: bytes
@@ -52,13 +53,20 @@ def taken_apart(codestream):
     return header, parts
 
 
+def unfinished(codestream):
+    """The tiles whose TNsot counts more tile-parts than there are."""
+    parts = taken_apart(codestream)[1]
+    tiles = [part.tile for part in parts]
+    return {part.tile for part in parts if part.numbers[1] > tiles.count(part.tile)}
+
+
 def joined(header, parts):
     return SOC + b"".join(written(*segment) for segment in header) + b"".join(part.written() for part in parts) + EOC
 
 
-def numbered(marker, content, most=LONGEST):
+def numbered(marker, content):
     """As many segments as it takes, each with its number."""
-    pieces = [content[at : at + most] for at in range(0, len(content), most)]
+    pieces = [content[at : at + LONGEST] for at in range(0, len(content), LONGEST)]
     return [(marker, bytes([number]) + piece) for number, piece in enumerate(pieces)]
 
 
@@ -71,16 +79,26 @@ def divided(packets):
     return found
 
 
-def with_ppm(codestream, most=LONGEST):
+def unpacked(part):
+    """A tile-part's packet headers, and the tile-part without them."""
+    packets = divided(part.packets)
+    bare = part._replace(packets=b"".join(sop + body for sop, _, body in packets))
+    return b"".join(header for _, header, _ in packets), bare
+
+
+def with_ppm(codestream):
     """The same picture, compressed with -SOP -EPH, with the packet headers of all tile-parts in its main header."""
     header, parts = taken_apart(codestream)
-    packed, bare = b"", []
-    for part in parts:
-        packets = divided(part.packets)
-        headers = b"".join(header for _, header, _ in packets)
-        packed += struct.pack(">I", len(headers)) + headers
-        bare.append(part._replace(packets=b"".join(sop + body for sop, _, body in packets)))
-    return joined(header + numbered(PPM, packed, most), bare)
+    found = [unpacked(part) for part in parts]
+    content = b"".join(struct.pack(">I", len(headers)) + headers for headers, _ in found)
+    return joined(header + numbered(PPM, content), [bare for _, bare in found])
+
+
+def with_ppt(codestream):
+    """The same, with the packet headers in the header of each tile-part."""
+    header, parts = taken_apart(codestream)
+    found = [unpacked(part) for part in parts]
+    return joined(header, [bare._replace(segments=bare.segments + numbered(PPT, headers)) for headers, bare in found])
 
 
 def with_plm(codestream):
@@ -104,3 +122,12 @@ def with_segment_behind(codestream, marker, content):
     """One more segment in the first tile-part's header."""
     header, (first, *parts) = taken_apart(codestream)
     return joined(header, [first._replace(segments=[*first.segments, (marker, content)]), *parts])
+
+
+def cut_out(codestream, tile, area):
+    """A tile alone, as tile 0, in its place, which is that: x0, y0, x1, y1."""
+    (_, siz), *header = taken_apart(codestream)[0]
+    x0, y0, x1, y1 = area
+    siz = siz[:2] + struct.pack(">8I", x1, y1, x0, y0, x1 - x0, y1 - y0, x0, y0) + siz[34:]
+    parts = [part._replace(tile=0) for part in taken_apart(codestream)[1] if part.tile == tile]
+    return joined([(SIZ, siz), *header], parts)
