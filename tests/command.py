@@ -1079,12 +1079,8 @@ class Runs:
         giga = 1 << 30
         for name, sizes in ("16m.j2k", [20 << 20, 14]), ("3g.j2k", [giga * 3 // 2] * 2), ("6g.j2k", [3 * giga, 3 * giga - 1, 40]):
             path = self.folder / name
-            written = {at: part(tile, 14)[:6] + struct.pack(">I", size) + bytes(2) for tile, at, size in rows(len(HEADER), sizes)}
+            written = self.sparse(path, HEADER, sizes)
             end = len(HEADER) + sum(sizes)
-            with open(path, "wb") as file:
-                for at, piece in ({0: HEADER} | written | {end: EOC}).items():
-                    file.seek(at)
-                    file.write(piece)
             told = listing(0, end + 2, len(HEADER), len(HEADER), [], rows(len(HEADER), sizes))
             before = time.monotonic()
             saw, memory = self.measured(["list", name])
@@ -1102,6 +1098,21 @@ class Runs:
                 self.hold(f"tile {name}, memory", memory < 128 << 20, True)
             self.hold(f"show {name}", f"tile-parts  {len(sizes)}, {sum(sizes)} bytes" in self.run("show", name)[1], True)
             path.unlink()
+        # more bytes than a main header may have are not asked for PPM
+        self.sparse(self.folder / "6g-ppm.j2k", HEADER + PPM, [3 * giga, 3 * giga, 14])
+        error = about("6g-ppm.j2k", of_all_tiles(len(HEADER), 0))
+        self.cases([Case(["tile", "6g-ppm.j2k", "2", "-o", OUT], 1, error=error)])
+        (self.folder / "6g-ppm.j2k").unlink()
+
+    def sparse(self, path, header, sizes):
+        """A file of tile-parts that take no room; gives what is written of each, by its place."""
+        places = rows(len(header), sizes)
+        written = {at: part(tile, 14)[:6] + struct.pack(">I", size) + bytes(2) for tile, at, size in places}
+        with open(path, "wb") as file:
+            for at, piece in ({0: header} | written | {len(header) + sum(sizes): EOC}).items():
+                file.seek(at)
+                file.write(piece)
+        return written
 
     def measured(self, words):
         """Status and streams, and the most memory that was held."""
