@@ -17,7 +17,9 @@ use Rattle.types.specs.Markers.{SOC, SIZ}
 use Rattle.header.specs.Tlm.{placed}
 use Rattle.header.specs.Walk.{WalkEnd, firstSot, refused, walkFrom}
 use Rattle.header.specs.Strip.{decodeHeader, tlmEntries}
-use Rattle.header.specs.Parse.{readAs, stands, judged, withRoom, parsed, tlmTable, tableAfter, outAfter}
+use Rattle.header.specs.Parse.{readAs, stands, frontOf, behindFront, judged, withRoom, parsed, tlmTable, tableAfter, outAfter}
+use Rattle.header.specs.declared.parse.Front.{Front}
+use Rattle.header.specs.declared.parse.Front.the-variants as front
 use Rattle.header.specs.declared.parse.MainHeaderInfo.{MainHeaderInfo}
 use Rattle.header.specs.declared.parse.MainHeader.{MainHeader}
 use Rattle.header.specs.declared.parse.MainHeader.the-variants.{Header, Refused}
@@ -26,22 +28,47 @@ use Rattle.header.proofs.TlmLaws.{length-placed}
 use Rattle.header.proofs.StripLengths.{entries-bound, stopped-inside}
 
 module _ (s : List ℕ) where
+  -- ---- before the walk
+
+  pub front-long : 0xffff_ffff < length s → frontOf s ≡ front.Refused (refusal 19 0)
+  unfolding frontOf
+  front-long h = rw (lt-leb _ _ h)
+
+  module _ (short : length s ≤ 0xffff_ffff) where
+    pub front-no-soc : stands s 0 SOC ≡ false → frontOf s ≡ front.Refused (refusal 1 0)
+    unfolding frontOf
+    front-no-soc e = rw (le-leb _ _ short, e)
+
+    pub front-no-siz : stands s 0 SOC ≡ true → stands s 2 SIZ ≡ false → frontOf s ≡ front.Refused (refusal 2 2)
+    unfolding frontOf
+    front-no-siz e k = rw (le-leb _ _ short, e, k)
+
+    pub front-sound : stands s 0 SOC ≡ true → stands s 2 SIZ ≡ true → frontOf s ≡ front.Sound
+    unfolding frontOf
+    front-sound e k = rw (le-leb _ _ short, e, k)
+
+  -- ---- and with it
+
+  pub judged-refused : (r : Refusal) → frontOf s ≡ front.Refused r → judged s ≡ Refused r
+  unfolding judged behindFront
+  judged-refused r e = ap (behindFront s) e
+
+  pub judged-sound : frontOf s ≡ front.Sound → judged s ≡ readAs s (walkFrom s 2) (walkFrom s 2 .ended)
+  unfolding judged behindFront
+  judged-sound e = ap (behindFront s) e
+
   pub judged-long : 0xffff_ffff < length s → judged s ≡ Refused (refusal 19 0)
-  unfolding judged
-  judged-long h = rw (lt-leb _ _ h)
+  judged-long h = judged-refused (refusal 19 0) (front-long h)
 
   module _ (short : length s ≤ 0xffff_ffff) where
     pub judged-no-soc : stands s 0 SOC ≡ false → judged s ≡ Refused (refusal 1 0)
-    unfolding judged
-    judged-no-soc e = rw (le-leb _ _ short, e)
+    judged-no-soc e = judged-refused (refusal 1 0) (front-no-soc short e)
 
     pub judged-no-siz : stands s 0 SOC ≡ true → stands s 2 SIZ ≡ false → judged s ≡ Refused (refusal 2 2)
-    unfolding judged
-    judged-no-siz e k = rw (le-leb _ _ short, e, k)
+    judged-no-siz e k = judged-refused (refusal 2 2) (front-no-siz short e k)
 
     pub judged-walk : stands s 0 SOC ≡ true → stands s 2 SIZ ≡ true → judged s ≡ readAs s (walkFrom s 2) (walkFrom s 2 .ended)
-    unfolding judged
-    judged-walk e k = rw (le-leb _ _ short, e, k)
+    judged-walk e k = judged-sound (front-sound short e k)
 
 and-first : (a b : mathlib.Core.Bool.Bool) → (a && b) ≡ true → a ≡ true
 and-first true b e = refl
@@ -74,16 +101,31 @@ unfolding readAs
 says-walk s short two firstSot e = record { short = short; two = two; first = refl; header = refl; entries = refl; ends = e }
 says-walk s short two (refused r) e = tt
 
-says : (s : List ℕ) → Says s (judged s)
-unfolding judged
-says s =
-    by-test (Says s) (leb (length s) 0xffff_ffff)
-    (λ short. by-test (Says s) (stands s 0 SOC)
-    (λ soc. by-test (Says s) (stands s 2 SIZ)
-    (λ siz. says-walk s (leb-true (length s) 0xffff_ffff short) (omega (arith, stands-inside s 2 SIZ siz)) (walkFrom s 2 .ended) refl)
-    (λ _. tt))
+-- a front that is sound has room for SIZ's marker, in few enough bytes to be walked
+abbrev Fronts : List ℕ → Front → Type 0
+Fronts s front.Sound = (4 ≤ length s) × (length s ≤ 0xffff_ffff)
+Fronts s (front.Refused r) = Unit {0}
+
+fronts : (s : List ℕ) → Fronts s (frontOf s)
+unfolding frontOf
+fronts s =
+    by-test (Fronts s) (leb (length s) 0xffff_ffff)
+    (λ short. by-test (Fronts s) (stands s 0 SOC)
+    (λ soc. by-test (Fronts s) (stands s 2 SIZ) (λ siz. (stands-inside s 2 SIZ siz, leb-true (length s) 0xffff_ffff short)) (λ _. tt))
     (λ _. tt))
     (λ _. tt)
+
+pub sound-front : (s : List ℕ) → frontOf s ≡ front.Sound → (4 ≤ length s) × (length s ≤ 0xffff_ffff)
+sound-front s e = rw e at (fronts s)
+
+says-behind : (s : List ℕ) (f : Front) → Fronts s f → Says s (behindFront s f)
+unfolding behindFront
+says-behind s front.Sound k = says-walk s (k .1) (omega (arith, k .0)) (walkFrom s 2 .ended) refl
+says-behind s (front.Refused r) k = tt
+
+says : (s : List ℕ) → Says s (judged s)
+unfolding judged
+says s = says-behind s (frontOf s) (fronts s)
 
 pub judged-read : (s : List ℕ) (h : MainHeaderInfo) → judged s ≡ Header h → Read s h
 judged-read s h e = rw e at (says s)

@@ -13,6 +13,8 @@ use Rattle.chain.specs.Chain.{Chain}
 use Rattle.header.specs.Tlm.{placed}
 use Rattle.header.specs.Walk.{WalkEnd, firstSot, refused, walkFrom}
 use Rattle.header.specs.Strip.{decodeHeader, tlmEntries}
+use Rattle.header.specs.declared.parse.Front.{Front}
+use Rattle.header.specs.declared.parse.Front.the-variants as front
 use Rattle.header.specs.declared.parse.MainHeader.{MainHeader}
 use Rattle.header.specs.declared.parse.MainHeader.the-variants.{Header, Refused}
 
@@ -30,15 +32,23 @@ readAs s walk (refused r) = Refused r
 unfoldable pub stands : List ℕ → ℕ → ℕ → Bool
 stands s at marker = leb (at + 2) (length s) && eqb (be 2 s at) marker
 
--- 19 is tested first; SOC at 0, SIZ at 2, and the walk from 2
-unfoldable pub judged : List ℕ → MainHeader
-unfolding readAs stands
-judged s =
+-- before the walk: 19 is tested first; SOC at 0, SIZ at 2
+unfoldable pub frontOf : List ℕ → Front
+unfolding stands
+frontOf s =
     cond (leb (length s) 0xffff_ffff)
-    (cond (stands s 0 SOC)
-    (cond (stands s 2 SIZ) (readAs s (walkFrom s 2) (walkFrom s 2 .ended)) (Refused (refusal 2 2)))
-    (Refused (refusal 1 0)))
-    (Refused (refusal 19 0))
+    (cond (stands s 0 SOC) (cond (stands s 2 SIZ) front.Sound (front.Refused (refusal 2 2))) (front.Refused (refusal 1 0)))
+    (front.Refused (refusal 19 0))
+
+-- the walk from 2 behind a front that is sound
+unfoldable pub behindFront : List ℕ → Front → MainHeader
+unfolding readAs
+behindFront s front.Sound = readAs s (walkFrom s 2) (walkFrom s 2 .ended)
+behindFront s (front.Refused r) = Refused r
+
+unfoldable pub judged : List ℕ → MainHeader
+unfolding frontOf behindFront
+judged s = behindFront s (frontOf s)
 
 -- 18, then 17, only where all else accepts
 unfoldable pub withRoom : ℕ → ℕ → MainHeader → MainHeader

@@ -8,7 +8,7 @@ ghost use Rattle.types.specs.Row.{rowsOf};
 ghost use Rattle.header.specs.Tlm.{placed};
 ghost use Rattle.header.specs.Walk.{walkFrom};
 ghost use Rattle.header.specs.Strip.{tlmEntries};
-ghost use Rattle.header.specs.Parse.{readAs, stands, judged, parsed, headerNumber, headerFirst, headerLength, headerEntries, tableAfter, outAfter};
+ghost use Rattle.header.specs.Parse.{readAs, stands, frontOf, judged, parsed, headerNumber, headerFirst, headerLength, headerEntries, tableAfter, outAfter};
 use crate::walk::WalkStep;
 use types::CodestreamOffset;
 use types::ROW;
@@ -21,6 +21,13 @@ pub struct MainHeaderInfo {
     pub decode_header_length: u64,
     // None: the table is absent.
     pub tlm_entries: u64,
+}
+
+// What stands before the walk's first step.
+pub enum Front {
+    // SOC and SIZ, in no more bytes than a header may have.
+    Sound,
+    Refused(Refusal),
 }
 
 pub enum MainHeader {
@@ -63,28 +70,37 @@ pub fn marker_stands(codestream: &[u8], at: usize, marker: u16) -> bool
     at + 2 <= codestream.len() && numbers::read_u16(codestream, at) == marker
 }
 
-pub fn judge(codestream: &[u8]) -> MainHeader
-    ensures { λ r. ⌜ r ≡ judged (now (codestream .entry)) ⌝ }
+pub fn test_front(codestream: &[u8]) -> Front
+    ensures { λ r. ⌜ r ≡ frontOf (now (codestream .entry)) ⌝ }
 {
     if 0xffff_ffff < codestream.len() {
-        return MainHeader::Refused(Refusal {
+        return Front::Refused(Refusal {
             number: 19,
             place: 0,
         });
     }
     if !marker_stands(codestream, 0, SOC) {
-        return MainHeader::Refused(Refusal {
+        return Front::Refused(Refusal {
             number: 1,
             place: 0,
         });
     }
     if !marker_stands(codestream, 2, SIZ) {
-        return MainHeader::Refused(Refusal {
+        return Front::Refused(Refusal {
             number: 2,
             place: 2,
         });
     }
-    walk(codestream)
+    Front::Sound
+}
+
+fn judge(codestream: &[u8]) -> MainHeader
+    ensures { λ r. ⌜ r ≡ judged (now (codestream .entry)) ⌝ }
+{
+    match test_front(codestream) {
+        Front::Sound => walk(codestream),
+        Front::Refused(refusal) => MainHeader::Refused(refusal),
+    }
 }
 
 // What the reading into a table of so many rows and an output of so many bytes answers.

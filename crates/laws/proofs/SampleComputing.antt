@@ -8,7 +8,7 @@ use Rattle.header.specs.Extent.{endedAs, extentEnd, extentOf}
 use Rattle.header.specs.Tlm.{entryCount, tlmAt, entryIn, entriesIn, placed}
 use Rattle.header.specs.Walk.{cutAt, tlmStep, passedAt, walkStepOf, walkStepAt, walkMove, walkAt, walkFrom}
 use Rattle.header.specs.Strip.{kept, decodeHeader, tlmEntries}
-use Rattle.header.specs.Parse.{readAs, stands, judged, tlmTable}
+use Rattle.header.specs.Parse.{readAs, stands, frontOf, behindFront, judged, tlmTable}
 use Rattle.header.specs.Find.{firstOf, findIn, finding}
 use Rattle.parts.specs.Scan.{eocAt, sotStepAt, scanStepAt, scanFrom, entriesFrom, scanned, written, scannedTable}
 use Rattle.parts.specs.Split.{partEnd, splitStepAt, splitFrom, partsFrom, partsOf}
@@ -37,7 +37,7 @@ unfolding samples delimits segmentEnd stepAt moveOf moveAt stepsFrom endedAs ext
 extents = tt
 
 unfoldable pub walks : Unit {0}
-unfolding samples delimits segmentEnd stepAt entryCount tlmAt entryIn entriesIn placed cutAt tlmStep passedAt walkStepOf walkStepAt walkMove walkAt walkFrom kept decodeHeader tlmEntries readAs stands judged tlmTable
+unfolding samples delimits segmentEnd stepAt entryCount tlmAt entryIn entriesIn placed cutAt tlmStep passedAt walkStepOf walkStepAt walkMove walkAt walkFrom kept decodeHeader tlmEntries readAs stands frontOf behindFront judged tlmTable
 walks = tt
 
 unfoldable pub findings : Unit {0}

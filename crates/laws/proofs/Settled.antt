@@ -55,8 +55,8 @@ main-header-extent m κs a g = one m λ x y e i. (e i, x .1)
 pub find-marker : {M : Type 1} → Settles M header.find.find_marker.ended header.find.find_marker.clauses
 find-marker m κs a g = one m λ x y e i. (e i, x .1)
 
-pub header-judge : {M : Type 1} → Settles M header.parse.judge.ended header.parse.judge.clauses
-header-judge m κs a g = one m λ x y e i. (e i, x .1)
+pub test-front : {M : Type 1} → Settles M header.parse.test_front.ended header.parse.test_front.clauses
+test-front m κs a g = one m λ x y e i. (e i, x .1)
 
 pub header-decide : {M : Type 1} → Settles M header.parse.decide.ended header.parse.decide.clauses
 header-decide m κs a g = one m λ x y e i. (e i, x .1)

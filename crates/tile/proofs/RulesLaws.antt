@@ -2,7 +2,10 @@
 use Prim.Native.Nat.{ℕ, _<_}
 use native.Mathlib.Omega.{arith}
 use mathlib.Core.Path.{_≡_, refl, sym, ap, _∙_}
-use mathlib.Core.List.{List}
+use mathlib.Core.Logic.{⊎-elim}
+use mathlib.Core.List.{List, [], _∷_}
+use denote.Enum.Declared.{tagOf}
+use types.Run.{OneOf}
 use Rattle.types.specs.Area.{Inside}
 use Rattle.types.specs.declared.Area.{Area}
 use Rattle.types.specs.declared.Refusal.{Refusal}
@@ -19,6 +22,7 @@ use Rattle.tile.specs.declared.rules.Placed.{Placed}
 use Rattle.tile.specs.declared.rules.Placed.the-variants.{Tile, Refused}
 use Rattle.tile.proofs.AnnexBLaws.{Found, found, span-some, span-from, span-to, column-inside, row-inside}
 use Rattle.tile.proofs.OriginalLaws as original
+use Rattle.tile.proofs.rules.Rule.{the-type}
 
 -- ---- a tile that is told
 
@@ -66,6 +70,13 @@ module _ (h : List ℕ) (tile : ℕ) (a : Area) where
         high = omega (arith, some .1);
         bottom = rw (f .area) (span-to (down h) _);
       }
+
+-- every rule but the original's tells what Annex B does
+pub told-annex : (rule : Rule) (h : List ℕ) (tile : ℕ) → OneOf (0 ∷ 2 ∷ []) (tagOf the-type rule) → placedBy rule h tile ≡ byAnnexB (gridTile h tile)
+unfolding placedBy
+told-annex AnnexB h tile k = refl
+told-annex Original h tile k = absurd (⊎-elim (λ z. omega arith) (λ z. omega arith) k)
+told-annex InPlace h tile k = refl
 
 -- A tile that is kept in its place is told as by Annex B.
 pub kept-annex : (h : List ℕ) (tile : ℕ) → placedBy InPlace h tile ≡ placedBy AnnexB h tile

@@ -5,7 +5,7 @@ ghost use Prim.Native.Nat.{_+_, _-_, _^_, _≤_, min};
 ghost use lib.ListN.{length};
 ghost use Rattle.numbers.specs.Bytes.{put};
 ghost use Rattle.types.specs.Row.{entryAt};
-ghost use Rattle.tile.specs.Assembly.{rangeOf, isSot, patched, ranges, partsIn, joined, partSize, sizeFor, assemblyAnswer, assemblyOut};
+ghost use Rattle.tile.specs.Assembly.{rangeOf, isSot, patched, ranges, partsIn, joined, sizeFor, assemblyAnswer, assemblyOut};
 use crate::rewrite::TileSize;
 use crate::rewrite::Written;
 use crate::rules::Rule;
@@ -48,16 +48,7 @@ fn is_sot(part: &[u8]) -> bool
     6 <= part.len() && numbers::read_u16(part, 0) == SOT
 }
 
-// The header's change for the tile of a part.
-fn part_size(header: &[u8], part: &[u8], rule: Rule) -> TileSize
-    ensures { λ r. ⌜ r ≡ partSize rule (now (header .entry)) (now (part .entry)) ⌝ }
-{
-    if is_sot(part) {
-        return crate::rewrite::tile_size(header, numbers::read_u16(part, ISOT), rule);
-    }
-    TileSize::Whole
-}
-
+// The header's change for the tile of the first part.
 fn size_for(header: &[u8], tile_parts: &[u8], codestream: &[u8], rule: Rule) -> TileSize
     ensures { λ r. ⌜ r ≡ sizeFor rule (now (header .entry)) (partsIn (now (codestream .entry)) (ranges (now («tile_parts» .entry)))) ⌝ }
 {
@@ -68,7 +59,11 @@ fn size_for(header: &[u8], tile_parts: &[u8], codestream: &[u8], rule: Rule) -> 
         let Range::Kept { from, to } = range else {
             continue;
         };
-        return part_size(header, &codestream[from..to], rule);
+        let part = &codestream[from..to];
+        if is_sot(part) {
+            return crate::rewrite::tile_size(header, numbers::read_u16(part, ISOT), rule);
+        }
+        return TileSize::Whole;
     }
     TileSize::Whole
 }

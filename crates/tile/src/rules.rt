@@ -72,9 +72,9 @@ pub fn place(header: &[u8], isot: u16, rule: Rule) -> Placed
     requires { ⌜ 40 ≤ length (now header) ⌝ }
     ensures { λ r. ⌜ r ≡ placedBy rule (now (header .entry)) isot ⌝ }
 {
-    match rule {
-        Rule::AnnexB => by_annex_b(crate::annex_b::tile_area(header, isot)),
-        Rule::Original => by_original(crate::original::tile_area(header, isot)),
-        Rule::InPlace => by_annex_b(crate::annex_b::tile_area(header, isot)),
+    if let Rule::Original = rule {
+        return by_original(crate::original::tile_area(header, isot));
     }
+    // The one call for two rules is compiled into this function, and two are not.
+    by_annex_b(crate::annex_b::tile_area(header, isot))
 }

@@ -1,13 +1,14 @@
--- The parts from here on choose what all parts do: a dropped range is none of them, and a kept one is the first.
+-- The parts from here on choose what all parts do: a dropped range is none of them, and a kept one is the first, whose Isot is there if it starts with SOT.
 use Prim.Native.Nat.{_-_, _≤_}
 use native.Mathlib.Omega.{arith}
 use mathlib.Core.Path.{_≡_, refl, sym, ap, _∙_}
-use lib.ListN.{length}
+use lib.ListN.{length, take, drop}
 use borrow.Author.Needs.{needs}
 use Rattle.tile.specs.declared.assembly.Range.the-variants.{Kept}
-use Rattle.tile.proofs.AssemblyLaws.{for-first, for-none}
+use Rattle.tile.proofs.AssemblyLaws.{for-first, for-none, sot-long, part-sot, part-other}
 use Rattle.tile.proofs.AssemblyRanges.{kept-inside, partsFrom, parts-none, parts-kept, parts-dropped}
-use Rattle.tile.specs.Assembly.{rangeOf, ranges, sizeFor}
+use Rattle.tile.specs.Rewrite.{tileSize}
+use Rattle.tile.specs.Assembly.{rangeOf, ranges, partSize, sizeFor, partsIn}
 use Rattle.types.specs.Row.{entryAt}
 use Rattle.tile.proofs.assembly.size_for.Statement.{statement}
 use Rattle.tile.proofs.assembly.size_for.Tie as tie
@@ -59,29 +60,50 @@ loop-again c =
     let gone = parts-dropped (a .codestream .now) (a .tile-parts .now) (l .loop .at) (omega arith) (sym (r .range-at .ensures) ∙ c .enum-told .given .1) in
     (omega arith, ap (sizeFor (a .rule) (a .header .now)) (sym gone) ∙ l .loop .inv .1)
 
-sub-part-size : tie.Need-sub-part-size Inv-loop μ-loop
-sub-part-size c = let h = kept-inside _ _ (found (c .before)) in h .0
-
-part-part-size-start : tie.Need-part-part-size-start Inv-loop μ-loop
-part-part-size-start c = let h = kept-inside _ _ (found (c .before)) in search needs
-
-part-part-size-end : tie.Need-part-part-size-end Inv-loop μ-loop
-part-part-size-end c = let h = kept-inside _ _ (found (c .before)) in search needs
-
-part-size-requires : tie.Need-part-size-requires Inv-loop μ-loop
-part-size-requires c κs = search needs
-
-returns : tie.Need-returns Inv-loop μ-loop
+-- so the part is the first
+chooses : (f : tie.After-range Inv-loop μ-loop)
+    → let a = start (head f) .args in
+    sizeFor (a .rule) (a .header .now) (partsIn (a .codestream .now) (ranges (a .tile-parts .now)))
+    ≡ partSize (a .rule) (a .header .now) (take (f .range .given .0 .1 .0 - f .range .given .0 .0) (drop (f .range .given .0 .0) (a .codestream .now)))
 unfolding ranges
-returns c =
-    let f = c .before .before .before in
+chooses f =
     let l = head f in
     let a = start l .args in
-    c .part-size .ensures ∙ sym (for-first (a .rule) (a .header .now) (parts-kept (a .codestream .now) (a .tile-parts .now) (l .loop .at) (omega arith) _ _ (found f))) ∙ l .loop .inv .1
+    sym (l .loop .inv .1) ∙ for-first (a .rule) (a .header .now) (parts-kept (a .codestream .now) (a .tile-parts .now) (l .loop .at) (omega arith) _ _ (found f))
+
+sub-part : tie.Need-sub-part Inv-loop μ-loop
+sub-part c = let h = kept-inside _ _ (found (c .before)) in h .0
+
+part-part-start : tie.Need-part-part-start Inv-loop μ-loop
+part-part-start c = let h = kept-inside _ _ (found (c .before)) in search needs
+
+part-part-end : tie.Need-part-part-end Inv-loop μ-loop
+part-part-end c = let h = kept-inside _ _ (found (c .before)) in search needs
+
+is-sot-requires : tie.Need-is-sot-requires Inv-loop μ-loop
+is-sot-requires c κs = search needs
+
+read-u16-requires : tie.Need-read-u16-requires Inv-loop μ-loop
+read-u16-requires c κs = sot-long _ (sym (c .before .is-sot .ensures) ∙ c .if1 .taken)
+
+tile-size-requires : tie.Need-tile-size-requires Inv-loop μ-loop
+tile-size-requires c κs = search needs
+
+returns : tie.Need-returns Inv-loop μ-loop
+returns c =
+    let t = c .before .before in
+    let f = t .before .before .before .before in
+    let a = start (head f) .args in
+    c .tile-size .ensures
+    ∙ ap (tileSize (a .rule) (a .header .now)) (c .before .read-u16 .ensures)
+    ∙ sym (chooses f ∙ part-sot _ (a .rule) (a .header .now) (sym (t .before .is-sot .ensures) ∙ t .if1 .taken))
 
 returns-2 : tie.Need-returns-2 Inv-loop μ-loop
+returns-2 c = sym (chooses (c .before .before .before .before) ∙ part-other _ _ _ (sym (c .before .is-sot .ensures) ∙ c .if1 .left))
+
+returns-3 : tie.Need-returns-3 Inv-loop μ-loop
 unfolding ranges
-returns-2 c =
+returns-3 c =
     let l = c .before in
     let a = start l .args in
     sym (for-none (a .rule) (a .header .now) (parts-none (a .codestream .now) (a .tile-parts .now) (l .loop .at) (omega arith))) ∙ l .loop .inv .1
@@ -100,9 +122,12 @@ size-for-spec =
     enum-told
     loop-less
     loop-again
-    sub-part-size
-    part-part-size-start
-    part-part-size-end
-    part-size-requires
+    sub-part
+    part-part-start
+    part-part-end
+    is-sot-requires
+    read-u16-requires
+    tile-size-requires
     returns
-    returns-2)
+    returns-2
+    returns-3)

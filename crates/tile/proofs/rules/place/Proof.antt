@@ -1,8 +1,9 @@
--- Each arm is the definition's, at the rule that was matched.
+-- Each way is the definition's, at the rule that was tested for.
 use mathlib.Core.Path.{sym, ap, _∙_}
 use borrow.Author.Needs.{needs}
 use Rattle.tile.specs.Rules.{byAnnexB, byOriginal, placedBy}
 use Rattle.tile.specs.declared.rules.Rule.{Rule}
+use Rattle.tile.proofs.RulesLaws.{told-annex}
 use Rattle.tile.proofs.rules.place.Statement.{statement}
 use Rattle.tile.proofs.rules.place.Tie as tie
 
@@ -12,47 +13,26 @@ enum-told c = search needs
 tile-area-requires : tie.Need-tile-area-requires
 tile-area-requires c κs = search needs
 
-by-annex-b-requires : tie.Need-by-annex-b-requires
-by-annex-b-requires c κs = search needs
-
-enum-told-2 : tie.Need-enum-told-2
-enum-told-2 c = search needs
-
-tile-area-requires-2 : tie.Need-tile-area-requires-2
-tile-area-requires-2 c κs = search needs
-
 by-original-requires : tie.Need-by-original-requires
 by-original-requires c κs = search needs
-
-enum-told-3 : tie.Need-enum-told-3
-enum-told-3 c = search needs
-
-tile-area-requires-3 : tie.Need-tile-area-requires-3
-tile-area-requires-3 c κs = search needs
-
-by-annex-b-requires-2 : tie.Need-by-annex-b-requires-2
-by-annex-b-requires-2 c κs = search needs
 
 returns : tie.Need-returns
 unfolding placedBy
 returns c =
     let t = c .before in
     let a = t .before .before .before .before .args in
-    c .by-annex-b .ensures ∙ ap byAnnexB (t .tile-area .ensures) ∙ sym (ap (λ (r : Rule). placedBy r (a .header .now) (a .isot)) (t .before .enum-told .given .1))
+    c .by-original .ensures ∙ ap byOriginal (t .tile-area .ensures) ∙ sym (ap (λ (r : Rule). placedBy r (a .header .now) (a .isot)) (t .before .enum-told .given .1))
+
+tile-area-requires-2 : tie.Need-tile-area-requires-2
+tile-area-requires-2 c κs = search needs
+
+by-annex-b-requires : tie.Need-by-annex-b-requires
+by-annex-b-requires c κs = search needs
 
 returns-2 : tie.Need-returns-2
-unfolding placedBy
 returns-2 c =
     let t = c .before in
-    let a = t .before .before .before .before .args in
-    c .by-original .ensures ∙ ap byOriginal (t .tile-area2 .ensures) ∙ sym (ap (λ (r : Rule). placedBy r (a .header .now) (a .isot)) (t .before .enum-told2 .given .1))
-
-returns-3 : tie.Need-returns-3
-unfolding placedBy
-returns-3 c =
-    let t = c .before in
-    let a = t .before .before .before .before .args in
-    c .by-annex-b2 .ensures ∙ ap byAnnexB (t .tile-area3 .ensures) ∙ sym (ap (λ (r : Rule). placedBy r (a .header .now) (a .isot)) (t .before .enum-told3 .given .1))
+    c .by-annex-b .ensures ∙ ap byAnnexB (t .tile-area2 .ensures) ∙ sym (told-annex _ _ _ (t .before .match .keys2))
 
 pub place-spec : {M : Type 1} → statement M
 place-spec =
@@ -60,13 +40,8 @@ place-spec =
     (tie.spec
     enum-told
     tile-area-requires
-    by-annex-b-requires
-    enum-told-2
-    tile-area-requires-2
     by-original-requires
-    enum-told-3
-    tile-area-requires-3
-    by-annex-b-requires-2
     returns
-    returns-2
-    returns-3)
+    tile-area-requires-2
+    by-annex-b-requires
+    returns-2)
