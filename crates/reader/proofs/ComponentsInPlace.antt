@@ -1,36 +1,34 @@
 -- The components of a tile kept in its place (tile, proofs/RewriteInPlace.antt): the header for it gives the check and each component what they were in the
 -- tile, both of its image and of its tile 0, also where they refuse.
-use Prim.Native.Nat.{ℕ, zero, suc, _+_, _≤_, _<_}
+use Prim.Native.Nat.{ℕ, zero, suc, _+_, _≤_}
 use native.Mathlib.Omega.{arith}
 use mathlib.Core.Path.{_≡_, refl, sym, ap, ap₂, _∙_}
-use mathlib.Core.Bool.{Bool, true}
+use mathlib.Core.Bool.{true}
 use mathlib.Core.List.{List}
 use lib.ListN.{length, getD}
-use lib.Dec.{leb, ltb}
 use borrow.Author.Tests.{le-leb}
 use Rattle.numbers.specs.Bytes.{be}
 use Rattle.numbers.proofs.Choice.{by-bool}
 use Rattle.numbers.proofs.Rows.{be-one}
 use Rattle.types.specs.Markers.{SOC, SIZ}
-use Rattle.types.specs.Siz.{lsiz, csiz, component}
+use Rattle.types.specs.Siz.{csiz, component}
 use Rattle.types.specs.declared.Area.{Area}
 use Rattle.header.specs.Step.{segmentEnd}
 use Rattle.header.specs.Parse.{stands}
 use Rattle.tile.specs.Siz.{marker}
-use Rattle.tile.specs.Rules.{imageArea, placedBy}
+use Rattle.tile.specs.Rules.{imageArea}
 use Rattle.tile.specs.Rewrite.{tileSize, rewritten}
 use Rattle.tile.specs.declared.rules.Rule.the-variants.{AnnexB, InPlace}
-use Rattle.tile.specs.declared.rules.Placed.{Placed}
 use Rattle.tile.specs.declared.rules.Placed.the-variants.{Tile}
 use Rattle.tile.specs.declared.rewrite.TileSize.the-variants.{Cut}
 use Rattle.tile.proofs.RulesLaws.{tile-within}
 use Rattle.tile.proofs.RewriteHeader.{length-rewritten}
-use Rattle.tile.proofs.RewriteInPlace.{Kept, cut-kept, kept-front, kept-behind, kept-image, kept-told}
+use Rattle.tile.proofs.RewriteInPlace.{AllBytes, Kept, cut-kept, kept-front, kept-behind, kept-image, kept-told}
 use Rattle.reader.specs.Components.{sizWhole, countHeld, apart, allApart, ordered, componentsRead, atTile, componentsInTile, componentAt, isThere, componentIn, chosen, componentOf, componentInTile}
 use Rattle.reader.specs.declared.components.ComponentsRead.{ComponentsRead}
 use Rattle.reader.specs.declared.components.ComponentsRead.the-variants as read
 
-module _ (h : List ℕ) (tile : ℕ) (a : Area) (bytes : (i : ℕ) → getD h i 0 < 256) (cut : tileSize InPlace h tile ≡ Cut a) where
+module _ (h : List ℕ) (tile : ℕ) (a : Area) (bytes : AllBytes h) (cut : tileSize InPlace h tile ≡ Cut a) where
   -- the header for the tile
   abbrev new : List ℕ
   new = rewritten InPlace h tile

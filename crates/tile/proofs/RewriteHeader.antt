@@ -18,8 +18,8 @@ use Rattle.types.specs.Siz.{xtsiz, ytsiz}
 use Rattle.types.specs.declared.Area.{Area}
 use Rattle.types.specs.declared.Refusal.{Refusal}
 use Rattle.tile.specs.Siz.{marker, pair, oneTile}
-use Rattle.tile.specs.Rules.{imageArea, placedBy}
-use Rattle.tile.specs.Rewrite.{sized, moved, cutBy, sizeOf, sizeIn, tileSize, cutTo, Room, rewritten, withRoom, judged, over}
+use Rattle.tile.specs.Rules.{placedBy}
+use Rattle.tile.specs.Rewrite.{sized, moved, cutBy, sizeOf, sizeIn, tileSize, cutTo, Ordered, Room, rewritten, withRoom, judged, over}
 use Rattle.tile.specs.declared.rules.Rule.{Rule}
 use Rattle.tile.specs.declared.rules.Rule.the-variants.{AnnexB, Original, InPlace}
 use Rattle.tile.specs.declared.rules.Placed.{Placed}
@@ -59,10 +59,6 @@ put-one s a h =
     (simp append-assoc)
 
 -- ---- the header
-
--- ends no sooner than it starts
-abbrev pub Ordered : Area → Type 0
-Ordered a = (a .x0 ≤ a .x1) × (a .y0 ≤ a .y1)
 
 module _ (n : ℕ) (long : 40 ≤ n) where
   moved-room : (a : Area) (xt yt : ℕ) → Room (moved a xt yt) n

@@ -1,6 +1,6 @@
 -- A tile kept in its place. The header for it describes one tile by B.3, with the extent that the tile had, and no other; to rewrite that header again for
 -- tile 0 changes nothing; and where Annex B's rule cuts a tile that starts at 0 both write the same.
-use Prim.Native.Nat.{ℕ, _+_, _-_, _*_, _/_, _%_, _^_, _≤_, _<_}
+use Prim.Native.Nat.{ℕ, _+_, _-_, _/_, _%_, _^_, _≤_, _<_}
 use native.Mathlib.Nat.{zero-mul, one-mul}
 use native.Mathlib.Omega.{arith}
 use mathlib.Core.Path.{_≡_, refl, sym, ap, _∙_}
@@ -22,7 +22,7 @@ use Rattle.types.specs.declared.Area.{Area}
 use Rattle.types.specs.declared.Refusal.{Refusal}
 use Rattle.tile.specs.Siz.{marker, oneTile}
 use Rattle.tile.specs.Rules.{imageArea, placedBy}
-use Rattle.tile.specs.Rewrite.{fromZero, sized, moved, cutBy, sizeIn, tileSize, cutTo, rewritten}
+use Rattle.tile.specs.Rewrite.{sized, moved, cutBy, sizeIn, tileSize, cutTo, rewritten}
 use Rattle.tile.specs.Iso.{Gridded, numXtiles, numYtiles, columnOf, rowOf, startOf, endOf, areaOf, cutSize}
 use Rattle.tile.specs.declared.rules.Rule.{Rule}
 use Rattle.tile.specs.declared.rules.Rule.the-variants.{AnnexB, InPlace}
@@ -31,6 +31,7 @@ use Rattle.tile.specs.declared.rules.Placed.the-variants.{Tile, Refused}
 use Rattle.tile.specs.declared.rewrite.TileSize.{TileSize}
 use Rattle.tile.specs.declared.rewrite.TileSize.the-variants as size
 use Rattle.tile.proofs.RulesLaws.{kept-annex, tile-some, tile-within}
+use Rattle.tile.proofs.RulesAgree.{tile-same}
 use Rattle.tile.proofs.RewriteLaws.{size-refused, size-inside, size-short, size-other, size-siz}
 use Rattle.tile.proofs.RewriteHeader.{length-one, length-rewritten}
 use Rattle.tile.proofs.RewriteAgree.{Accepts}
@@ -105,9 +106,6 @@ refused-cut e = let z : _≡_ {A = ℕ} 0 1 = cc in omega arith
 whole-refused : {r : Refusal} → _≡_ {A = TileSize} size.Whole (size.Refused r) → ⊥
 whole-refused e = let z : _≡_ {A = ℕ} 0 1 = cc in omega arith
 
-tile-same : {a b : Area} → _≡_ {A = Placed} (Tile a) (Tile b) → a ≡ b
-tile-same e = cc
-
 cut-same : {a b : Area} → _≡_ {A = TileSize} (size.Cut a) (size.Cut b) → a ≡ b
 cut-same e = cc
 
@@ -136,8 +134,8 @@ module _ (rule : Rule) (h : List ℕ) (tile : ℕ) (b : Area) where
 -- ---- kept in its place
 
 -- each element is a byte, as in every slice
-abbrev Bytes : List ℕ → Type 0
-Bytes h = (i : ℕ) → getD h i 0 < 256
+abbrev pub AllBytes : List ℕ → Type 0
+AllBytes h = (i : ℕ) → getD h i 0 < 256
 
 -- a header whose tile lies in an area by Annex B
 pub record Kept (h : List ℕ) (tile : ℕ) (a : Area) : Type 0 where
@@ -157,7 +155,7 @@ cut-kept h tile a e =
     let c : CutBy InPlace h tile a = cut-by InPlace h tile a e in
     record { long = c .long; siz = c .siz; told = sym (kept-annex h tile) ∙ c .told ∙ ap Tile (cut-same (c .cut)) }
 
-module _ (h : List ℕ) (tile : ℕ) (a : Area) (bytes : Bytes h) (k : Kept h tile a) where
+module _ (h : List ℕ) (tile : ℕ) (a : Area) (bytes : AllBytes h) (k : Kept h tile a) where
   some : (a .x0 < a .x1) × (a .y0 < a .y1)
   some = tile-some h tile a (k .told)
 
@@ -294,7 +292,7 @@ pub record Again (h : List ℕ) (tile : ℕ) : Type 0 where
   pub header : rewritten InPlace (rewritten InPlace h tile) 0 ≡ rewritten InPlace h tile
 
 -- Where a rewrite accepts, rewriting the result for tile 0 accepts and changes nothing.
-pub rewrite-again : (h : List ℕ) (tile : ℕ) → Bytes h → Accepts (tileSize InPlace h tile) → Again h tile
+pub rewrite-again : (h : List ℕ) (tile : ℕ) → AllBytes h → Accepts (tileSize InPlace h tile) → Again h tile
 unfolding rewritten cutTo
 rewrite-again h tile bytes accepts = by (tileSize InPlace h tile) refl
   where

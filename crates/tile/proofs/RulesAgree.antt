@@ -111,7 +111,7 @@ module _ (h : List ℕ) (tile : ℕ) (a : Area) (one : OneOrigin h) (told : plac
       (λ y. inr (ltb-false _ _ y)))
       (λ x. inl (ltb-false _ _ x))
 
-tile-same : {a b : Area} → _≡_ {A = Placed} (Tile a) (Tile b) → a ≡ b
+pub tile-same : {a b : Area} → _≡_ {A = Placed} (Tile a) (Tile b) → a ≡ b
 tile-same e = cc
 
 -- The two rules agree where both tell a tile.

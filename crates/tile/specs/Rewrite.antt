@@ -64,10 +64,14 @@ cutTo size.Whole h = h
 cutTo (size.Cut a) h = put h (marker + XSIZ) (oneTile a)
 cutTo (size.Refused r) h = h
 
--- only a header of 40 bytes is cut, and to an area that ends no sooner than it starts
+-- ends no sooner than it starts
+abbrev pub Ordered : Area → Type 0
+Ordered a = (a .x0 ≤ a .x1) × (a .y0 ≤ a .y1)
+
+-- only a header of 40 bytes is cut, and to such an area
 unfoldable pub Room : TileSize → ℕ → Type 0
 Room size.Whole n = Unit {0}
-Room (size.Cut a) n = (40 ≤ n) × ((a .x0 ≤ a .x1) × (a .y0 ≤ a .y1))
+Room (size.Cut a) n = (40 ≤ n) × Ordered a
 Room (size.Refused r) n = Unit {0}
 
 -- the header after the rewrite

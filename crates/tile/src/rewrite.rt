@@ -6,7 +6,7 @@ ghost use lib.ListN.{length};
 ghost use Rattle.numbers.specs.Bytes.{put};
 ghost use Rattle.types.specs.Siz.{XSIZ};
 ghost use Rattle.tile.specs.Siz.{marker, pair, oneTile};
-ghost use Rattle.tile.specs.Rewrite.{sized, sizeIn, tileSize, cutTo, Room, judged, rewriteAnswer, rewriteOut};
+ghost use Rattle.tile.specs.Rewrite.{sized, sizeIn, tileSize, cutTo, Ordered, Room, judged, rewriteAnswer, rewriteOut};
 use crate::rules::Placed;
 use crate::rules::Rule;
 use crate::siz::MARKER;
@@ -105,7 +105,7 @@ fn write_pair(out: &mut [u8], place: usize, across: u32, down: u32)
 // Image end and origin, tile size and origin.
 fn write_one_tile(out: &mut [u8], tile: Area)
     requires { ⌜ 40 ≤ length (now out) ⌝ }
-    requires { ⌜ (tile .x0 ≤ tile .x1) × (tile .y0 ≤ tile .y1) ⌝ }
+    requires { ⌜ Ordered tile ⌝ }
     ensures { λ _. ⌜ now (out .exit) ≡ put (now (out .entry)) (marker + XSIZ) (oneTile tile) ⌝ }
 {
     write_pair(out, siz::XSIZ, tile.x1, tile.y1);

@@ -1,6 +1,6 @@
 -- A front that is refused, or the walk behind it.
 use native.Mathlib.Omega.{arith}
-use mathlib.Core.Path.{_≡_, sym, ap, _∙_}
+use mathlib.Core.Path.{sym, ap, _∙_}
 use borrow.Author.Needs.{needs}
 use Rattle.header.specs.Find.{findIn, finding}
 use Rattle.header.specs.declared.parse.MainHeader.{MainHeader}

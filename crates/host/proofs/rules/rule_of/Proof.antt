@@ -1,5 +1,4 @@
 -- The tests are the definition's.
-use mathlib.Core.Path.{sym}
 use borrow.Author.Tests.{eq-eqb, ne-eqb}
 use Rattle.host.specs.Rules.{ruleOf}
 use Rattle.host.proofs.rules.rule_of.Statement.{statement}
