@@ -4,6 +4,7 @@ pub mod TlmLaws
 pub mod TlmFill
 pub mod WalkLaws
 pub mod WalkVisited
+pub mod WalkItems
 pub mod ParseCounting
 pub mod StripLaws
 pub mod ParseFilling

@@ -7,7 +7,7 @@ use mathlib.Core.List.{List, [], _∷_}
 use mathlib.Core.Logic.{⊎-elim}
 use lib.ListN.{length}
 use lib.Dec.{leb, eqb}
-use borrow.Author.Tests.{le-leb, lt-leb, eq-eqb, ne-eqb, leb-true, eqb-true}
+use borrow.Author.Tests.{le-leb, lt-leb, eq-eqb, ne-eqb, leb-true, eqb-true, eqb-false}
 use denote.Enum.Declared.{tagOf}
 use types.Run.{OneOf}
 use Rattle.header.proofs.step.HeaderStep.{the-type}
@@ -47,11 +47,11 @@ module _ (s : List ℕ) (at : ℕ) where
         step-segment h e = rw (le-leb _ _ marker, ne-eqb _ _ other, long, le-leb _ _ h, le-leb _ _ e)
 
 -- what an answer says: an SOT's marker stands there; a step that goes on goes forward and not past the end, over a delimiter's marker or a
--- whole segment
+-- whole segment, whose marker is neither
 abbrev pub Told : List ℕ → ℕ → HeaderStep → Type 0
 Told s at Sot = (at + 2 ≤ length s) × (be 2 s at ≡ SOT)
 Told s at (Delimiter next) = (at < next) × (next ≤ length s) × (next ≡ at + 2) × (delimits (be 2 s at) ≡ true)
-Told s at (Segment next) = (at < next) × (next ≤ length s) × (next ≡ segmentEnd s at) × (at + 4 ≤ length s)
+Told s at (Segment next) = (at < next) × (next ≤ length s) × (next ≡ segmentEnd s at) × (at + 4 ≤ length s) × (be 2 s at ≡ SOT → ⊥) × (delimits (be 2 s at) ≡ false)
 Told s at CutShort = Unit {0}
 
 pub step-told : (s : List ℕ) (at : ℕ) → Told s at (stepAt s at)
@@ -59,9 +59,9 @@ unfolding stepAt
 step-told s at =
     by-test (Told s at) (leb (at + 2) (length s))
     (λ m. by-test (Told s at) (eqb (be 2 s at) SOT) (λ e. (leb-true _ _ m, eqb-true _ _ e))
-    (λ _. by-test (Told s at) (delimits (be 2 s at)) (λ d. (omega arith, leb-true _ _ m, refl, d))
-    (λ _. by-test (Told s at) (leb (at + 4) (length s))
-    (λ h. by-test (Told s at) (leb (segmentEnd s at) (length s)) (λ e. (omega arith, leb-true _ _ e, refl, leb-true _ _ h)) (λ _. tt))
+    (λ o. by-test (Told s at) (delimits (be 2 s at)) (λ d. (omega arith, leb-true _ _ m, refl, d))
+    (λ d. by-test (Told s at) (leb (at + 4) (length s))
+    (λ h. by-test (Told s at) (leb (segmentEnd s at) (length s)) (λ e. (omega arith, leb-true _ _ e, refl, leb-true _ _ h, eqb-false _ _ o, d)) (λ _. tt))
     (λ _. tt))))
     (λ _. tt)
 

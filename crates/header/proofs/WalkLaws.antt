@@ -150,10 +150,14 @@ pub walk-rises : (s : List ℕ) → Rises (walkAt s) (length s)
 unfolding walkAt walkStepAt
 walk-rises s at next e = moved s at next (walkStepAt s at) (tells-step s at (stepAt s at) (step-told s at)) e
 
+pub walk-moves : (s : List ℕ) (at next : ℕ) → walkAt s at ≡ on next → walkFrom s at ≡ also (record { at = at; next = next }) (walkFrom s next)
+unfolding walkFrom
+walk-moves s at next e = chain-on firstSot (walkAt s) (length s) (walk-rises s) at next e
+
 pub walk-on : (s : List ℕ) (at : ℕ) (p : Passing) → walkStepAt s at ≡ Passed p
     → walkFrom s at ≡ also (record { at = at; next = p .next }) (walkFrom s (p .next))
-unfolding walkFrom walkAt walkMove
-walk-on s at p e = chain-on firstSot (walkAt s) (length s) (walk-rises s) at (p .next) (ap walkMove e)
+unfolding walkAt walkMove
+walk-on s at p e = walk-moves s at (p .next) (ap walkMove e)
 
 pub walk-found : (s : List ℕ) (at : ℕ) → walkStepAt s at ≡ FirstSot → walkFrom s at ≡ record { visits = []; stopped = at; ended = firstSot }
 unfolding walkFrom walkAt walkMove

@@ -1,5 +1,5 @@
--- An item of a main header, a delimiter or a segment, read at another place: what the walk has read where it goes on, and that behind any front the
--- same is read again. A length of 0 or 1 has its field in the next item, which then is no TLM and no SOT, so it is kept and stands there too.
+-- An item of a main header, a delimiter or a segment, behind any front: the same is read again. A length of 0 or 1 has its field in the next item,
+-- which then is no TLM and no SOT, so it is kept and stands there too.
 use Prim.Native.Nat.{ℕ, _+_, _-_, _*_, _≤_, _<_}
 use native.Mathlib.Nat.{add-zero, add-assoc}
 use native.Mathlib.Omega.{arith}
@@ -13,120 +13,13 @@ use borrow.Author.Tests.{eq-eqb, ne-eqb, leb-true, leb-false, eqb-true, eqb-fals
 use Rattle.numbers.specs.Bytes.{be}
 use Rattle.numbers.proofs.BytesLaws.{be-cong}
 use Rattle.types.specs.Markers.{TLM, SOT}
-use Rattle.types.specs.declared.Refusal.{Refusal}
-use Rattle.chain.specs.Chain.{Move, end, on, Visit, Run, stay, step}
-use Rattle.chain.proofs.ChainLaws.{end-on}
-use Rattle.header.specs.Step.{delimits, segmentEnd, stepAt}
-use Rattle.header.specs.Tlm.{tlmAt}
-use Rattle.header.specs.Walk.{tlmStep, passedAt, walkStepOf, walkStepAt, WalkEnd, firstSot, refused, walkMove, walkAt}
+use Rattle.chain.specs.Chain.{on, Visit, Run, stay, step}
+use Rattle.header.specs.Step.{segmentEnd}
+use Rattle.header.specs.Walk.{walkAt}
 use Rattle.header.specs.Strip.{kept}
-use Rattle.header.specs.declared.step.HeaderStep.{HeaderStep}
-use Rattle.header.specs.declared.step.HeaderStep.the-variants.{Sot, Delimiter, Segment, CutShort}
-use Rattle.header.specs.declared.tlm.Tlm.{Tlm}
-use Rattle.header.specs.declared.walk.WalkStep.{WalkStep}
-use Rattle.header.specs.declared.walk.WalkStep.the-variants.{Passed}
-use Rattle.numbers.proofs.Choice.{by-test}
-use Rattle.header.proofs.StepLaws.{Told, step-told, step-sot, step-delimiter, step-segment}
-use Rattle.header.proofs.WalkLaws.{not-true-false, walk-segment, walk-delimiter, pass-other}
 use Rattle.header.proofs.WalkVisited.{length-visited}
+use Rattle.header.proofs.WalkItems.{Item, item, item-long, passes-again}
 use Rattle.laws.specs.Demand3.{AllBytes}
-use Rattle.header.specs.declared.tlm.Tlm.the-variants as tlm
-
--- ---- what the walk has read where it goes on, and where it ends
-
-pub data Item (s : List ℕ) (at next : ℕ) : Type 0 where
-  delimiter : delimits (be 2 s at) ≡ true → next ≡ at + 2 → Item s at next
-  segment : (be 2 s at ≡ SOT → ⊥) → delimits (be 2 s at) ≡ false → at + 4 ≤ length s → next ≡ segmentEnd s at → Item s at next
-
-passed-to : (s : List ℕ) (at n next : ℕ) → walkMove (passedAt s at n) ≡ on next → n ≡ next
-unfolding passedAt walkMove tlmStep
-passed-to s at n next e =
-    by-test (λ (w : WalkStep). walkMove w ≡ on next → n ≡ next) (eqb (be 2 s at) TLM) (λ _. by-tlm (tlmAt s at)) (λ _ m. (cc)) e
-  where
-    by-tlm : (t : Tlm) → walkMove (tlmStep n t) ≡ on next → n ≡ next
-    by-tlm (tlm.Entries k) m = cc
-    by-tlm (tlm.Refused r) m = absurd (end-on m)
-
-segment-item : (s : List ℕ) (at next : ℕ) → stepAt s at ≡ Segment next → Item s at next
-segment-item s at next e = by (delimits (be 2 s at)) refl
-  where
-    told : Told s at (Segment next)
-    told = rw e at (step-told s at)
-
-    other : be 2 s at ≡ SOT → ⊥
-    other m = let f : Sot ≡ Segment next = sym (step-sot s at (omega (arith, told .3)) m) ∙ e in let z : _≡_ {A = ℕ} 0 1 = cc in omega arith
-
-    by : (b : Bool) → delimits (be 2 s at) ≡ b → Item s at next
-    by true d =
-        let f : Delimiter (at + 2) ≡ Segment next = sym (step-delimiter s at (omega (arith, told .3)) other d) ∙ e in
-        let z : _≡_ {A = ℕ} 0 1 = cc in
-        absurd (omega arith)
-    by false d = segment other d (told .3) (told .2)
-
-pub item : (s : List ℕ) (at next : ℕ) → walkAt s at ≡ on next → Item s at next × (next ≤ length s)
-unfolding walkAt walkStepAt walkStepOf walkMove
-item s at next e = by (stepAt s at) refl e
-  where
-    by : (found : HeaderStep) → stepAt s at ≡ found → walkMove (walkStepOf s at found) ≡ on next → Item s at next × (next ≤ length s)
-    by Sot f m = absurd (end-on m)
-    by (Delimiter n) f m =
-        let g : stepAt s at ≡ Delimiter next = f ∙ ap Delimiter (passed-to s at n next m) in
-        let told : Told s at (Delimiter next) = rw g at (step-told s at) in
-        (delimiter (told .3) (told .2), told .1)
-    by (Segment n) f m =
-        let g : stepAt s at ≡ Segment next = f ∙ ap Segment (passed-to s at n next m) in
-        let told : Told s at (Segment next) = rw g at (step-told s at) in
-        (segment-item s at next g, told .1)
-    by CutShort f m = absurd (end-on m)
-
-not-first : {r : Refusal} → _≡_ {A = Move WalkEnd} (end (refused r)) (end firstSot) → ⊥
-not-first e = let z : _≡_ {A = ℕ} 0 1 = cc in omega arith
-
--- the walk ends accepted only at an SOT
-pub ends-sot : (s : List ℕ) (at : ℕ) → walkAt s at ≡ end firstSot → be 2 s at ≡ SOT
-unfolding walkAt walkStepAt walkStepOf walkMove passedAt tlmStep
-ends-sot s at e = by (stepAt s at) refl e
-  where
-    by-tlm : (n : ℕ) (t : Tlm) → walkMove (tlmStep n t) ≡ end firstSot → be 2 s at ≡ SOT
-    by-tlm n (tlm.Entries k) m = absurd (end-on (sym m))
-    by-tlm n (tlm.Refused r) m = absurd (not-first m)
-
-    by-passed : (n : ℕ) → walkMove (passedAt s at n) ≡ end firstSot → be 2 s at ≡ SOT
-    by-passed n m =
-        by-test (λ (w : WalkStep). walkMove w ≡ end firstSot → be 2 s at ≡ SOT) (eqb (be 2 s at) TLM) (λ _. by-tlm n (tlmAt s at)) (λ _ k. absurd (end-on (sym k))) m
-
-    by : (found : HeaderStep) → stepAt s at ≡ found → walkMove (walkStepOf s at found) ≡ end firstSot → be 2 s at ≡ SOT
-    by Sot f m = let told : Told s at Sot = rw f at (step-told s at) in told .1
-    by (Delimiter n) f m = by-passed n m
-    by (Segment n) f m = by-passed n m
-    by CutShort f m = absurd (not-first m)
-
--- ---- the same at another place
-
--- an SOT is no delimiter
-sot-no-delimiter : delimits SOT ≡ false
-unfolding delimits
-sot-no-delimiter = refl
-
-module _ (s : List ℕ) (at next : ℕ) (a : List ℕ) (to : ℕ) where
-  -- the segment's length stands there too
-  abbrev pub Read : Type 0
-  Read = (be 2 a (to + 2) ≡ be 2 s (at + 2)) × (to + 4 ≤ length a)
-
-  pub step-again : Item s at next → (be 2 s at ≡ TLM → ⊥) → be 2 a to ≡ be 2 s at → (next ≡ segmentEnd s at → Read) → to + (next - at) ≤ length a
-      → walkStepAt a to ≡ Passed (record { next = to + (next - at); «is_tlm» = false; entries = 0 })
-  unfolding segmentEnd
-  step-again (delimiter d n) other same read inside =
-      let here : next - at ≡ 2 = omega arith in
-      let sot : be 2 a to ≡ SOT → ⊥ = λ e. not-true-false (sym d ∙ ap delimits (sym same ∙ e) ∙ sot-no-delimiter) in
-      walk-delimiter a to (to + (next - at)) (step-delimiter a to (omega arith) sot (ap delimits same ∙ d) ∙ ap (λ (k : ℕ). Delimiter (to + k)) (sym here))
-      ∙ pass-other a to (to + (next - at)) (λ e. other (sym same ∙ e))
-  step-again (segment sot d room n) other same read inside =
-      let r = read n in
-      let ends : segmentEnd a to ≡ to + (next - at) = omega (arith, r .0) in
-      walk-segment a to (to + (next - at))
-      (step-segment a to (omega (arith, r .1)) (λ e. sot (sym same ∙ e)) (ap delimits same ∙ d) (r .1) (omega arith) ∙ ap Segment ends)
-      ∙ pass-other a to (to + (next - at)) (λ e. other (sym same ∙ e))
 
 -- ---- what is kept
 
@@ -152,12 +45,6 @@ in-visited s at next y h i l =
     List·getD-append (take (next - at) (drop at s)) y 0 i (omega (arith, length-visited s at next h))
     ∙ getD-take (next - at) (drop at s) i 0 (omega arith)
     ∙ getD-drop at s i 0
-
--- an item has its marker
-pub item-long : {s : List ℕ} {at next : ℕ} → Item s at next → at + 2 ≤ next
-unfolding segmentEnd
-item-long (delimiter d n) = omega arith
-item-long (segment sot d room n) = omega arith
 
 -- where neither SOT nor TLM stands, what is kept from there on begins with the two bytes there
 record Agrees (s : List ℕ) (at : ℕ) (k : List ℕ) : Type 0 where
@@ -251,12 +138,12 @@ module _ (s : List ℕ) (bytes : AllBytes s) (at next : ℕ) {stop : ℕ} {visit
 -- an item behind any front
 pub pass-again : (s : List ℕ) (at next : ℕ) → Item s at next → next ≤ length s → (be 2 s at ≡ TLM → ⊥) → (front y : List ℕ)
     → (next ≡ segmentEnd s at → Field s at (piece s at next ++ y))
-    → walkStepAt (front ++ (piece s at next ++ y)) (length front) ≡ Passed (record { next = length front + (next - at); «is_tlm» = false; entries = 0 })
+    → walkAt (front ++ (piece s at next ++ y)) (length front) ≡ on (length front + (next - at))
 pass-again s at next i inside other front y stands =
     let x : List ℕ = piece s at next ++ y in
     let two = item-long i in
     let size : length (front ++ x) ≡ length front + (next - at + length y) = simp length-append (omega (arith, length-visited s at next inside)) in
-    step-again s at next (front ++ x) (length front) i other
+    passes-again s at next (front ++ x) (length front) i other
     (be-cong 2 _ _ _ _ (λ j l. getD-append-add front x j 0 ∙ in-visited s at next y inside j (omega arith)))
     (λ n.
     let f = stands n in

@@ -11,22 +11,22 @@ use lib.Seq.{getD-take, take-append-le, drop-append-le, length-take-le, take-add
 use Rattle.numbers.specs.Bytes.{be, put}
 use Rattle.numbers.proofs.BytesLaws.{be-cong, be-rest, be-front, be-put-before, length-put}
 use Rattle.types.specs.Markers.{SIZ, TLM, SOT}
-use Rattle.chain.specs.Chain.{Chain, end, on, Visit, Run, stay, step}
+use Rattle.chain.specs.Chain.{Chain, end, on, Visit, Run, stay, step, also}
 use Rattle.chain.proofs.ChainLaws.{chain-run, chain-stops}
 use Rattle.header.specs.Step.{delimits, segmentEnd}
-use Rattle.header.specs.Walk.{walkStepAt, WalkEnd, firstSot, walkAt, walkFrom}
+use Rattle.header.specs.Walk.{WalkEnd, firstSot, walkAt, walkFrom}
 use Rattle.header.specs.Strip.{kept, decodeHeader}
-use Rattle.header.specs.declared.walk.WalkStep.the-variants.{Passed}
 use Rattle.header.proofs.StepLaws.{step-sot}
-use Rattle.header.proofs.WalkLaws.{not-true-false, walk-sot, walk-found, walk-rises}
-use Rattle.header.proofs.WalkVisited.{stopped-on, ended-on, length-visited}
+use Rattle.header.proofs.WalkLaws.{not-true-false, walk-sot, walk-found, walk-rises, walk-moves}
+use Rattle.header.proofs.WalkVisited.{length-visited}
+use Rattle.header.proofs.WalkItems.{Item, delimiter, segment, item, item-long, ends-sot, passes-again}
 use Rattle.tile.specs.Siz.{oneTile}
 use Rattle.tile.specs.Rewrite.{cutTo}
 use Rattle.tile.specs.declared.rewrite.TileSize.{TileSize}
 use Rattle.tile.specs.declared.rewrite.TileSize.the-variants.{Whole, Cut, Refused}
 use Rattle.tile.proofs.RewriteHeader.{length-one}
 use Rattle.laws.specs.Demand3.{AllBytes}
-use Rattle.laws.proofs.Demand3Items.{Item, delimiter, segment, item, item-long, ends-sot, step-again, kept-tlm, kept-other, by-tlm, piece, field, pass-again}
+use Rattle.laws.proofs.Demand3Items.{kept-tlm, kept-other, by-tlm, piece, field, pass-again}
 
 -- ---- the walk over what is kept
 
@@ -35,8 +35,11 @@ pub record Stops (a : List ℕ) (from to : ℕ) : Type 0 where
   pub stopped : walkFrom a from .stopped ≡ to
   pub ended : walkFrom a from .ended ≡ firstSot
 
-stops-on : (a : List ℕ) (from next to : ℕ) → walkStepAt a from ≡ Passed (record { next = next; «is_tlm» = false; entries = 0 }) → Stops a next to → Stops a from to
-stops-on a from next to found more = record { stopped = stopped-on a from _ found ∙ more .stopped; ended = ended-on a from _ found ∙ more .ended }
+stops-on : (a : List ℕ) (from next to : ℕ) → walkAt a from ≡ on next → Stops a next to → Stops a from to
+unfolding also
+stops-on a from next to found more =
+    let e = walk-moves a from next found in
+    record { stopped = ap (λ (c : Chain WalkEnd). c .stopped) e ∙ more .stopped; ended = ap (λ (c : Chain WalkEnd). c .ended) e ∙ more .ended }
 
 stops-here : (a : List ℕ) (at : ℕ) → at + 2 ≤ length a → be 2 a at ≡ SOT → Stops a at at
 stops-here a at room m =
@@ -142,13 +145,13 @@ module _ (s : List ℕ) (marker : be 2 s 2 ≡ SIZ) (lsiz : 36 ≤ be 2 s 4) (ne
       ∙ ap (λ (l : List ℕ). be 2 l i) (front-is s next (omega arith))
       ∙ be-cong 2 _ _ _ _ (λ n m. getD-take next s (i + n) 0 (omega arith))
 
-  pass-siz : (y : List ℕ) → walkStepAt (cut ++ y) 2 ≡ Passed (record { next = next; «is_tlm» = false; entries = 0 })
+  pass-siz : (y : List ℕ) → walkAt (cut ++ y) 2 ≡ on next
   pass-siz y =
       let ends = siz-ends s next marker siz in
       let there : 2 + (next - 2) ≡ next = omega arith in
       let size : length (cut ++ y) ≡ next + length y = simp length-append (omega (arith, cut-long)) in
-      step-again s 2 next (cut ++ y) 2 siz (λ e. omega arith) (read-again y 2 (omega arith)) (λ _. (read-again y 4 (omega arith), omega arith)) (omega arith)
-      ∙ ap (λ (n : ℕ). Passed (record { next = n; «is_tlm» = false; entries = 0 })) there
+      passes-again s 2 next (cut ++ y) 2 siz (λ e. omega arith) (read-again y 2 (omega arith)) (λ _. (read-again y 4 (omega arith), omega arith)) (omega arith)
+      ∙ ap (λ (n : ℕ). on n) there
 
 -- ---- the whole header
 

@@ -1,0 +1,115 @@
+-- What the walk has read where it goes on, a delimiter or a segment, and where it ends; and that at another place where the same is read it goes on
+-- as far.
+use Prim.Native.Nat.{ℕ, _+_, _-_, _≤_}
+use native.Mathlib.Omega.{arith}
+use mathlib.Core.Path.{_≡_, refl, sym, ap, _∙_}
+use mathlib.Core.Bool.{true, false}
+use mathlib.Core.List.{List}
+use lib.ListN.{length}
+use lib.Dec.{eqb}
+use Rattle.numbers.specs.Bytes.{be}
+use Rattle.numbers.proofs.Choice.{by-test}
+use Rattle.types.specs.Markers.{TLM, SOT}
+use Rattle.types.specs.declared.Refusal.{Refusal}
+use Rattle.chain.specs.Chain.{Move, end, on}
+use Rattle.chain.proofs.ChainLaws.{end-on}
+use Rattle.header.specs.Step.{delimits, segmentEnd, stepAt}
+use Rattle.header.specs.Tlm.{tlmAt}
+use Rattle.header.specs.Walk.{tlmStep, passedAt, walkStepOf, walkStepAt, WalkEnd, firstSot, refused, walkMove, walkAt}
+use Rattle.header.specs.declared.step.HeaderStep.{HeaderStep}
+use Rattle.header.specs.declared.step.HeaderStep.the-variants.{Sot, Delimiter, Segment, CutShort}
+use Rattle.header.specs.declared.tlm.Tlm.{Tlm}
+use Rattle.header.specs.declared.walk.WalkStep.{WalkStep}
+use Rattle.header.proofs.StepLaws.{Told, step-told, step-delimiter, step-segment}
+use Rattle.header.proofs.WalkLaws.{not-true-false, walk-segment, walk-delimiter, pass-other}
+use Rattle.header.specs.declared.tlm.Tlm.the-variants as tlm
+
+pub data Item (s : List ℕ) (at next : ℕ) : Type 0 where
+  delimiter : delimits (be 2 s at) ≡ true → next ≡ at + 2 → Item s at next
+  segment : (be 2 s at ≡ SOT → ⊥) → delimits (be 2 s at) ≡ false → at + 4 ≤ length s → next ≡ segmentEnd s at → Item s at next
+
+-- ---- what was read
+
+passed-to : (s : List ℕ) (at n next : ℕ) → walkMove (passedAt s at n) ≡ on next → n ≡ next
+unfolding passedAt walkMove tlmStep
+passed-to s at n next e =
+    by-test (λ (w : WalkStep). walkMove w ≡ on next → n ≡ next) (eqb (be 2 s at) TLM) (λ _. by-tlm (tlmAt s at)) (λ _ m. (cc)) e
+  where
+    by-tlm : (t : Tlm) → walkMove (tlmStep n t) ≡ on next → n ≡ next
+    by-tlm (tlm.Entries k) m = cc
+    by-tlm (tlm.Refused r) m = absurd (end-on m)
+
+read : (s : List ℕ) (at next : ℕ) (found : HeaderStep) → Told s at found → walkMove (walkStepOf s at found) ≡ on next → Item s at next × (next ≤ length s)
+unfolding walkStepOf walkMove
+read s at next Sot told e = absurd (end-on e)
+read s at next (Delimiter n) told e =
+    let here = passed-to s at n next e in
+    (delimiter (told .3) (sym here ∙ told .2), omega (arith, told .1))
+read s at next (Segment n) told e =
+    let here = passed-to s at n next e in
+    (segment (told .4) (told .5) (told .3) (sym here ∙ told .2), omega (arith, told .1))
+read s at next CutShort told e = absurd (end-on e)
+
+pub item : (s : List ℕ) (at next : ℕ) → walkAt s at ≡ on next → Item s at next × (next ≤ length s)
+unfolding walkAt walkStepAt
+item s at next e = read s at next (stepAt s at) (step-told s at) e
+
+-- an item has its marker
+pub item-long : {s : List ℕ} {at next : ℕ} → Item s at next → at + 2 ≤ next
+unfolding segmentEnd
+item-long (delimiter d n) = omega arith
+item-long (segment sot d room n) = omega arith
+
+-- ---- where it ends
+
+not-first : {r : Refusal} → _≡_ {A = Move WalkEnd} (end (refused r)) (end firstSot) → ⊥
+not-first e = let z : _≡_ {A = ℕ} 0 1 = cc in omega arith
+
+-- the walk ends accepted only at an SOT
+pub ends-sot : (s : List ℕ) (at : ℕ) → walkAt s at ≡ end firstSot → be 2 s at ≡ SOT
+unfolding walkAt walkStepAt walkStepOf walkMove passedAt tlmStep
+ends-sot s at e = by (stepAt s at) (step-told s at) e
+  where
+    by-tlm : (n : ℕ) (t : Tlm) → walkMove (tlmStep n t) ≡ end firstSot → be 2 s at ≡ SOT
+    by-tlm n (tlm.Entries k) m = absurd (end-on (sym m))
+    by-tlm n (tlm.Refused r) m = absurd (not-first m)
+
+    by-passed : (n : ℕ) → walkMove (passedAt s at n) ≡ end firstSot → be 2 s at ≡ SOT
+    by-passed n m =
+        by-test (λ (w : WalkStep). walkMove w ≡ end firstSot → be 2 s at ≡ SOT) (eqb (be 2 s at) TLM) (λ _. by-tlm n (tlmAt s at)) (λ _ k. absurd (end-on (sym k))) m
+
+    by : (found : HeaderStep) → Told s at found → walkMove (walkStepOf s at found) ≡ end firstSot → be 2 s at ≡ SOT
+    by Sot told m = told .1
+    by (Delimiter n) told m = by-passed n m
+    by (Segment n) told m = by-passed n m
+    by CutShort told m = absurd (not-first m)
+
+-- ---- the same at another place
+
+-- an SOT is no delimiter
+sot-no-delimiter : delimits SOT ≡ false
+unfolding delimits
+sot-no-delimiter = refl
+
+module _ (s : List ℕ) (at next : ℕ) (a : List ℕ) (to : ℕ) where
+  -- the segment's length stands there too
+  abbrev pub Read : Type 0
+  Read = (be 2 a (to + 2) ≡ be 2 s (at + 2)) × (to + 4 ≤ length a)
+
+  -- what was passed, and is no TLM segment, is passed there
+  pub passes-again : Item s at next → (be 2 s at ≡ TLM → ⊥) → be 2 a to ≡ be 2 s at → (next ≡ segmentEnd s at → Read) → to + (next - at) ≤ length a
+      → walkAt a to ≡ on (to + (next - at))
+  unfolding segmentEnd walkAt walkMove
+  passes-again (delimiter d n) other same read inside =
+      let here : next - at ≡ 2 = omega arith in
+      let sot : be 2 a to ≡ SOT → ⊥ = λ e. not-true-false (sym d ∙ ap delimits (sym same ∙ e) ∙ sot-no-delimiter) in
+      ap walkMove
+      (walk-delimiter a to (to + (next - at)) (step-delimiter a to (omega arith) sot (ap delimits same ∙ d) ∙ ap (λ (k : ℕ). Delimiter (to + k)) (sym here))
+      ∙ pass-other a to (to + (next - at)) (λ e. other (sym same ∙ e)))
+  passes-again (segment sot d room n) other same read inside =
+      let r = read n in
+      let ends : segmentEnd a to ≡ to + (next - at) = omega (arith, r .0) in
+      ap walkMove
+      (walk-segment a to (to + (next - at))
+      (step-segment a to (omega (arith, r .1)) (λ e. sot (sym same ∙ e)) (ap delimits same ∙ d) (r .1) (omega arith) ∙ ap Segment ends)
+      ∙ pass-other a to (to + (next - at)) (λ e. other (sym same ∙ e)))
