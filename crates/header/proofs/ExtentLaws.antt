@@ -11,6 +11,7 @@ use Rattle.chain.specs.Chain.{end, on, Rises, also}
 use Rattle.chain.proofs.ChainLaws.{end-on, chain-end, chain-on}
 use Rattle.header.specs.Step.{stepAt, HeaderEnd, sot, cut, moveOf, moveAt, stepsFrom}
 use Rattle.header.specs.Extent.{endedAs, extentEnd, extentOf}
+use Rattle.header.specs.declared.step.Marker.{Marker}
 use Rattle.header.specs.declared.step.HeaderStep.{HeaderStep}
 use Rattle.header.specs.declared.step.HeaderStep.the-variants.{Sot, Delimiter, Segment, CutShort}
 use Rattle.header.specs.declared.extent.MainHeaderExtent.the-variants.{Complete, Truncated}
@@ -19,8 +20,8 @@ use Rattle.header.proofs.StepLaws.{Told, step-told}
 moved : (s : List ℕ) (at next : ℕ) (found : HeaderStep) → Told s at found → moveOf found ≡ on next → (at < next) × (next ≤ length s)
 unfolding moveOf
 moved s at next Sot told e = absurd (end-on e)
-moved s at next (Delimiter n) told e = let h : n ≡ next = cc in (omega arith, omega arith)
-moved s at next (Segment n) told e = let h : n ≡ next = cc in (omega arith, omega arith)
+moved s at next (Delimiter m) told e = let h : m .next ≡ next = cc in (omega arith, omega arith)
+moved s at next (Segment m) told e = let h : m .next ≡ next = cc in (omega arith, omega arith)
 moved s at next CutShort told e = absurd (end-on e)
 
 -- a step that moves on goes forward, and not past the end
@@ -43,13 +44,13 @@ steps-on s at next e = chain-on cut (moveAt s) (length s) (rises s) at next e
 
 -- ---- the extent, by what the step finds
 
-pub segment-on : (s : List ℕ) (at next : ℕ) → stepAt s at ≡ Segment next → moveAt s at ≡ on next
+pub segment-on : (s : List ℕ) (at : ℕ) (m : Marker) → stepAt s at ≡ Segment m → moveAt s at ≡ on (m .next)
 unfolding moveAt moveOf
-segment-on s at next e = ap moveOf e
+segment-on s at m e = ap moveOf e
 
-pub delimiter-on : (s : List ℕ) (at next : ℕ) → stepAt s at ≡ Delimiter next → moveAt s at ≡ on next
+pub delimiter-on : (s : List ℕ) (at : ℕ) (m : Marker) → stepAt s at ≡ Delimiter m → moveAt s at ≡ on (m .next)
 unfolding moveAt moveOf
-delimiter-on s at next e = ap moveOf e
+delimiter-on s at m e = ap moveOf e
 
 pub extent-on : (s : List ℕ) (at next : ℕ) → moveAt s at ≡ on next → extentEnd (stepsFrom s at) ≡ extentEnd (stepsFrom s next)
 unfolding extentEnd also

@@ -11,20 +11,21 @@ use Rattle.numbers.specs.Bytes.{be, bytesOf}
 use Rattle.numbers.specs.Rows.{bytesOfRows}
 use Rattle.numbers.proofs.BytesLaws.{length-bytes, be-front, be-bytesOf}
 use Rattle.numbers.proofs.Rows.{be-behind}
-use Rattle.types.specs.Markers.{SOC, SIZ, SOT}
+use Rattle.types.specs.Markers.{SOC, SIZ, TLM, SOT}
 use Rattle.chain.specs.Chain.{Chain}
-use Rattle.header.specs.Walk.{WalkEnd, firstSot, walkStepAt, walkFrom, tlmStep}
-use Rattle.header.specs.Strip.{kept, decodeHeader, tlmEntries}
+use Rattle.header.specs.Walk.{WalkEnd, firstSot, plain, walkStepAt, walkFrom, tlmStep}
+use Rattle.header.specs.Strip.{fillers, kept, decodeHeader, tlmEntries}
 use Rattle.header.specs.Parse.{readAs, judged}
 use Rattle.header.specs.Iso.{Segment, segmentBytes, InMain}
 use Rattle.header.specs.IsoTlm.{Pointer, TlmSegment, tlmRows, numbered, isoTable, restarted, InOrder, AllIndexed}
 use Rattle.header.specs.IsoMain.{Piece, tlm, other, pieceBytes, piecesBytes, mainHeader, Sound, AllSound, IsMain, tables, pointerCount, without}
+use Rattle.header.specs.declared.step.Marker.{Marker}
 use Rattle.header.specs.declared.walk.Passed.{Passed as Passing}
 use Rattle.header.specs.declared.walk.WalkStep.the-variants.{Passed}
 use Rattle.header.specs.declared.parse.MainHeader.the-variants.{Header}
 use Rattle.header.proofs.StepLaws.{step-sot}
 use Rattle.header.proofs.WalkLaws.{pass-other, pass-tlm, walk-segment, walk-sot, walk-found}
-use Rattle.header.proofs.WalkVisited.{stopped-on, ended-on, keptFrom, entriesFrom, kept-plain, entries-plain, kept-tlm, entries-tlm}
+use Rattle.header.proofs.WalkVisited.{stopped-on, ended-on, keptFrom, entriesFrom, fillersFrom, fillers-on, kept-plain, entries-plain, kept-tlm, entries-tlm}
 use Rattle.header.proofs.ParseLaws.{judged-walk, stands-there}
 use Rattle.header.proofs.Iso.{siz-inside, segment-marker, segment-standard}
 use Rattle.header.proofs.IsoTlm.{tlm-step, tlm-marker, tlm-read, tlm-entries, restarted-indexed, restarted-single}
@@ -37,6 +38,7 @@ record Walked (s : List ℕ) (at : ℕ) (ps : List Piece) : Type 0 where
   ended : walkFrom s at .ended ≡ firstSot
   kept : keptFrom s at ≡ piecesBytes (without ps)
   entries : entriesFrom s at ≡ restarted (tables ps)
+  none : fillersFrom s at ≡ 0
 
 -- what was passed between other bytes
 passed-part : (front xs rest : List ℕ) → take (length front + length xs - length front) (drop (length front) (front ++ (xs ++ rest))) ≡ xs
@@ -48,7 +50,7 @@ marker-read front m rest h = be-behind 2 front _ ∙ be-front 2 (bytesOf 2 m) re
 
 -- the walk ends at an SOT
 at-sot : (front rest : List ℕ) → Walked (front ++ (bytesOf 2 SOT ++ rest)) (length front) []
-unfolding piecesBytes without tables restarted kept tlmEntries
+unfolding piecesBytes without tables restarted fillers kept tlmEntries
 at-sot front rest =
     let s : List ℕ = front ++ (bytesOf 2 SOT ++ rest) in
     let at : ℕ = length front in
@@ -59,6 +61,7 @@ at-sot front rest =
       ended = ap (λ (c : Chain WalkEnd). c .ended) found;
       kept = ap (λ (c : Chain WalkEnd). kept s (c .visits)) found;
       entries = ap (λ (c : Chain WalkEnd). tlmEntries s (c .visits)) found;
+      none = ap (λ (c : Chain WalkEnd). fillers s (c .visits)) found;
     }
 
 -- a piece is passed, and what holds from its end on holds from its start on
@@ -69,27 +72,29 @@ unfolding Sound pieceBytes piecesBytes without tables restarted tlmStep
 past front (other g) ps rest h w =
     let s : List ℕ = front ++ (segmentBytes g ++ rest) in
     let at : ℕ = length front in
-    let p : Passing = record { next = at + length (segmentBytes g); «is_tlm» = false; entries = 0 } in
-    let found : walkStepAt s at ≡ Passed p =
-    walk-segment s at (p .next) (segment-standard front g rest (h .0)) ∙ pass-other s at (p .next) (λ e. h .1 (sym (segment-marker front g rest (h .0)) ∙ e)) in
+    let m : Marker = record { code = g .marker; «high_ff» = true; next = at + length (segmentBytes g) } in
+    let p : Passing = plain m false in
+    let found : walkStepAt s at ≡ Passed p = walk-segment s at m (segment-standard front g rest (h .0)) ∙ pass-other s at m (h .1) in
     record {
       stopped = stopped-on s at p found ∙ w .stopped ∙ omega (arith, length-append (segmentBytes g) (piecesBytes ps));
       ended = ended-on s at p found ∙ w .ended;
       kept = kept-plain s at p found refl ∙ ap₂ _++_ (passed-part front (segmentBytes g) rest) (w .kept);
       entries = entries-plain s at p found refl ∙ w .entries;
+      none = omega (arith, fillers-on s at p found, w .none);
     }
 past front (tlm t) ps rest h w =
     let bytes : List ℕ = bytesOfRows (tlmRows t) in
     let s : List ℕ = front ++ (bytes ++ rest) in
     let at : ℕ = length front in
-    let p : Passing = record { next = at + length bytes; «is_tlm» = true; entries = length (t .pointers) } in
-    let found : walkStepAt s at ≡ Passed p =
-    walk-segment s at (p .next) (tlm-step front t rest h) ∙ pass-tlm s at (p .next) (tlm-marker front t rest h) ∙ ap (tlmStep (p .next)) (tlm-read front t rest h) in
+    let m : Marker = record { code = TLM; «high_ff» = true; next = at + length bytes } in
+    let p : Passing = record { next = m .next; code = TLM; «is_filler» = false; «is_tlm» = true; entries = length (t .pointers) } in
+    let found : walkStepAt s at ≡ Passed p = walk-segment s at m (tlm-step front t rest h) ∙ pass-tlm s at m refl ∙ ap (tlmStep m) (tlm-read front t rest h) in
     record {
       stopped = stopped-on s at p found ∙ w .stopped ∙ omega (arith, length-append bytes (piecesBytes ps));
       ended = ended-on s at p found ∙ w .ended;
       kept = kept-tlm s at p found refl ∙ w .kept;
       entries = entries-tlm s at p found refl ∙ ap₂ _++_ (tlm-entries front t rest h) (w .entries);
+      none = omega (arith, fillers-on s at p found, w .none);
     }
 
 -- each piece in turn, up to the SOT
@@ -160,6 +165,10 @@ module _ (g : Segment) (ps : List Piece) (rest : List ℕ) (m : IsMain g ps) whe
   pub tlm-single : (t : TlmSegment) → tables ps ≡ t ∷ [] → tlmEntries (upToSot g ps rest) (walkFrom (upToSot g ps rest) 2 .visits) ≡ isoTable (tables ps)
   tlm-single t e = entries-main ∙ rw e (restarted-single t)
 
+  -- nothing in it is filler
+  pub fillers-main : fillers (upToSot g ps rest) (walkFrom (upToSot g ps rest) 2 .visits) ≡ 0
+  fillers-main = main .none
+
   -- The main header is accepted, with the first SOT behind its last segment.
   pub main-standard : length (upToSot g ps rest) ≤ 0xffff_ffff
       → judged (upToSot g ps rest)
@@ -168,6 +177,7 @@ module _ (g : Segment) (ps : List Piece) (rest : List ℕ) (m : IsMain g ps) whe
         «first_sot_offset» = record { 0 = length (mainHeader g ps) };
         «decode_header_length» = length (mainHeader g (without ps));
         «tlm_entries» = pointerCount (tables ps);
+        fillers = 0;
       })
   unfolding readAs bytesOf
   main-standard short =
@@ -178,4 +188,4 @@ module _ (g : Segment) (ps : List Piece) (rest : List ℕ) (m : IsMain g ps) whe
       let entries : length (tlmEntries s (walkFrom s 2 .visits)) ≡ pointerCount (tables ps) = ap length entries-main ∙ length-restarted (tables ps) in
       judged-walk s short (stands-there s 0 SOC (omega arith) soc) (stands-there s 2 SIZ (omega arith) at-siz)
       ∙ ap (readAs s (walkFrom s 2)) ended-main
-      ∙ (λ i. Header (record { «first_sot_offset» = record { 0 = stopped-main i }; «decode_header_length» = length (decode-main i); «tlm_entries» = entries i }))
+      ∙ (λ i. Header (record { «first_sot_offset» = record { 0 = stopped-main i }; «decode_header_length» = length (decode-main i); «tlm_entries» = entries i; fillers = fillers-main i }))

@@ -14,7 +14,7 @@ use Rattle.numbers.specs.Rows.{row, bytesOfRows, widths}
 use Rattle.numbers.proofs.BytesLaws.{be-rest}
 use Rattle.numbers.proofs.Rows.{length-rows, be-row, be-behind, be-one}
 use Rattle.types.specs.Markers.{TLM}
-use Rattle.header.specs.Step.{delimits, segmentEnd, stepAt}
+use Rattle.header.specs.Step.{delimits, highFF, segmentEnd, stepAt}
 use Rattle.header.specs.Tlm.{ltlm, stlm, indexSize, lengthSize, entryCount, tlmAt, entryIn, entriesIn}
 use Rattle.header.specs.IsoTlm.{Pointer, TlmSegment, pointerWidth, pointerRows, tlmRows, Held, TlmRanges, numbered, numberedOn, insert, ordered, isoTable, restarted, InOrder, AllIndexed}
 use Rattle.header.specs.declared.step.HeaderStep.the-variants.{Segment}
@@ -81,15 +81,17 @@ module _ (front : List ℕ) (t : TlmSegment) (rest : List ℕ) (r : TlmRanges t)
   wide = omega (arith, sizes-field)
 
   -- it is passed whole
-  pub tlm-step : stepAt (front ++ (bytesOfRows (tlmRows t) ++ rest)) (length front) ≡ Segment (length front + length (bytesOfRows (tlmRows t)))
-  unfolding delimits segmentEnd tlmRows widths
+  pub tlm-step : stepAt (front ++ (bytesOfRows (tlmRows t) ++ rest)) (length front)
+      ≡ Segment (record { code = TLM; «high_ff» = true; next = length front + length (bytesOfRows (tlmRows t)) })
+  unfolding delimits highFF segmentEnd tlmRows widths
   tlm-step =
       let s : List ℕ = front ++ (bytesOfRows (tlmRows t) ++ rest) in
       let size : length (bytesOfRows (tlmRows t)) ≡ 6 + length (t .pointers) * (t .ST + pointerWidth (t .SP)) =
       length-rows (tlmRows t) ∙ omega (arith, widths-pointers (t .ST) (t .SP) (t .pointers)) in
       let whole : length s ≡ length front + (length (bytesOfRows (tlmRows t)) + length rest) = simp length-append in
       let ends : segmentEnd s (length front) ≡ length front + length (bytesOfRows (tlmRows t)) = omega (arith, length-field) in
-      step-segment s (length front) (omega arith) (λ e. omega (arith, tlm-marker)) (ap delimits tlm-marker) (omega arith) (omega arith) ∙ ap Segment ends
+      step-segment s (length front) (omega arith) (λ e. omega (arith, tlm-marker)) (ap delimits tlm-marker) (omega arith) (omega arith)
+      ∙ (λ i. Segment (record { code = tlm-marker i; «high_ff» = highFF (tlm-marker i); next = ends i }))
 
   -- it is accepted, and read entry by entry
   pub tlm-count : entryCount (front ++ (bytesOfRows (tlmRows t) ++ rest)) (length front) ≡ length (t .pointers)

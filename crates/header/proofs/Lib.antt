@@ -11,6 +11,7 @@ pub mod ParseFilling
 pub mod StripLengths
 pub mod ParseLaws
 pub mod FindLaws
+pub mod Base
 pub mod Iso
 pub mod IsoTlm
 pub mod IsoMain

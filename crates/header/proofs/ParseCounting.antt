@@ -1,34 +1,37 @@
--- The walk that counts: what was stripped and the entries so far, with what lies ahead, are those of the whole walk.
+-- The walk that counts: what was stripped, the entries and the fillers so far, with what lies ahead, are those of the whole walk.
 use Prim.Native.Nat.{ℕ, _+_, _-_, _≤_}
 use native.Mathlib.Nat.{zero-add}
 use native.Mathlib.Omega.{arith}
 use mathlib.Core.Path.{_≡_, refl, sym, ap, _∙_}
-use mathlib.Core.Bool.{true, false}
+use mathlib.Core.Bool.{Bool, true, false, cond}
 use mathlib.Core.List.{List, []}
 use lib.ListN.{length, take, drop, length-append, length-take}
+use mir.Val.{boolByte}
 use Rattle.types.specs.declared.Refusal.{Refusal}
 use Rattle.chain.specs.Chain.{Chain}
 use Rattle.header.specs.Tlm.{Entry, entriesIn}
 use Rattle.header.specs.Walk.{WalkEnd, walkStepAt, walkFrom}
-use Rattle.header.specs.Strip.{kept, decodeHeader, tlmEntries}
+use Rattle.header.specs.Strip.{fillers, kept, decodeHeader, tlmEntries}
 use Rattle.header.specs.Parse.{readAs}
 use Rattle.header.specs.declared.walk.Passed.{Passed as Passing}
 use Rattle.header.specs.declared.walk.WalkStep.the-variants.{Passed, FirstSot, Refused}
 use Rattle.header.proofs.TlmLaws.{length-entries}
 use Rattle.header.proofs.WalkLaws.{passed-is, walk-found, walk-refused}
-use Rattle.header.proofs.WalkVisited.{stopped-on, ended-on, keptFrom, entriesFrom, kept-plain, entries-plain, kept-tlm, entries-tlm, entries-few, length-visited}
+use Rattle.header.proofs.WalkVisited.{stopped-on, ended-on, keptFrom, entriesFrom, fillersFrom, fillers-on, kept-plain, entries-plain, kept-tlm, entries-tlm, entries-few, length-visited}
 use Rattle.header.specs.declared.parse.MainHeader.the-variants as answer
 
-pub record Counting (s : List ℕ) (at stripped entries : ℕ) : Type 0 where
+pub record Counting (s : List ℕ) (at stripped entries filler : ℕ) : Type 0 where
   pub inside : at ≤ length s
   pub before : stripped + 2 ≤ at
   pub few : entries ≤ at
   pub header : length (keptFrom s at) + (at - stripped) ≡ length (decodeHeader s (walkFrom s 2 .visits))
   pub records : entries + length (entriesFrom s at) ≡ length (entriesFrom s 2)
+  pub least : filler ≤ at
+  pub fill : filler + fillersFrom s at ≡ fillersFrom s 2
   pub stops : walkFrom s at .stopped ≡ walkFrom s 2 .stopped
   pub ends : walkFrom s at .ended ≡ walkFrom s 2 .ended
 
-pub counting-start : (s : List ℕ) → 2 ≤ length s → Counting s 2 0 0
+pub counting-start : (s : List ℕ) → 2 ≤ length s → Counting s 2 0 0 0
 unfolding decodeHeader
 counting-start s h =
     record {
@@ -37,12 +40,23 @@ counting-start s h =
       few = omega arith;
       header = simp (length-append, length-take) (omega arith);
       records = zero-add _;
+      least = omega arith;
+      fill = zero-add _;
       stops = refl;
       ends = refl;
     }
 
-module _ (s : List ℕ) (at stripped entries : ℕ) (c : Counting s at stripped entries) (p : Passing) (found : walkStepAt s at ≡ Passed p) where
-  pub counting-plain : p .«is_tlm» ≡ false → Counting s (p .next) stripped entries
+-- one more, or none: as a number a test is 1 or 0
+pub bool-number : (b : Bool) → boolByte b ≡ cond b 1 0
+bool-number true = refl
+bool-number false = refl
+
+pub one-at-most : (b : Bool) → cond b 1 0 ≤ 1
+one-at-most true = omega arith
+one-at-most false = omega arith
+
+module _ (s : List ℕ) (at stripped entries filler : ℕ) (c : Counting s at stripped entries filler) (p : Passing) (found : walkStepAt s at ≡ Passed p) where
+  pub counting-plain : p .«is_tlm» ≡ false → Counting s (p .next) stripped entries (filler + cond (p .«is_filler») 1 0)
   counting-plain plain =
       let told = passed-is s at p found in
       let past = told .past in
@@ -54,11 +68,13 @@ module _ (s : List ℕ) (at stripped entries : ℕ) (c : Counting s at stripped 
         few = omega (arith, c .few);
         header = omega (arith, c .header, c .before, longer, length-visited s at (p .next) inside);
         records = ap (λ (es : List Entry). entries + length es) (sym (entries-plain s at p found plain)) ∙ c .records;
+        least = omega (arith, c .least, one-at-most (p .«is_filler»));
+        fill = omega (arith, c .fill, fillers-on s at p found);
         stops = sym (stopped-on s at p found) ∙ c .stops;
         ends = sym (ended-on s at p found) ∙ c .ends;
       }
 
-  pub counting-tlm : p .«is_tlm» ≡ true → Counting s (p .next) (stripped + (p .next - at)) (entries + p .entries)
+  pub counting-tlm : p .«is_tlm» ≡ true → Counting s (p .next) (stripped + (p .next - at)) (entries + p .entries) (filler + cond (p .«is_filler») 1 0)
   counting-tlm is =
       let told = passed-is s at p found in
       let past = told .past in
@@ -70,26 +86,30 @@ module _ (s : List ℕ) (at stripped entries : ℕ) (c : Counting s at stripped 
         few = omega (arith, c .few);
         header = omega (arith, c .header, c .before, ap length (kept-tlm s at p found is));
         records = omega (arith, c .records, more, length-entries s at 0 (p .entries));
+        least = omega (arith, c .least, one-at-most (p .«is_filler»));
+        fill = omega (arith, c .fill, fillers-on s at p found);
         stops = sym (stopped-on s at p found) ∙ c .stops;
         ends = sym (ended-on s at p found) ∙ c .ends;
       }
 
-module _ (s : List ℕ) (at stripped entries : ℕ) (c : Counting s at stripped entries) where
+module _ (s : List ℕ) (at stripped entries filler : ℕ) (c : Counting s at stripped entries filler) where
   pub counted-found : walkStepAt s at ≡ FirstSot
       → readAs s (walkFrom s 2) (walkFrom s 2 .ended) ≡ answer.Header (record {
         «first_sot_offset» = record { 0 = at };
         «decode_header_length» = at - stripped;
         «tlm_entries» = entries;
+        fillers = filler;
       })
-  unfolding readAs kept tlmEntries
+  unfolding readAs fillers kept tlmEntries
   counted-found found =
       let w = walk-found s at found in
       let stop : walkFrom s 2 .stopped ≡ at = sym (c .stops) ∙ ap (λ (x : Chain WalkEnd). x .stopped) w in
       let none : keptFrom s at ≡ [] = ap (λ (x : Chain WalkEnd). kept s (x .visits)) w in
       let header : length (decodeHeader s (walkFrom s 2 .visits)) ≡ at - stripped = omega (arith, c .header, ap length none) in
       let records : length (entriesFrom s 2) ≡ entries = omega (arith, c .records, ap (λ (x : Chain WalkEnd). length (tlmEntries s (x .visits))) w) in
+      let fill : fillersFrom s 2 ≡ filler = omega (arith, c .fill, ap (λ (x : Chain WalkEnd). fillers s (x .visits)) w) in
       ap (readAs s (walkFrom s 2)) (sym (c .ends) ∙ ap (λ (x : Chain WalkEnd). x .ended) w)
-      ∙ (λ i. answer.Header (record { «first_sot_offset» = record { 0 = stop i }; «decode_header_length» = header i; «tlm_entries» = records i }))
+      ∙ (λ i. answer.Header (record { «first_sot_offset» = record { 0 = stop i }; «decode_header_length» = header i; «tlm_entries» = records i; fillers = fill i }))
 
   pub counted-refused : (r : Refusal) → walkStepAt s at ≡ Refused r → readAs s (walkFrom s 2) (walkFrom s 2 .ended) ≡ answer.Refused r
   unfolding readAs

@@ -13,9 +13,10 @@ use Rattle.types.specs.Markers.{TLM, SOT}
 use Rattle.types.specs.declared.Refusal.{Refusal}
 use Rattle.chain.specs.Chain.{Move, end, on}
 use Rattle.chain.proofs.ChainLaws.{end-on}
-use Rattle.header.specs.Step.{delimits, segmentEnd, stepAt}
+use Rattle.header.specs.Step.{delimits, segmentEnd, passing, stepAt}
 use Rattle.header.specs.Tlm.{tlmAt}
 use Rattle.header.specs.Walk.{tlmStep, passedAt, walkStepOf, walkStepAt, WalkEnd, firstSot, refused, walkMove, walkAt}
+use Rattle.header.specs.declared.step.Marker.{Marker}
 use Rattle.header.specs.declared.step.HeaderStep.{HeaderStep}
 use Rattle.header.specs.declared.step.HeaderStep.the-variants.{Sot, Delimiter, Segment, CutShort}
 use Rattle.header.specs.declared.tlm.Tlm.{Tlm}
@@ -30,24 +31,24 @@ pub data Item (s : List ℕ) (at next : ℕ) : Type 0 where
 
 -- ---- what was read
 
-passed-to : (s : List ℕ) (at n next : ℕ) → walkMove (passedAt s at n) ≡ on next → n ≡ next
+passed-to : (s : List ℕ) (at : ℕ) (m : Marker) (next : ℕ) → walkMove (passedAt s at m) ≡ on next → m .next ≡ next
 unfolding passedAt walkMove tlmStep
-passed-to s at n next e =
-    by-test (λ (w : WalkStep). walkMove w ≡ on next → n ≡ next) (eqb (be 2 s at) TLM) (λ _. by-tlm (tlmAt s at)) (λ _ m. (cc)) e
+passed-to s at m next e =
+    by-test (λ (w : WalkStep). walkMove w ≡ on next → m .next ≡ next) (eqb (m .code) TLM) (λ _. by-tlm (tlmAt s at)) (λ _ e. (cc)) e
   where
-    by-tlm : (t : Tlm) → walkMove (tlmStep n t) ≡ on next → n ≡ next
-    by-tlm (tlm.Entries k) m = cc
-    by-tlm (tlm.Refused r) m = absurd (end-on m)
+    by-tlm : (t : Tlm) → walkMove (tlmStep m t) ≡ on next → m .next ≡ next
+    by-tlm (tlm.Entries k) e = cc
+    by-tlm (tlm.Refused r) e = absurd (end-on e)
 
 read : (s : List ℕ) (at next : ℕ) (found : HeaderStep) → Told s at found → walkMove (walkStepOf s at found) ≡ on next → Item s at next × (next ≤ length s)
 unfolding walkStepOf walkMove
 read s at next Sot told e = absurd (end-on e)
-read s at next (Delimiter n) told e =
-    let here = passed-to s at n next e in
-    (delimiter (told .3) (sym here ∙ told .2), omega (arith, told .1))
-read s at next (Segment n) told e =
-    let here = passed-to s at n next e in
-    (segment (told .4) (told .5) (told .3) (sym here ∙ told .2), omega (arith, told .1))
+read s at next (Delimiter m) told e =
+    let here : m .next ≡ next = cc in
+    (delimiter (told .4) (sym here ∙ told .2), omega (arith, told .1))
+read s at next (Segment m) told e =
+    let here = passed-to s at m next e in
+    (segment (told .5) (told .6) (told .4) (sym here ∙ told .2), omega (arith, told .1))
 read s at next CutShort told e = absurd (end-on e)
 
 pub item : (s : List ℕ) (at next : ℕ) → walkAt s at ≡ on next → Item s at next × (next ≤ length s)
@@ -70,19 +71,16 @@ pub ends-sot : (s : List ℕ) (at : ℕ) → walkAt s at ≡ end firstSot → be
 unfolding walkAt walkStepAt walkStepOf walkMove passedAt tlmStep
 ends-sot s at e = by (stepAt s at) (step-told s at) e
   where
-    by-tlm : (n : ℕ) (t : Tlm) → walkMove (tlmStep n t) ≡ end firstSot → be 2 s at ≡ SOT
-    by-tlm n (tlm.Entries k) m = absurd (end-on (sym m))
-    by-tlm n (tlm.Refused r) m = absurd (not-first m)
-
-    by-passed : (n : ℕ) → walkMove (passedAt s at n) ≡ end firstSot → be 2 s at ≡ SOT
-    by-passed n m =
-        by-test (λ (w : WalkStep). walkMove w ≡ end firstSot → be 2 s at ≡ SOT) (eqb (be 2 s at) TLM) (λ _. by-tlm n (tlmAt s at)) (λ _ k. absurd (end-on (sym k))) m
+    by-tlm : (m : Marker) (t : Tlm) → walkMove (tlmStep m t) ≡ end firstSot → be 2 s at ≡ SOT
+    by-tlm m (tlm.Entries k) e = absurd (end-on (sym e))
+    by-tlm m (tlm.Refused r) e = absurd (not-first e)
 
     by : (found : HeaderStep) → Told s at found → walkMove (walkStepOf s at found) ≡ end firstSot → be 2 s at ≡ SOT
-    by Sot told m = told .1
-    by (Delimiter n) told m = by-passed n m
-    by (Segment n) told m = by-passed n m
-    by CutShort told m = absurd (not-first m)
+    by Sot told e = told .1
+    by (Delimiter m) told e = absurd (end-on (sym e))
+    by (Segment m) told e =
+        by-test (λ (w : WalkStep). walkMove w ≡ end firstSot → be 2 s at ≡ SOT) (eqb (m .code) TLM) (λ _. by-tlm m (tlmAt s at)) (λ _ k. absurd (end-on (sym k))) e
+    by CutShort told e = absurd (not-first e)
 
 -- ---- the same at another place
 
@@ -101,15 +99,14 @@ module _ (s : List ℕ) (at next : ℕ) (a : List ℕ) (to : ℕ) where
       → walkAt a to ≡ on (to + (next - at))
   unfolding segmentEnd walkAt walkMove
   passes-again (delimiter d n) other same read inside =
-      let here : next - at ≡ 2 = omega arith in
+      let there : to + 2 ≡ to + (next - at) = omega arith in
       let sot : be 2 a to ≡ SOT → ⊥ = λ e. not-true-false (sym d ∙ ap delimits (sym same ∙ e) ∙ sot-no-delimiter) in
-      ap walkMove
-      (walk-delimiter a to (to + (next - at)) (step-delimiter a to (omega arith) sot (ap delimits same ∙ d) ∙ ap (λ (k : ℕ). Delimiter (to + k)) (sym here))
-      ∙ pass-other a to (to + (next - at)) (λ e. other (sym same ∙ e)))
+      ap walkMove (walk-delimiter a to (passing (be 2 a to) (to + 2)) (step-delimiter a to (omega arith) sot (ap delimits same ∙ d))) ∙ ap (λ (k : ℕ). on k) there
   passes-again (segment sot d room n) other same read inside =
       let r = read n in
-      let ends : segmentEnd a to ≡ to + (next - at) = omega (arith, r .0) in
+      let there : segmentEnd a to ≡ to + (next - at) = omega (arith, r .0) in
       ap walkMove
-      (walk-segment a to (to + (next - at))
-      (step-segment a to (omega (arith, r .1)) (λ e. sot (sym same ∙ e)) (ap delimits same ∙ d) (r .1) (omega arith) ∙ ap Segment ends)
-      ∙ pass-other a to (to + (next - at)) (λ e. other (sym same ∙ e)))
+      (walk-segment a to (passing (be 2 a to) (segmentEnd a to))
+      (step-segment a to (omega (arith, r .1)) (λ e. sot (sym same ∙ e)) (ap delimits same ∙ d) (r .1) (omega arith))
+      ∙ pass-other a to (passing (be 2 a to) (segmentEnd a to)) (λ e. other (sym same ∙ e)))
+      ∙ ap (λ (k : ℕ). on k) there

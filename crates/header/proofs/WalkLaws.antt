@@ -2,7 +2,7 @@
 use Prim.Native.Nat.{ℕ, _+_, _≤_, _<_}
 use native.Mathlib.Omega.{arith}
 use mathlib.Core.Path.{_≡_, refl, sym, ap, _∙_}
-use mathlib.Core.Bool.{true, false}
+use mathlib.Core.Bool.{Bool, true, false, not, _&&_}
 use mathlib.Core.List.{List, [], _∷_}
 use mathlib.Core.Logic.{⊎-elim}
 use lib.ListN.{length}
@@ -14,9 +14,10 @@ use Rattle.numbers.specs.Bytes.{be}
 use Rattle.types.specs.Markers.{TLM}
 use Rattle.chain.specs.Chain.{on, Chain, Rises, also}
 use Rattle.chain.proofs.ChainLaws.{chain-end, chain-on, end-on}
-use Rattle.header.specs.Step.{delimits, segmentEnd, stepAt}
-use Rattle.header.specs.Tlm.{ltlm, stlm, indexSize, entryCount, Accepted, tlmAt}
-use Rattle.header.specs.Walk.{cutAt, tlmStep, passedAt, walkStepOf, walkStepAt, WalkEnd, firstSot, refused, walkMove, walkAt, walkFrom, Markers}
+use Rattle.header.specs.Step.{delimits, highFF, isFiller, segmentEnd, passing, stepAt}
+use Rattle.header.specs.Tlm.{ltlm, stlm, indexSize, entryCount, Within, Accepted, tlmAt}
+use Rattle.header.specs.Walk.{cutAt, plain, tlmStep, passedAt, walkStepOf, walkStepAt, WalkEnd, firstSot, refused, walkMove, walkAt, walkFrom}
+use Rattle.header.specs.declared.step.Marker.{Marker}
 use Rattle.header.specs.declared.step.HeaderStep.{HeaderStep}
 use Rattle.header.specs.declared.step.HeaderStep.the-variants.{Sot, Delimiter, Segment, CutShort}
 use Rattle.header.specs.declared.tlm.Tlm.{Tlm}
@@ -30,22 +31,26 @@ use Rattle.header.proofs.StepLaws.{Told, step-told}
 
 -- ---- what is passed
 
-module _ (s : List ℕ) (at next : ℕ) where
-  pub pass-other : (be 2 s at ≡ TLM → ⊥) → passedAt s at next ≡ Passed (record { next = next; «is_tlm» = false; entries = 0 })
+module _ (s : List ℕ) (at : ℕ) (m : Marker) where
+  pub pass-other : (m .code ≡ TLM → ⊥) → passedAt s at m ≡ Passed (plain m false)
   unfolding passedAt
   pass-other h = rw (ne-eqb _ _ h)
 
-  pub pass-tlm : be 2 s at ≡ TLM → passedAt s at next ≡ tlmStep next (tlmAt s at)
+  pub pass-tlm : m .code ≡ TLM → passedAt s at m ≡ tlmStep m (tlmAt s at)
   unfolding passedAt
   pass-tlm e = rw (eq-eqb _ _ e)
 
-  pub walk-segment : stepAt s at ≡ Segment next → walkStepAt s at ≡ passedAt s at next
+  pub walk-segment : stepAt s at ≡ Segment m → walkStepAt s at ≡ passedAt s at m
   unfolding walkStepAt walkStepOf
   walk-segment e = ap (walkStepOf s at) e
 
-  pub walk-delimiter : stepAt s at ≡ Delimiter next → walkStepAt s at ≡ passedAt s at next
+  pub walk-delimiter : stepAt s at ≡ Delimiter m → walkStepAt s at ≡ Passed (plain m (not (m .«high_ff»)))
   unfolding walkStepAt walkStepOf
   walk-delimiter e = ap (walkStepOf s at) e
+
+  -- a segment lies inside
+  pub segment-within : stepAt s at ≡ Segment m → Within s at
+  segment-within e = let told : Told s at (Segment m) = rw e at (step-told s at) in record { marked = told .4; ends = omega arith }
 
 pub walk-sot : (s : List ℕ) (at : ℕ) → stepAt s at ≡ Sot → walkStepAt s at ≡ FirstSot
 unfolding walkStepAt walkStepOf
@@ -56,23 +61,9 @@ unfolding walkStepAt walkStepOf
 walk-cut s at e = ap (walkStepOf s at) e
 
 -- no delimiter has TLM's low byte
-tlm-no-delimiter : delimits TLM ≡ false
+pub tlm-no-delimiter : delimits TLM ≡ false
 unfolding delimits
 tlm-no-delimiter = refl
-
--- what a step that goes on says of its marker
-pub delimiter-marks : (s : List ℕ) (at next : ℕ) → stepAt s at ≡ Delimiter next → Markers s at next
-delimiter-marks s at next e =
-    let told : Told s at (Delimiter next) = rw e at (step-told s at) in
-    record {
-      marker = omega arith;
-      segment = λ m. absurd (let d : true ≡ false = sym (told .3) ∙ ap delimits m ∙ tlm-no-delimiter in let z : _≡_ {A = ℕ} 0 1 = cc in omega arith);
-    }
-
-pub segment-marks : (s : List ℕ) (at next : ℕ) → stepAt s at ≡ Segment next → Markers s at next
-segment-marks s at next e =
-    let told : Told s at (Segment next) = rw e at (step-told s at) in
-    record { marker = omega arith; segment = λ m. record { marked = told .3; ends = omega arith } }
 
 -- ---- what a step that passes something says
 
@@ -86,6 +77,8 @@ pub record TlmPassed (s : List ℕ) (at : ℕ) (p : Passing) : Type 0 where
 pub record PassedIs (s : List ℕ) (at : ℕ) (p : Passing) : Type 0 where
   pub past : at + 2 ≤ p .next
   pub inside : p .next ≤ length s
+  pub code : p .code ≡ be 2 s at
+  pub filler : p .«is_filler» ≡ isFiller (be 2 s at)
   pub plain : p .«is_tlm» ≡ false → be 2 s at ≡ TLM → ⊥
   pub tlm : p .«is_tlm» ≡ true → TlmPassed s at p
 
@@ -97,41 +90,74 @@ Tells s at (Refused r) = Unit {0}
 pub not-true-false : true ≡ false → ⊥
 not-true-false e = let z : _≡_ {A = ℕ} 0 1 = cc in omega arith
 
-tells-tlm : (s : List ℕ) (at next : ℕ) → at + 2 ≤ next → next ≤ length s → be 2 s at ≡ TLM → next ≡ segmentEnd s at → Tells s at (tlmStep next (tlmAt s at))
-unfolding tlmAt tlmStep
-tells-tlm s at next past inside m whole =
-    let P : Tlm → Type 0 = λ t. Tells s at (tlmStep next t) in
-    by-test P (leb 4 (ltlm s at))
-    (λ long. by-test P (eqb (indexSize (stlm s at)) 3) (λ _. tt)
-    (λ known. record {
-      past = past;
-      inside = inside;
-      plain = λ e. absurd (not-true-false e);
-      tlm = λ _. record {
-        marker = m;
-        accepted = record { ends = rw whole at inside; long = leb-true 4 (ltlm s at) long; known = known-size (stlm s at) (eqb-false (indexSize (stlm s at)) 3 known) };
-        count = refl;
-        whole = whole;
-      };
-    }))
-    (λ _. tt)
-  where
-    known-size : (stlm : ℕ) → (indexSize stlm ≡ 3 → ⊥) → indexSize stlm < 3
-    known-size stlm h = omega arith
+-- a delimiter is a filler by its high byte, and nothing else is one
+delimiter-filler : (marker : ℕ) → delimits marker ≡ true → not (highFF marker) ≡ isFiller marker
+unfolding isFiller
+delimiter-filler marker d = sym (ap (λ (b : Bool). b && not (highFF marker)) d)
 
-tells-passed : (s : List ℕ) (at next : ℕ) → at + 2 ≤ next → next ≤ length s → (be 2 s at ≡ TLM → next ≡ segmentEnd s at) → Tells s at (passedAt s at next)
-unfolding passedAt
-tells-passed s at next past inside whole =
-    by-test (Tells s at) (eqb (be 2 s at) TLM)
-    (λ m. let e = eqb-true (be 2 s at) TLM m in tells-tlm s at next past inside e (whole e))
-    (λ m. record { past = past; inside = inside; plain = λ _. eqb-false (be 2 s at) TLM m; tlm = λ e. absurd (not-true-false (sym e)) })
+other-filler : (marker : ℕ) → delimits marker ≡ false → false ≡ isFiller marker
+unfolding isFiller
+other-filler marker d = sym (ap (λ (b : Bool). b && not (highFF marker)) d)
+
+module _ (s : List ℕ) (at : ℕ) (m : Marker) (told : Told s at (Segment m)) where
+  code-is : m .code ≡ be 2 s at
+  code-is = ap (λ (k : Marker). k .code) (told .3)
+
+  two-past : at + 2 ≤ m .next
+  unfolding segmentEnd
+  two-past = omega (arith, told .2)
+
+  tells-tlm : m .code ≡ TLM → Tells s at (tlmStep m (tlmAt s at))
+  unfolding tlmAt tlmStep
+  tells-tlm is =
+      let P : Tlm → Type 0 = λ t. Tells s at (tlmStep m t) in
+      by-test P (leb 4 (ltlm s at))
+      (λ long. by-test P (eqb (indexSize (stlm s at)) 3) (λ _. tt)
+      (λ known. record {
+        past = two-past;
+        inside = told .1;
+        code = code-is;
+        filler = other-filler (be 2 s at) (told .6);
+        plain = λ e. absurd (not-true-false e);
+        tlm = λ _. record {
+          marker = sym code-is ∙ is;
+          accepted = record { ends = omega arith; long = leb-true 4 (ltlm s at) long; known = known-size (stlm s at) (eqb-false (indexSize (stlm s at)) 3 known) };
+          count = refl;
+          whole = told .2;
+        };
+      }))
+      (λ _. tt)
+    where
+      known-size : (stlm : ℕ) → (indexSize stlm ≡ 3 → ⊥) → indexSize stlm < 3
+      known-size stlm h = omega arith
+
+  tells-segment : Tells s at (passedAt s at m)
+  unfolding passedAt
+  tells-segment =
+      by-test (Tells s at) (eqb (m .code) TLM)
+      (λ is. tells-tlm (eqb-true (m .code) TLM is))
+      (λ other. record {
+        past = two-past;
+        inside = told .1;
+        code = code-is;
+        filler = other-filler (be 2 s at) (told .6);
+        plain = λ _ e. eqb-false (m .code) TLM other (code-is ∙ e);
+        tlm = λ e. absurd (not-true-false (sym e));
+      })
 
 tells-step : (s : List ℕ) (at : ℕ) (found : HeaderStep) → Told s at found → Tells s at (walkStepOf s at found)
-unfolding walkStepOf segmentEnd
+unfolding walkStepOf
 tells-step s at Sot told = tt
-tells-step s at (Delimiter next) told =
-    tells-passed s at next (omega (arith, told .2)) (told .1) (λ m. absurd (not-true-false (sym (told .3) ∙ ap delimits m ∙ tlm-no-delimiter)))
-tells-step s at (Segment next) told = tells-passed s at next (omega (arith, told .2)) (told .1) (λ _. told .2)
+tells-step s at (Delimiter m) told =
+    record {
+      past = omega (arith, told .2);
+      inside = told .1;
+      code = ap (λ (k : Marker). k .code) (told .3);
+      filler = ap (λ (k : Marker). not (k .«high_ff»)) (told .3) ∙ delimiter-filler (be 2 s at) (told .4);
+      plain = λ _ is. not-true-false (sym (told .4) ∙ ap delimits is ∙ tlm-no-delimiter);
+      tlm = λ e. absurd (not-true-false (sym e));
+    }
+tells-step s at (Segment m) told = tells-segment s at m told
 tells-step s at CutShort told = tt
 
 pub passed-is : (s : List ℕ) (at : ℕ) (p : Passing) → walkStepAt s at ≡ Passed p → PassedIs s at p

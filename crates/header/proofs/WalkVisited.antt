@@ -1,10 +1,10 @@
--- What the walk has visited from a position on, step by step: what is kept, the TLM entries, where it stopped and how it ended. And the law that
+-- What the walk has visited from a position on, step by step: what is kept, the TLM entries, the fillers, where it stopped and how it ended. And the law that
 -- the decode header and the TLM segments make up the main header.
 use Prim.Native.Nat.{ℕ, _+_, _-_, _*_, _/_, _≤_}
 use native.Mathlib.Nat.{div-mul-le-self, mul-le-mul-left}
 use native.Mathlib.Omega.{arith}
-use mathlib.Core.Path.{_≡_, ap, _∙_}
-use mathlib.Core.Bool.{true, false}
+use mathlib.Core.Path.{_≡_, sym, ap, _∙_}
+use mathlib.Core.Bool.{Bool, true, false, cond}
 use mathlib.Core.List.{List, _∷_, _++_}
 use lib.ListN.{length, take, drop, length-take, length-drop}
 use borrow.Author.Tests.{eq-eqb, ne-eqb}
@@ -14,7 +14,7 @@ use Rattle.chain.specs.Chain.{Chain, also}
 use Rattle.header.specs.Step.{segmentEnd}
 use Rattle.header.specs.Tlm.{Entry, ltlm, stlm, entrySize, entryCount, entriesIn}
 use Rattle.header.specs.Walk.{WalkEnd, walkStepAt, walkFrom}
-use Rattle.header.specs.Strip.{kept, tlmEntries}
+use Rattle.header.specs.Strip.{fillers, kept, tlmEntries}
 use Rattle.header.specs.declared.walk.Passed.{Passed as Passing}
 use Rattle.header.specs.declared.walk.WalkStep.the-variants.{Passed}
 use Rattle.header.proofs.WalkLaws.{TlmPassed, passed-is, walk-on}
@@ -40,7 +40,15 @@ keptFrom s at = kept s (walkFrom s at .visits)
 abbrev pub entriesFrom : List ℕ → ℕ → List Entry
 entriesFrom s at = tlmEntries s (walkFrom s at .visits)
 
+abbrev pub fillersFrom : List ℕ → ℕ → ℕ
+fillersFrom s at = fillers s (walkFrom s at .visits)
+
 module _ (s : List ℕ) (at : ℕ) (p : Passing) (found : walkStepAt s at ≡ Passed p) where
+  pub fillers-on : fillersFrom s at ≡ cond (p .«is_filler») 1 0 + fillersFrom s (p .next)
+  unfolding fillers
+  fillers-on =
+      ap (fillers s) (visits-on s at p found) ∙ ap (λ (b : Bool). cond b 1 0 + fillersFrom s (p .next)) (sym (passed-is s at p found .filler))
+
   -- other than TLM
   module _ (plain : p .«is_tlm» ≡ false) where
     other : be 2 s at ≡ TLM → ⊥

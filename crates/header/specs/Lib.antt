@@ -5,6 +5,7 @@ pub mod Walk
 pub mod Strip
 pub mod Parse
 pub mod Find
+pub mod Base
 pub mod Iso
 pub mod IsoTlm
 pub mod IsoMain

@@ -12,19 +12,21 @@ use Rattle.types.specs.declared.TilePartEntry.{TilePartEntry}
 use Rattle.chain.specs.Chain.{Chain}
 use Rattle.header.specs.Tlm.{placed}
 use Rattle.header.specs.Walk.{WalkEnd, firstSot, refused, walkFrom}
-use Rattle.header.specs.Strip.{decodeHeader, tlmEntries}
+use Rattle.header.specs.Strip.{fillers, decodeHeader, tlmEntries}
 use Rattle.header.specs.declared.parse.Front.{Front}
 use Rattle.header.specs.declared.parse.Front.the-variants as front
 use Rattle.header.specs.declared.parse.MainHeader.{MainHeader}
 use Rattle.header.specs.declared.parse.MainHeader.the-variants.{Header, Refused}
 
--- an accepted walk: where its first SOT stands, how long its decode header is, and how many TLM entries there are (0: the table is absent)
+-- an accepted walk: where its first SOT stands, how long its decode header is, how many TLM entries there are (0: the table is absent), and how many
+-- fillers
 unfoldable pub readAs : List ℕ → Chain WalkEnd → WalkEnd → MainHeader
 readAs s walk firstSot =
     Header (record {
       «first_sot_offset» = record { 0 = walk .stopped };
       «decode_header_length» = length (decodeHeader s (walk .visits));
       «tlm_entries» = length (tlmEntries s (walk .visits));
+      fillers = fillers s (walk .visits);
     })
 readAs s walk (refused r) = Refused r
 
@@ -61,7 +63,8 @@ withRoom rows room (Refused r) = Refused r
 unfoldable pub parsed : List ℕ → ℕ → ℕ → MainHeader
 parsed s rows room = withRoom rows room (judged s)
 
--- an answer for C: its number, 0 where it accepts; the first SOT or a refusal's place; the decode header's length and the TLM entries, given what was held
+-- an answer for C: its number, 0 where it accepts; the first SOT or a refusal's place; the decode header's length, the TLM entries and the fillers, given
+-- what was held
 abbrev pub headerNumber : MainHeader → ℕ
 headerNumber (Header h) = 0
 headerNumber (Refused r) = r .number
@@ -77,6 +80,10 @@ headerLength (Refused r) held = held
 abbrev pub headerEntries : MainHeader → ℕ → ℕ
 headerEntries (Header h) held = h .«tlm_entries»
 headerEntries (Refused r) held = held
+
+abbrev pub headerFillers : MainHeader → ℕ → ℕ
+headerFillers (Header h) held = h .fillers
+headerFillers (Refused r) held = held
 
 -- the records of the TLM segments: the first offset is the first SOT
 unfoldable pub tlmTable : List ℕ → List TilePartEntry

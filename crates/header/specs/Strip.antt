@@ -1,5 +1,5 @@
--- What the walk has visited: the TLM entries, and the decode header, which is the main header without its TLM segments (docs/RULES.md, "TLM" and
--- "Decode header").
+-- What the walk has visited: the fillers, the TLM entries, and the decode header, which is the main header without its TLM segments (docs/RULES.md,
+-- "Header walk", "TLM" and "Decode header").
 use Prim.Native.Nat.{ℕ, _+_, _-_}
 use mathlib.Core.Bool.{Bool, cond}
 use mathlib.Core.List.{List, [], _∷_, _++_}
@@ -8,7 +8,14 @@ use lib.Dec.{eqb}
 use Rattle.numbers.specs.Bytes.{be}
 use Rattle.types.specs.Markers.{TLM}
 use Rattle.chain.specs.Chain.{Visit, visited}
+use Rattle.header.specs.Step.{isFiller}
 use Rattle.header.specs.Tlm.{Entry, entryCount, entriesIn}
+
+-- how many delimiters with another high byte than FF were passed
+unfoldable pub fillers : List ℕ → List Visit → ℕ
+unfolding isFiller
+fillers s [] = 0
+fillers s (v ∷ rest) = cond (isFiller (be 2 s (v .at))) 1 0 + fillers s rest
 
 -- a TLM segment was passed. (No delimiter has its low byte.)
 abbrev pub isTlm : List ℕ → Visit → Bool

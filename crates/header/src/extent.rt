@@ -23,12 +23,12 @@ pub fn main_header_extent(prefix: &[u8]) -> MainHeaderExtent
     let mut at: usize = 2;
     loop {
         let step = crate::step::header_step(prefix, at);
-        let (HeaderStep::Segment(next) | HeaderStep::Delimiter(next)) = step else {
+        let (HeaderStep::Segment(marker) | HeaderStep::Delimiter(marker)) = step else {
             if let HeaderStep::Sot = step {
                 return MainHeaderExtent::Complete(CodestreamOffset::at(at));
             }
             return MainHeaderExtent::Truncated;
         };
-        at = next;
+        at = marker.next;
     }
 }

@@ -36,7 +36,7 @@ fn walk_for(codestream: &[u8], marker: u16) -> Finding
             return Finding::At(CodestreamOffset::at(first));
         };
         if first == 0 {
-            if numbers::read_u16(codestream, at) == marker {
+            if passed.code == marker {
                 first = at;
             }
         }

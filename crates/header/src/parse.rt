@@ -8,7 +8,7 @@ ghost use Rattle.types.specs.Row.{rowsOf};
 ghost use Rattle.header.specs.Tlm.{placed};
 ghost use Rattle.header.specs.Walk.{walkFrom};
 ghost use Rattle.header.specs.Strip.{tlmEntries};
-ghost use Rattle.header.specs.Parse.{readAs, stands, frontOf, judged, parsed, headerNumber, headerFirst, headerLength, headerEntries, tableAfter, outAfter};
+ghost use Rattle.header.specs.Parse.{readAs, stands, frontOf, judged, parsed, headerNumber, headerFirst, headerLength, headerEntries, headerFillers, tableAfter, outAfter};
 use crate::walk::WalkStep;
 use types::CodestreamOffset;
 use types::ROW;
@@ -21,6 +21,8 @@ pub struct MainHeaderInfo {
     pub decode_header_length: u64,
     // None: the table is absent.
     pub tlm_entries: u64,
+    // Delimiters whose high byte is not FF.
+    pub fillers: u64,
 }
 
 // What stands before the walk's first step.
@@ -43,6 +45,7 @@ fn walk(codestream: &[u8]) -> MainHeader
     let mut at: usize = 2;
     let mut stripped: usize = 0;
     let mut entries: usize = 0;
+    let mut fillers: usize = 0;
     loop {
         let step = crate::walk::walk_step(codestream, at);
         let WalkStep::Passed(passed) = step else {
@@ -53,8 +56,10 @@ fn walk(codestream: &[u8]) -> MainHeader
                 first_sot_offset: CodestreamOffset::at(at),
                 decode_header_length: (at - stripped) as u64,
                 tlm_entries: entries as u64,
+                fillers: fillers as u64,
             });
         };
+        fillers += passed.is_filler as usize;
         if passed.is_tlm {
             stripped += passed.next - at;
             entries += passed.entries;
@@ -127,17 +132,19 @@ pub fn decide(codestream: &[u8], rows: u64, room: u64) -> MainHeader
 }
 
 // An answer for C: its number, and in `first_sot` the first SOT's offset or the refusal's place. The decode header's length and the
-// number of TLM entries stay on a refusal.
+// numbers of TLM entries and of fillers stay on a refusal.
 pub fn tell(
     answer: MainHeader,
     first_sot: &mut u64,
     decode_length: &mut u64,
     entries: &mut u64,
+    fillers: &mut u64,
 ) -> u32
     ensures { λ r. ⌜ r ≡ headerNumber answer ⌝ }
     ensures { λ _. ⌜ now («first_sot» .exit) ≡ headerFirst answer ⌝ }
     ensures { λ _. ⌜ now («decode_length» .exit) ≡ headerLength answer (now («decode_length» .entry)) ⌝ }
     ensures { λ _. ⌜ now (entries .exit) ≡ headerEntries answer (now (entries .entry)) ⌝ }
+    ensures { λ _. ⌜ now (fillers .exit) ≡ headerFillers answer (now (fillers .entry)) ⌝ }
 {
     match answer {
         MainHeader::Header(info) => {
@@ -145,6 +152,7 @@ pub fn tell(
             *first_sot = place.0;
             *decode_length = info.decode_header_length;
             *entries = info.tlm_entries;
+            *fillers = info.fillers;
             0
         }
         MainHeader::Refused(refusal) => {

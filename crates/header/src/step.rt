@@ -2,16 +2,34 @@
 ghost use mathlib.Core.Path.{_≡_};
 ghost use Prim.Native.Nat.{_≤_};
 ghost use lib.ListN.{length};
-ghost use Rattle.header.specs.Step.{delimits, stepAt};
+ghost use Rattle.header.specs.Step.{passing, delimits, stepAt};
 use types::markers::SOT;
 
-// A step that carries a position goes on there.
+// A marker that a step passes, with what belongs to it, and where the step goes on.
+pub struct Marker {
+    pub code: u16,
+    pub high_ff: bool,
+    pub next: usize,
+}
+
+impl Marker {
+    fn new(code: u16, next: usize) -> Marker
+        ensures { λ r. ⌜ r ≡ passing code next ⌝ }
+    {
+        Marker {
+            code,
+            high_ff: code / 256 == 0xff,
+            next,
+        }
+    }
+}
+
 pub enum HeaderStep {
     Sot,
     // A marker of two bytes.
-    Delimiter(usize),
+    Delimiter(Marker),
     // A marker and as many bytes as its length field says.
-    Segment(usize),
+    Segment(Marker),
     // The bytes end before it does.
     CutShort,
 }
@@ -36,7 +54,7 @@ pub fn header_step(header: &[u8], at: usize) -> HeaderStep
         return HeaderStep::Sot;
     }
     if is_delimiter(marker) {
-        return HeaderStep::Delimiter(at + 2);
+        return HeaderStep::Delimiter(Marker::new(marker, at + 2));
     }
     if header.len() - at < 4 {
         return HeaderStep::CutShort;
@@ -45,5 +63,5 @@ pub fn header_step(header: &[u8], at: usize) -> HeaderStep
     if header.len() - at < whole {
         return HeaderStep::CutShort;
     }
-    HeaderStep::Segment(at + whole)
+    HeaderStep::Segment(Marker::new(marker, at + whole))
 }

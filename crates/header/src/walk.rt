@@ -2,9 +2,10 @@
 ghost use mathlib.Core.Path.{_≡_};
 ghost use Prim.Native.Nat.{_≤_};
 ghost use lib.ListN.{length};
-ghost use Rattle.header.specs.Step.{stepAt};
-ghost use Rattle.header.specs.Walk.{Markers, cutAt, passedAt, walkStepAt};
+ghost use Rattle.header.specs.Tlm.{Within};
+ghost use Rattle.header.specs.Walk.{cutAt, passedAt, walkStepAt};
 use crate::step::HeaderStep;
+use crate::step::Marker;
 use crate::tlm::Tlm;
 use types::Refusal;
 use types::markers::TLM;
@@ -12,6 +13,9 @@ use types::markers::TLM;
 // A segment or a delimiter that was passed, and for a TLM segment how many entries it holds.
 pub struct Passed {
     pub next: usize,
+    pub code: u16,
+    // A delimiter whose high byte is not FF.
+    pub is_filler: bool,
     pub is_tlm: bool,
     pub entries: usize,
 }
@@ -40,20 +44,24 @@ fn cut_at(codestream: &[u8], at: usize) -> Refusal
     }
 }
 
-fn pass(codestream: &[u8], at: usize, next: usize) -> WalkStep
-    requires { ⌜ Markers (now codestream) at next ⌝ }
-    ensures { λ r. ⌜ r ≡ passedAt (now (codestream .entry)) at next ⌝ }
+fn pass_segment(codestream: &[u8], at: usize, marker: Marker) -> WalkStep
+    requires { ⌜ Within (now codestream) at ⌝ }
+    ensures { λ r. ⌜ r ≡ passedAt (now (codestream .entry)) at marker ⌝ }
 {
-    if numbers::read_u16(codestream, at) != TLM {
+    if marker.code != TLM {
         return WalkStep::Passed(Passed {
-            next,
+            next: marker.next,
+            code: marker.code,
+            is_filler: false,
             is_tlm: false,
             entries: 0,
         });
     }
     match crate::tlm::tlm_at(codestream, at) {
         Tlm::Entries(entries) => WalkStep::Passed(Passed {
-            next,
+            next: marker.next,
+            code: marker.code,
+            is_filler: false,
             is_tlm: true,
             entries,
         }),
@@ -66,11 +74,20 @@ pub fn walk_step(codestream: &[u8], at: usize) -> WalkStep
     ensures { λ r. ⌜ r ≡ walkStepAt (now (codestream .entry)) at ⌝ }
 {
     let step = crate::step::header_step(codestream, at);
-    let (HeaderStep::Segment(next) | HeaderStep::Delimiter(next)) = step else {
-        if let HeaderStep::Sot = step {
-            return WalkStep::FirstSot;
-        }
-        return WalkStep::Refused(cut_at(codestream, at));
+    let HeaderStep::Segment(marker) = step else {
+        let HeaderStep::Delimiter(marker) = step else {
+            if let HeaderStep::Sot = step {
+                return WalkStep::FirstSot;
+            }
+            return WalkStep::Refused(cut_at(codestream, at));
+        };
+        return WalkStep::Passed(Passed {
+            next: marker.next,
+            code: marker.code,
+            is_filler: !marker.high_ff,
+            is_tlm: false,
+            entries: 0,
+        });
     };
-    pass(codestream, at, next)
+    pass_segment(codestream, at, marker)
 }

@@ -2,10 +2,10 @@
 ghost use mathlib.Core.Path.{_≡_};
 ghost use Prim.Native.Nat.{_/_};
 ghost use lib.ListN.{length};
-ghost use Rattle.header.specs.Parse.{parsed, tableAfter, outAfter, headerNumber, headerFirst, headerLength, headerEntries};
+ghost use Rattle.header.specs.Parse.{parsed, tableAfter, outAfter, headerNumber, headerFirst, headerLength, headerEntries, headerFillers};
 
 // `table` gets a row of 18 bytes for each TLM entry, `out` the decode header. `first_sot`: the first SOT's offset, or a refusal's
-// place; `decode_length`: the decode header's length; `entries`: the rows.
+// place; `decode_length`: the decode header's length; `entries`: the rows; `fillers`: the delimiters whose high byte is not FF.
 #[no_mangle]
 pub extern "C" fn winterhasp_parse_main_header(
     codestream: &[u8],
@@ -14,14 +14,16 @@ pub extern "C" fn winterhasp_parse_main_header(
     first_sot: &mut u64,
     decode_length: &mut u64,
     entries: &mut u64,
+    fillers: &mut u64,
 ) -> u32
     ensures { λ r. ⌜ r ≡ headerNumber (parsed (now (codestream .entry)) (length (now (table .entry)) / 18) (length (now (out .entry)))) ⌝ }
     ensures { λ _. ⌜ now («first_sot» .exit) ≡ headerFirst (parsed (now (codestream .entry)) (length (now (table .entry)) / 18) (length (now (out .entry)))) ⌝ }
     ensures { λ _. ⌜ now («decode_length» .exit) ≡ headerLength (parsed (now (codestream .entry)) (length (now (table .entry)) / 18) (length (now (out .entry)))) (now («decode_length» .entry)) ⌝ }
     ensures { λ _. ⌜ now (entries .exit) ≡ headerEntries (parsed (now (codestream .entry)) (length (now (table .entry)) / 18) (length (now (out .entry)))) (now (entries .entry)) ⌝ }
+    ensures { λ _. ⌜ now (fillers .exit) ≡ headerFillers (parsed (now (codestream .entry)) (length (now (table .entry)) / 18) (length (now (out .entry)))) (now (fillers .entry)) ⌝ }
     ensures { λ _. ⌜ now (table .exit) ≡ tableAfter (parsed (now (codestream .entry)) (length (now (table .entry)) / 18) (length (now (out .entry)))) (now (codestream .entry)) (now (table .entry)) ⌝ }
     ensures { λ _. ⌜ now (out .exit) ≡ outAfter (parsed (now (codestream .entry)) (length (now (table .entry)) / 18) (length (now (out .entry)))) (now (codestream .entry)) (now (out .entry)) ⌝ }
 {
     let answer = header::parse::parse_main_header(codestream, table, out);
-    header::parse::tell(answer, first_sot, decode_length, entries)
+    header::parse::tell(answer, first_sot, decode_length, entries, fillers)
 }

@@ -16,7 +16,7 @@ use Rattle.types.specs.Row.{rowsOf}
 use Rattle.types.specs.declared.Refusal.{Refusal}
 use Rattle.types.specs.declared.TilePartEntry.{TilePartEntry}
 use Rattle.header.specs.Walk.{walkFrom}
-use Rattle.header.specs.Strip.{decodeHeader, tlmEntries}
+use Rattle.header.specs.Strip.{fillers, decodeHeader, tlmEntries}
 use Rattle.header.specs.Parse.{readAs, stands, judged}
 use Rattle.header.specs.declared.parse.MainHeaderInfo.{MainHeaderInfo}
 use Rattle.header.specs.declared.parse.MainHeader.{MainHeader}
@@ -88,6 +88,7 @@ accepted-at s a to soc siz short r =
       «first_sot_offset» = record { 0 = walkFrom a 2 .stopped };
       «decode_header_length» = length (decodeHeader a (walkFrom a 2 .visits));
       «tlm_entries» = length (tlmEntries a (walkFrom a 2 .visits));
+      fillers = fillers a (walkFrom a 2 .visits);
     } in (
       info,
       judged-walk a short (stands-there a 0 SOC (omega arith) (r .soc ∙ soc)) (stands-there a 2 SIZ (omega arith) (r .siz ∙ siz))

@@ -66,7 +66,7 @@ unfolding walks scan-runs
 A-accepted =
     record {
       bytes = all-bytes A A-bytes;
-      info = record { «first_sot_offset» = record { 0 = 57 }; «decode_header_length» = 45; «tlm_entries» = 2 };
+      info = record { «first_sot_offset» = record { 0 = 57 }; «decode_header_length» = 45; «tlm_entries» = 2; fillers = 0 };
       header = refl;
       first = refl;
       count = 2;
@@ -132,7 +132,7 @@ least part = begun 38 1 0 1 1 0 ++ two 0 ++ part
 -- the header is accepted with the first SOT at p, no TLM met; the scan from there gives these entries; and the rewrite for a tile gives a size
 abbrev Taken : Rule → List ℕ → ℕ → List TilePartEntry → ℕ → TileSize → Type 0
 Taken rule s p es tile z =
-    (parse.judged s ≡ Header (record { «first_sot_offset» = record { 0 = p }; «decode_header_length» = p; «tlm_entries» = 0 }))
+    (parse.judged s ≡ Header (record { «first_sot_offset» = record { 0 = p }; «decode_header_length» = p; «tlm_entries» = 0; fillers = 0 }))
     × (scan.judged (scanFrom s p) ≡ Table (length es))
     × (entriesFrom s p ≡ es)
     × (tileSize rule (decodeHeaderOf s) tile ≡ z)

@@ -3,11 +3,11 @@ use Rattle.numbers.specs.Bytes.{be, bytesOf, put}
 use Rattle.numbers.specs.Ceiling.{ceilDiv}
 use Rattle.types.specs.Row.{rowOf, rowsOf}
 use Rattle.chain.specs.Chain.{also, onMove, counted, chain}
-use Rattle.header.specs.Step.{delimits, segmentEnd, stepAt, moveOf, moveAt, stepsFrom}
+use Rattle.header.specs.Step.{delimits, highFF, isFiller, segmentEnd, stepAt, moveOf, moveAt, stepsFrom}
 use Rattle.header.specs.Extent.{endedAs, extentEnd, extentOf}
 use Rattle.header.specs.Tlm.{entryCount, tlmAt, entryIn, entriesIn, placed}
 use Rattle.header.specs.Walk.{cutAt, tlmStep, passedAt, walkStepOf, walkStepAt, walkMove, walkAt, walkFrom}
-use Rattle.header.specs.Strip.{kept, decodeHeader, tlmEntries}
+use Rattle.header.specs.Strip.{fillers, kept, decodeHeader, tlmEntries}
 use Rattle.header.specs.Parse.{readAs, stands, frontOf, behindFront, judged, tlmTable}
 use Rattle.header.specs.Find.{firstOf, findIn, finding}
 use Rattle.parts.specs.Scan.{eocAt, sotStepAt, scanStepAt, scanFrom, entriesFrom, scanned, written, scannedTable}
@@ -33,11 +33,11 @@ unfolding be bytesOf put rowOf rowsOf two four sizFrom sizOf siz header grid cou
 samples = tt
 
 unfoldable pub extents : Unit {0}
-unfolding samples delimits segmentEnd stepAt moveOf moveAt stepsFrom endedAs extentEnd extentOf
+unfolding samples delimits highFF segmentEnd stepAt moveOf moveAt stepsFrom endedAs extentEnd extentOf
 extents = tt
 
 unfoldable pub walks : Unit {0}
-unfolding samples delimits segmentEnd stepAt entryCount tlmAt entryIn entriesIn placed cutAt tlmStep passedAt walkStepOf walkStepAt walkMove walkAt walkFrom kept decodeHeader tlmEntries readAs stands frontOf behindFront judged tlmTable
+unfolding samples delimits highFF isFiller segmentEnd stepAt entryCount tlmAt entryIn entriesIn placed cutAt tlmStep passedAt walkStepOf walkStepAt walkMove walkAt walkFrom fillers kept decodeHeader tlmEntries readAs stands frontOf behindFront judged tlmTable
 walks = tt
 
 unfoldable pub findings : Unit {0}

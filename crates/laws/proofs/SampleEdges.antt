@@ -6,16 +6,18 @@ use mathlib.Core.Path.{_≡_, refl, sym, _∙_}
 use mathlib.Core.Bool.{Bool, true, false}
 use mathlib.Core.List.{List, [], _∷_, _++_}
 use lib.ListN.{length, take, replicate}
-use Rattle.types.specs.Markers.{SOC}
+use Rattle.types.specs.Markers.{SOC, SOT}
 use Rattle.types.specs.Refusals.{refusal}
 use Rattle.types.specs.Row.{rowOf, rowsOf}
 use Rattle.types.specs.declared.Area.{Area}
 use Rattle.types.specs.declared.TilePartEntry.{TilePartEntry}
+use Rattle.header.specs.Step.{stepAt}
 use Rattle.header.specs.Extent.{extentOf}
 use Rattle.header.specs.Walk.{walkFrom}
 use Rattle.header.specs.Strip.{decodeHeader}
 use Rattle.header.specs.Parse.{judged, tlmTable}
 use Rattle.header.specs.Find.{finding}
+use Rattle.header.specs.declared.step.HeaderStep.the-variants.{Delimiter, Segment}
 use Rattle.header.specs.declared.find.Finding.{Finding}
 use Rattle.header.specs.declared.find.Finding.the-variants.{Absent}
 use Rattle.header.specs.declared.extent.MainHeaderExtent.the-variants.{Complete, Truncated}
@@ -58,9 +60,14 @@ pub A-length : length A ≡ 89
 unfolding samples
 A-length = refl
 
--- its main header: first SOT, decode header and TLM entries
+-- a main header: first SOT, decode header, TLM entries and fillers
+abbrev filled : ℕ → ℕ → ℕ → ℕ → MainHeader
+filled first long entries fillers =
+    Header (record { «first_sot_offset» = record { 0 = first }; «decode_header_length» = long; «tlm_entries» = entries; fillers = fillers })
+
+-- one without fillers
 abbrev accepted : ℕ → ℕ → ℕ → MainHeader
-accepted first long entries = Header (record { «first_sot_offset» = record { 0 = first }; «decode_header_length» = long; «tlm_entries» = entries })
+accepted first long entries = filled first long entries 0
 
 abbrev entry : ℕ → ℕ → ℕ → TilePartEntry
 entry index offset long = record { «tile_index» = index; offset = record { 0 = offset }; length = long }
@@ -240,6 +247,65 @@ marker-of-nothing = refl
 pub marker-refused : finding (take 56 A) 0xff51 ≡ finds.Refused (refusal 3 45)
 unfolding findings
 marker-refused = refl
+
+-- ---- * Behind SIZ FF30: no filler. 0030, 4192, FE3F: one each, and behind FF30 all three. 0040, which is a segment: none.
+
+pub filler-ff30 : judged (withTlm (two 0xff30)) ≡ accepted 47 47 0
+unfolding walks
+filler-ff30 = refl
+
+pub filler-0030 : judged (withTlm (two 0x0030)) ≡ filled 47 47 0 1
+unfolding walks
+filler-0030 = refl
+
+pub filler-4192 : judged (withTlm (two 0x4192)) ≡ filled 47 47 0 1
+unfolding walks
+filler-4192 = refl
+
+pub filler-fe3f : judged (withTlm (two 0xfe3f)) ≡ filled 47 47 0 1
+unfolding walks
+filler-fe3f = refl
+
+pub filler-three : judged (withTlm (two 0xff30 ++ two 0x0030 ++ two 0x4192 ++ two 0xfe3f)) ≡ filled 53 53 0 3
+unfolding walks
+filler-three = refl
+
+pub filler-segment : judged (withTlm (two 0x0040 ++ two 2)) ≡ accepted 49 49 0
+unfolding walks
+filler-segment = refl
+
+-- what the step says of them
+pub step-ff30 : stepAt (withTlm (two 0xff30)) 45 ≡ Delimiter (record { code = 0xff30; «high_ff» = true; next = 47 })
+unfolding walks
+step-ff30 = refl
+
+pub step-0030 : stepAt (withTlm (two 0x0030)) 45 ≡ Delimiter (record { code = 0x0030; «high_ff» = false; next = 47 })
+unfolding walks
+step-0030 = refl
+
+pub step-0040 : stepAt (withTlm (two 0x0040 ++ two 2)) 45 ≡ Segment (record { code = 0x0040; «high_ff» = false; next = 49 })
+unfolding walks
+step-0040 = refl
+
+-- ---- * 0130 reached through a segment of L 1: one filler. Of L 3, which takes the 30 along: none.
+
+pub filler-reached : judged (withTlm (two 0xff64 ++ two 1 ++ (0x30 ∷ []))) ≡ filled 50 50 0 1
+unfolding walks
+filler-reached = refl
+
+pub filler-taken : judged (withTlm (two 0xff64 ++ two 3 ++ (0x30 ∷ []))) ≡ accepted 50 50 0
+unfolding walks
+filler-taken = refl
+
+-- ---- * 0030 in the text of a COM, or behind the first SOT: none.
+
+pub filler-in-text : judged (withTlm (two 0xff64 ++ two 6 ++ two 1 ++ two 0x0030)) ≡ accepted 53 53 0
+unfolding walks
+filler-in-text = refl
+
+pub filler-behind : judged (head ++ (two SOT ++ two 0x0030)) ≡ accepted 45 45 0
+unfolding walks
+filler-behind = refl
 
 -- ---- * Ltlm 3: refusal 4. Ltlm 4: no entries.
 

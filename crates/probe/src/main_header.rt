@@ -3,11 +3,12 @@
 // "For the next developer").
 ghost use mathlib.Core.Path.{_≡_};
 ghost use lib.ListN.{length};
-ghost use Rattle.header.specs.Parse.{parsed, outAfter, headerNumber, headerFirst, headerLength, headerEntries};
+ghost use Rattle.header.specs.Parse.{parsed, outAfter, headerNumber, headerFirst, headerLength, headerEntries, headerFillers};
 ghost use Rattle.records.specs.MainHeader.{recordsAfter};
 use types::TilePartEntry;
 
-// `first_sot`: the first SOT's offset, or a refusal's place; `decode_length`: the decode header's length; `entries`: the records.
+// `first_sot`: the first SOT's offset, or a refusal's place; `decode_length`: the decode header's length; `entries`: the records;
+// `fillers`: the delimiters whose high byte is not FF.
 #[no_mangle]
 pub extern "C" fn winterhasp_header_records(
     codestream: &[u8],
@@ -16,14 +17,16 @@ pub extern "C" fn winterhasp_header_records(
     first_sot: &mut u64,
     decode_length: &mut u64,
     entries: &mut u64,
+    fillers: &mut u64,
 ) -> u32
     ensures { λ r. ⌜ r ≡ headerNumber (parsed (now (codestream .entry)) (length (now (table .entry))) (length (now (out .entry)))) ⌝ }
     ensures { λ _. ⌜ now («first_sot» .exit) ≡ headerFirst (parsed (now (codestream .entry)) (length (now (table .entry))) (length (now (out .entry)))) ⌝ }
     ensures { λ _. ⌜ now («decode_length» .exit) ≡ headerLength (parsed (now (codestream .entry)) (length (now (table .entry))) (length (now (out .entry)))) (now («decode_length» .entry)) ⌝ }
     ensures { λ _. ⌜ now (entries .exit) ≡ headerEntries (parsed (now (codestream .entry)) (length (now (table .entry))) (length (now (out .entry)))) (now (entries .entry)) ⌝ }
+    ensures { λ _. ⌜ now (fillers .exit) ≡ headerFillers (parsed (now (codestream .entry)) (length (now (table .entry))) (length (now (out .entry)))) (now (fillers .entry)) ⌝ }
     ensures { λ _. ⌜ now (table .exit) ≡ recordsAfter (parsed (now (codestream .entry)) (length (now (table .entry))) (length (now (out .entry)))) (now (codestream .entry)) (now (table .entry)) ⌝ }
     ensures { λ _. ⌜ now (out .exit) ≡ outAfter (parsed (now (codestream .entry)) (length (now (table .entry))) (length (now (out .entry)))) (now (codestream .entry)) (now (out .entry)) ⌝ }
 {
     let answer = records::main_header::parse_main_header(codestream, table, out);
-    header::parse::tell(answer, first_sot, decode_length, entries)
+    header::parse::tell(answer, first_sot, decode_length, entries, fillers)
 }

@@ -17,8 +17,9 @@ use Rattle.types.specs.Siz.{lsiz, csiz, component}
 use Rattle.types.specs.Refusals.{refusal}
 use Rattle.types.specs.declared.Refusal.{Refusal}
 use Rattle.types.specs.declared.Area.{Area}
-use Rattle.header.specs.Step.{delimits, segmentEnd, stepAt}
+use Rattle.header.specs.Step.{delimits, segmentEnd, passing, stepAt}
 use Rattle.header.specs.Parse.{stands}
+use Rattle.header.specs.declared.step.Marker.{Marker}
 use Rattle.header.specs.declared.step.HeaderStep.{HeaderStep}
 use Rattle.header.specs.declared.step.HeaderStep.the-variants.{Segment, CutShort}
 use Rattle.header.proofs.ParseLaws.{stands-inside}
@@ -57,7 +58,7 @@ module _ (s : List ℕ) where
     unfolding delimits
     no-delimiter = ap delimits (stands-marked marker SIZ siz)
 
-    pub whole-segment : sizWhole s ≡ true → stepAt s marker ≡ Segment (segmentEnd s marker)
+    pub whole-segment : sizWhole s ≡ true → stepAt s marker ≡ Segment (passing (be 2 s marker) (segmentEnd s marker))
     unfolding sizWhole
     whole-segment e =
         let t = and-eq-true-iff (leb 6 (length s)) _ .0 e in
@@ -70,8 +71,8 @@ module _ (s : List ℕ) where
         (λ l. step-no-end s marker (stands-inside s marker SIZ siz) not-sot no-delimiter (leb-true _ _ l) (leb-false _ _ (ap (λ (b : Bool). b && leb (segmentEnd s marker) (length s)) (sym l) ∙ e)))
         (λ l. step-no-length s marker (stands-inside s marker SIZ siz) not-sot no-delimiter (leb-false _ _ l))
 
-    pub segment-whole : (n : ℕ) → stepAt s marker ≡ Segment n → sizWhole s ≡ true
-    segment-whole n e = by-bool (sizWhole s) (λ t. t) (λ t. let p = cut-segment t in let z : _≡_ {A = ℕ} 0 1 = cc in absurd (omega arith))
+    pub segment-whole : (m : Marker) → stepAt s marker ≡ Segment m → sizWhole s ≡ true
+    segment-whole m e = by-bool (sizWhole s) (λ t. t) (λ t. let p = cut-segment t in let z : _≡_ {A = ℕ} 0 1 = cc in absurd (omega arith))
 
     pub segment-cut : (found : HeaderStep) → found ≡ stepAt s marker → OneOf (0 ∷ 1 ∷ 3 ∷ []) (tagOf the-type found) → sizWhole s ≡ false
     segment-cut found e k = by-bool (sizWhole s) (λ t. absurd (no-other (rw (e ∙ whole-segment t) at k))) (λ t. t)

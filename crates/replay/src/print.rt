@@ -21,6 +21,7 @@ pub(crate) fn header(answer: MainHeader, out: &[u8]) -> u64 {
     let first_sot = info.first_sot_offset;
     number(first_sot.0);
     number(info.decode_header_length);
+    number(info.fillers);
     hex(out, info.decode_header_length);
     if info.tlm_entries == 0 {
         text(b" none");

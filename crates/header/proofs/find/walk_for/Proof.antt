@@ -66,9 +66,6 @@ returns-3 c =
     let l = c .before .before .before .before .before .loop in
     (λ i. At (record { 0 = c .at .ensures i })) ∙ sym (sought-some _ _ _ _ (l .inv) (at-sot (c .before .before)) (c .before .if1 .left))
 
-read-u16-requires : tie.Need-read-u16-requires Inv-loop μ-loop
-read-u16-requires c κs = let told = passed-is _ _ _ (found (c .before)) in omega (arith, told .past, told .inside)
-
 loop-less : tie.Need-loop-less Inv-loop μ-loop
 loop-less c = less (c .before .before .before)
 
@@ -76,7 +73,7 @@ loop-again : tie.Need-loop-again Inv-loop μ-loop
 loop-again c =
     let k = c .before .before .before in
     let l = k .before .before .before .before .loop in
-    seeking-here _ _ _ _ (l .inv) _ (found k) (c .before .before .if2 .taken) (sym (c .before .read-u16 .ensures) ∙ c .if3 .taken)
+    seeking-here _ _ _ _ (l .inv) _ (found k) (c .before .before .if2 .taken) (sym (passed-is _ _ _ (found k) .code) ∙ c .if3 .taken)
 
 loop-less-2 : tie.Need-loop-less-2 Inv-loop μ-loop
 loop-less-2 c = less (c .before .before .before)
@@ -85,7 +82,7 @@ loop-again-2 : tie.Need-loop-again-2 Inv-loop μ-loop
 loop-again-2 c =
     let k = c .before .before .before in
     let l = k .before .before .before .before .loop in
-    seeking-on _ _ _ _ (l .inv) _ (found k) (inr (λ e. c .if3 .left (c .before .read-u16 .ensures ∙ e)))
+    seeking-on _ _ _ _ (l .inv) _ (found k) (inr (λ e. c .if3 .left (passed-is _ _ _ (found k) .code ∙ e)))
 
 loop-less-3 : tie.Need-loop-less-3 Inv-loop μ-loop
 loop-less-3 c = less (c .before)
@@ -110,7 +107,6 @@ walk-for-spec =
     returns-2
     at-requires
     returns-3
-    read-u16-requires
     loop-less
     loop-again
     loop-less-2

@@ -9,15 +9,15 @@ use Rattle.header.proofs.WalkLaws.{passed-is, only-found}
 use Rattle.header.specs.declared.parse.MainHeader.the-variants.{Header}
 use Rattle.header.specs.declared.walk.WalkStep.the-variants.{Passed}
 use Rattle.header.specs.Walk.{walkStepAt}
-use Rattle.header.proofs.ParseCounting.{Counting, counting-start, counting-plain, counting-tlm, counted-found, counted-refused}
+use Rattle.header.proofs.ParseCounting.{Counting, bool-number, one-at-most, counting-start, counting-plain, counting-tlm, counted-found, counted-refused}
 use Rattle.header.proofs.parse.walk.Statement.{statement}
 use Rattle.header.proofs.parse.walk.Tie as tie
 
 abbrev Inv-loop : tie.InvT-loop
-Inv-loop codestream at₀ stripped₀ entries₀ at stripped entries = Counting codestream at stripped entries
+Inv-loop codestream at₀ stripped₀ entries₀ fillers₀ at stripped entries fillers = Counting codestream at stripped entries fillers
 
 abbrev μ-loop : tie.MeasureT-loop
-μ-loop codestream at₀ stripped₀ entries₀ at stripped entries = length codestream - at
+μ-loop codestream at₀ stripped₀ entries₀ fillers₀ at stripped entries fillers = length codestream - at
 
 -- what the step found, where it passed something
 found : (c : tie.After-known-told Inv-loop μ-loop)
@@ -39,13 +39,13 @@ enum-known-step-2 c = search needs
 returns : tie.Need-returns Inv-loop μ-loop
 returns c =
     let l = c .before .before .before .before .before .loop in
-    sym (counted-refused _ (l .at) (l .stripped) (l .entries) (l .inv) _ (sym (c .before .before .before .before .walk-step .ensures) ∙ c .before .step2 .given .1))
+    sym (counted-refused _ (l .at) (l .stripped) (l .entries) (l .fillers) (l .inv) _ (sym (c .before .before .before .before .walk-step .ensures) ∙ c .before .step2 .given .1))
 
 at-requires : tie.Need-at-requires Inv-loop μ-loop
 at-requires c κs = search needs
 
-sub-t9 : tie.Need-sub-t9 Inv-loop μ-loop
-sub-t9 c = search needs
+sub-t10 : tie.Need-sub-t10 Inv-loop μ-loop
+sub-t10 c = search needs
 
 returns-2 : tie.Need-returns-2 Inv-loop μ-loop
 returns-2 c =
@@ -54,47 +54,59 @@ returns-2 c =
       «first_sot_offset» = record { 0 = c .at .ensures i };
       «decode_header_length» = l .at - l .stripped;
       «tlm_entries» = l .entries;
+      fillers = l .fillers;
     }))
-    ∙ sym (counted-found _ (l .at) (l .stripped) (l .entries) (l .inv) (sym (c .before .before .before .walk-step .ensures) ∙ only-found _ (c .before .before .match .keys2) (c .before .match2 .keys2)))
+    ∙ sym (counted-found _ (l .at) (l .stripped) (l .entries) (l .fillers) (l .inv) (sym (c .before .before .before .walk-step .ensures) ∙ only-found _ (c .before .before .match .keys2) (c .before .match2 .keys2)))
+
+cast-fillers : tie.Need-cast-fillers Inv-loop μ-loop
+cast-fillers c = tt
+
+add-fillers : tie.Need-add-fillers Inv-loop μ-loop
+add-fillers c =
+    let i = c .before .before .before .before .before .loop .inv in
+    let told = passed-is _ _ _ (found (c .before)) in
+    let b = c .before .before .step .given .0 .0 .«is_filler» in
+    omega (arith, i .least, told .past, told .inside, bool-number b, one-at-most b)
 
 sub-stripped : tie.Need-sub-stripped Inv-loop μ-loop
 sub-stripped c =
-    let told = passed-is _ _ _ (found (c .before .before)) in
+    let told = passed-is _ _ _ (found (c .before .before .before)) in
     omega (arith, told .past)
 
 add-stripped : tie.Need-add-stripped Inv-loop μ-loop
 add-stripped c =
-    let told = passed-is _ _ _ (found (c .before .before)) in
-    omega (arith, told .past, told .inside, c .before .before .before .before .before .before .loop .inv .before)
+    let k = c .before .before .before in
+    let told = passed-is _ _ _ (found k) in
+    omega (arith, told .past, told .inside, k .before .before .before .before .loop .inv .before)
 
 add-entries : tie.Need-add-entries Inv-loop μ-loop
 add-entries c =
-    let c₁ = c .before .before .before in
+    let c₁ = c .before .before .before .before in
     let few = entries-few _ _ _ (found c₁) (c .before .before .if1 .taken) in
     let told = passed-is _ _ _ (found c₁) in
     omega (arith, told .inside, c₁ .before .before .before .before .loop .inv .few)
 
 loop-less : tie.Need-loop-less Inv-loop μ-loop
 loop-less c =
-    let told = passed-is _ _ _ (found (c .before .before .before)) in
+    let told = passed-is _ _ _ (found (c .before .before .before .before)) in
     omega (arith, told .past, told .inside)
 
 loop-again : tie.Need-loop-again Inv-loop μ-loop
 loop-again c =
-    let c₁ = c .before .before .before in
+    let c₁ = c .before .before .before .before in
     let l = c₁ .before .before .before .before .loop in
-    counting-tlm _ (l .at) (l .stripped) (l .entries) (l .inv) _ (found c₁) (c .before .before .if1 .taken)
+    rw bool-number (counting-tlm _ (l .at) (l .stripped) (l .entries) (l .fillers) (l .inv) _ (found c₁) (c .before .before .if1 .taken))
 
 loop-less-2 : tie.Need-loop-less-2 Inv-loop μ-loop
 loop-less-2 c =
-    let told = passed-is _ _ _ (found (c .before)) in
+    let told = passed-is _ _ _ (found (c .before .before)) in
     omega (arith, told .past, told .inside)
 
 loop-again-2 : tie.Need-loop-again-2 Inv-loop μ-loop
 loop-again-2 c =
-    let c₁ = c .before in
+    let c₁ = c .before .before in
     let l = c₁ .before .before .before .before .loop in
-    counting-plain _ (l .at) (l .stripped) (l .entries) (l .inv) _ (found c₁) (c .if1 .left)
+    rw bool-number (counting-plain _ (l .at) (l .stripped) (l .entries) (l .fillers) (l .inv) _ (found c₁) (c .if1 .left))
 
 pub walk-spec : {M : Type 1} → statement M
 walk-spec =
@@ -108,8 +120,10 @@ walk-spec =
     enum-known-step-2
     returns
     at-requires
-    sub-t9
+    sub-t10
     returns-2
+    cast-fillers
+    add-fillers
     sub-stripped
     add-stripped
     add-entries

@@ -1,12 +1,13 @@
 -- At each return the tests that led there choose the case of the definition.
 use native.Mathlib.Omega.{arith}
 use mathlib.Core.Bool.{false}
-use mathlib.Core.Path.{_≡_, sym, _∙_}
+use mathlib.Core.Path.{_≡_, sym, ap, _∙_}
 use borrow.Author.Needs.{needs}
 use Rattle.header.proofs.StepLaws.{step-short, step-sot, step-delimiter, step-no-length, step-no-end, step-segment}
-use Rattle.header.specs.Step.{delimits, segmentEnd}
+use Rattle.header.specs.Step.{delimits, segmentEnd, passing}
 use Rattle.types.specs.Markers.{SOT}
 use Rattle.numbers.specs.Bytes.{be}
+use Rattle.header.specs.declared.step.HeaderStep.the-variants.{Delimiter, Segment}
 use Rattle.header.proofs.step.header_step.Statement.{statement}
 use Rattle.header.proofs.step.header_step.Tie as tie
 
@@ -33,14 +34,18 @@ returns-2 c = sym (step-sot _ _ (omega arith) (sym (c .before .read-u16 .ensures
 is-delimiter-requires : tie.Need-is-delimiter-requires
 is-delimiter-requires c κs = search needs
 
-add-t9 : tie.Need-add-t9
-add-t9 c = search needs
+add-new : tie.Need-add-new
+add-new c = search needs
+
+new-requires : tie.Need-new-requires
+new-requires c κs = search needs
 
 returns-3 : tie.Need-returns-3
 returns-3 c =
-    let c₂ = c .before .before in
-    let d = sym (c .before .is-delimiter .ensures) ∙ c .if3 .taken in
-    sym (step-delimiter _ _ (omega arith) (other c₂) (rw (c₂ .before .read-u16 .ensures) at d))
+    let c₂ = c .before .before .before in
+    let m = c₂ .before .read-u16 .ensures in
+    let d = sym (c .before .before .is-delimiter .ensures) ∙ c .before .if3 .taken in
+    ap Delimiter (c .new .ensures) ∙ rw m (sym (step-delimiter _ _ (omega arith) (other c₂) (rw m at d)))
 
 sub-if4 : tie.Need-sub-if4
 sub-if4 c = search needs
@@ -72,15 +77,19 @@ returns-5 c =
     let l = c .before .read-u162 .ensures in
     sym (step-no-end _ _ (omega arith) (other (c₃ .before .before)) (no-delimiter c₃) (omega arith) (omega arith))
 
-add-t5 : tie.Need-add-t5
-add-t5 c = search needs
+add-new-2 : tie.Need-add-new-2
+add-new-2 c = search needs
+
+new-requires-2 : tie.Need-new-requires-2
+new-requires-2 c κs = search needs
 
 returns-6 : tie.Need-returns-6
 unfolding segmentEnd
 returns-6 c =
-    let c₃ = c .before .before .before in
-    let l = c .before .read-u162 .ensures in
-    rw l (sym (step-segment _ _ (omega arith) (other (c₃ .before .before)) (no-delimiter c₃) (omega arith) (omega arith)))
+    let c₃ = c .before .before .before .before in
+    let m = c₃ .before .before .before .read-u16 .ensures in
+    let l = c .before .before .read-u162 .ensures in
+    ap Segment (c .new2 .ensures) ∙ rw (m, l) (sym (step-segment _ _ (omega arith) (other (c₃ .before .before)) (no-delimiter c₃) (omega arith) (omega arith)))
 
 pub header-step-spec : {M : Type 1} → statement M
 header-step-spec =
@@ -91,7 +100,8 @@ header-step-spec =
     read-u16-requires
     returns-2
     is-delimiter-requires
-    add-t9
+    add-new
+    new-requires
     returns-3
     sub-if4
     returns-4
@@ -101,5 +111,6 @@ header-step-spec =
     add-whole
     sub-if5
     returns-5
-    add-t5
+    add-new-2
+    new-requires-2
     returns-6)

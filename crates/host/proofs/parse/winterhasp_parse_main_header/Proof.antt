@@ -16,7 +16,7 @@ same-length-2 : tie.Need-same-length-2
 same-length-2 c = search needs
 
 returns : tie.Need-returns
-returns c = (cc, (cc, (cc, (cc, (cc, cc)))))
+returns c = (cc, (cc, (cc, (cc, (cc, (cc, cc))))))
 
 pub winterhasp-parse-main-header-spec : {M : Type 1} → statement M
 winterhasp-parse-main-header-spec =

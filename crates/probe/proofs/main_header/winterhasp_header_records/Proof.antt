@@ -18,7 +18,7 @@ same-length-2 : tie.Need-same-length-2
 same-length-2 c = search needs
 
 returns : tie.Need-returns
-returns c = (cc, (cc, (cc, (cc, (cc, cc)))))
+returns c = (cc, (cc, (cc, (cc, (cc, (cc, cc))))))
 
 pub winterhasp-header-records-spec : {M : Type 1} → statement M
 winterhasp-header-records-spec =

@@ -46,12 +46,12 @@ use mir.Syntax
 use prog.Wp
 use types.Kit
 
-abbrev pub ps : List.List (Kinds.PK 6)
+abbrev pub ps : List.List (Kinds.PK 7)
 ps = List._∷_ (ShrSlice.pShrS (Referent.rtF (Referent.fInt Syntax.w8)) 0 tt) (List._∷_ (MutSlice.pMutS LentTilePartEntry.row 1 tt) (List._∷_ (MutSlice.pMutS (Referent.rtF
     (Referent.fInt Syntax.w8)) 2 tt) (List._∷_ (Kinds.pMutF (Referent.fInt Syntax.w64) 3 tt) (List._∷_ (Kinds.pMutF (Referent.fInt Syntax.w64) 4 tt) (List._∷_ (Kinds.pMutF
-    (Referent.fInt Syntax.w64) 5 tt) List.[])))))
+    (Referent.fInt Syntax.w64) 5 tt) (List._∷_ (Kinds.pMutF (Referent.fInt Syntax.w64) 6 tt) List.[]))))))
 
-abbrev pub r : Kinds.RK 6
+abbrev pub r : Kinds.RK 7
 r = Num.rNum Syntax.w32
 
 abbrev pub xs : List.List Syntax.Ty
@@ -63,17 +63,18 @@ xs = List._∷_ (Syntax.tyEnum (List._∷_ 104 (List._∷_ 101 (List._∷_ 97 (L
     (Syntax.tcons (Syntax.tyStruct (List._∷_ 116 (List._∷_ 121 (List._∷_ 112 (List._∷_ 101 (List._∷_ 115 (List._∷_ 58 (List._∷_ 58 (List._∷_ 67 (List._∷_ 111 (List._∷_ 100
     (List._∷_ 101 (List._∷_ 115 (List._∷_ 116 (List._∷_ 114 (List._∷_ 101 (List._∷_ 97 (List._∷_ 109 (List._∷_ 79 (List._∷_ 102 (List._∷_ 102 (List._∷_ 115 (List._∷_ 101 (List._∷_
     116 List.[]))))))))))))))))))))))) (Syntax.tcons (Syntax.tyInt Syntax.w64) Syntax.tnil)) (Syntax.tcons (Syntax.tyInt Syntax.w64) (Syntax.tcons (Syntax.tyInt Syntax.w64)
-    Syntax.tnil)))) Syntax.tnil) (Syntax.ttcons (Syntax.tcons (Syntax.tyStruct (List._∷_ 116 (List._∷_ 121 (List._∷_ 112 (List._∷_ 101 (List._∷_ 115 (List._∷_ 58 (List._∷_ 58
-    (List._∷_ 82 (List._∷_ 101 (List._∷_ 102 (List._∷_ 117 (List._∷_ 115 (List._∷_ 97 (List._∷_ 108 List.[])))))))))))))) (Syntax.tcons (Syntax.tyInt Syntax.w32) (Syntax.tcons
-    (Syntax.tyInt Syntax.w64) Syntax.tnil))) Syntax.tnil) Syntax.ttnil))) (List._∷_ (Syntax.tyRef Syntax.erased Syntax.mut LentTilePartEntry.pointee) (List._∷_ (Syntax.tyStruct
-    (List._∷_ 38 (List._∷_ 91 (List._∷_ 93 List.[]))) (Syntax.tcons (Syntax.tyRef Syntax.erased Syntax.mut LentTilePartEntry.pointee) (Syntax.tcons (Syntax.tyInt Syntax.w64)
-    Syntax.tnil))) (List._∷_ (Syntax.tyRef Syntax.erased Syntax.mut (Syntax.tyInt Syntax.w8)) (List._∷_ (Syntax.tyStruct (List._∷_ 38 (List._∷_ 91 (List._∷_ 93 List.[])))
-    (Syntax.tcons (Syntax.tyRef Syntax.erased Syntax.mut (Syntax.tyInt Syntax.w8)) (Syntax.tcons (Syntax.tyInt Syntax.w64) Syntax.tnil))) (List._∷_ (Syntax.tyRef Syntax.erased
-    Syntax.mut (Syntax.tyInt Syntax.w64)) (List._∷_ (Syntax.tyRef Syntax.erased Syntax.mut (Syntax.tyInt Syntax.w64)) (List._∷_ (Syntax.tyRef Syntax.erased Syntax.mut (Syntax.tyInt
-    Syntax.w64)) List.[])))))))
+    (Syntax.tcons (Syntax.tyInt Syntax.w64) Syntax.tnil))))) Syntax.tnil) (Syntax.ttcons (Syntax.tcons (Syntax.tyStruct (List._∷_ 116 (List._∷_ 121 (List._∷_ 112 (List._∷_ 101
+    (List._∷_ 115 (List._∷_ 58 (List._∷_ 58 (List._∷_ 82 (List._∷_ 101 (List._∷_ 102 (List._∷_ 117 (List._∷_ 115 (List._∷_ 97 (List._∷_ 108 List.[])))))))))))))) (Syntax.tcons
+    (Syntax.tyInt Syntax.w32) (Syntax.tcons (Syntax.tyInt Syntax.w64) Syntax.tnil))) Syntax.tnil) Syntax.ttnil))) (List._∷_ (Syntax.tyRef Syntax.erased Syntax.mut
+    LentTilePartEntry.pointee) (List._∷_ (Syntax.tyStruct (List._∷_ 38 (List._∷_ 91 (List._∷_ 93 List.[]))) (Syntax.tcons (Syntax.tyRef Syntax.erased Syntax.mut
+    LentTilePartEntry.pointee) (Syntax.tcons (Syntax.tyInt Syntax.w64) Syntax.tnil))) (List._∷_ (Syntax.tyRef Syntax.erased Syntax.mut (Syntax.tyInt Syntax.w8)) (List._∷_
+    (Syntax.tyStruct (List._∷_ 38 (List._∷_ 91 (List._∷_ 93 List.[]))) (Syntax.tcons (Syntax.tyRef Syntax.erased Syntax.mut (Syntax.tyInt Syntax.w8)) (Syntax.tcons (Syntax.tyInt
+    Syntax.w64) Syntax.tnil))) (List._∷_ (Syntax.tyRef Syntax.erased Syntax.mut (Syntax.tyInt Syntax.w64)) (List._∷_ (Syntax.tyRef Syntax.erased Syntax.mut (Syntax.tyInt
+    Syntax.w64)) (List._∷_ (Syntax.tyRef Syntax.erased Syntax.mut (Syntax.tyInt Syntax.w64)) (List._∷_ (Syntax.tyRef Syntax.erased Syntax.mut (Syntax.tyInt Syntax.w64))
+    List.[]))))))))
 
 abbrev pub m : Nat.ℕ
-m = 5
+m = 6
 
 abbrev pub ps·0 : List.List (Kinds.PK 3)
 ps·0 = List._∷_ (ShrSlice.pShrS (Referent.rtF (Referent.fInt Syntax.w8)) 0 tt) (List._∷_ (MutSlice.pMutS LentTilePartEntry.row 1 tt) (List._∷_ (MutSlice.pMutS (Referent.rtF
@@ -101,7 +102,7 @@ r·0 = Value.rVal record {
           MainHeader.the-type);
     }
 
-abbrev pub ps·1 : List.List (Kinds.PK 3)
+abbrev pub ps·1 : List.List (Kinds.PK 4)
 ps·1 = List._∷_ (Value.pVal record {
   ty = Declared.row MainHeader.the-type;
   one = Path'.refl;
@@ -122,82 +123,88 @@ ps·1 = List._∷_ (Value.pVal record {
   of-mem = Local.whole-mem 𝓤 H A W (Declared.row
       MainHeader.the-type);
 }) (List._∷_ (Kinds.pMutF (Referent.fInt Syntax.w64) 0 tt) (List._∷_ (Kinds.pMutF (Referent.fInt Syntax.w64) 1 tt) (List._∷_ (Kinds.pMutF (Referent.fInt
-    Syntax.w64) 2 tt) List.[])))
+    Syntax.w64) 2 tt) (List._∷_ (Kinds.pMutF (Referent.fInt Syntax.w64) 3 tt) List.[]))))
 
-abbrev pub r·1 : Kinds.RK 3
+abbrev pub r·1 : Kinds.RK 4
 r·1 = Num.rNum Syntax.w32
 
 abbrev pub hs : List.List Syntax.Home
 hs = List._∷_ Syntax.valueLocal (List._∷_ Syntax.valueLocal (List._∷_ Syntax.valueLocal (List._∷_ Syntax.valueLocal (List._∷_ Syntax.valueLocal (List._∷_ Syntax.valueLocal
     (List._∷_ Syntax.valueLocal (List._∷_ Syntax.valueLocal (List._∷_ Syntax.valueLocal (List._∷_ Syntax.valueLocal (List._∷_ Syntax.valueLocal (List._∷_ Syntax.valueLocal
-    (List._∷_ Syntax.valueLocal (List._∷_ Syntax.valueLocal (List._∷_ Syntax.valueLocal List.[]))))))))))))))
+    (List._∷_ Syntax.valueLocal (List._∷_ Syntax.valueLocal (List._∷_ Syntax.valueLocal (List._∷_ Syntax.valueLocal (List._∷_ Syntax.valueLocal List.[]))))))))))))))))
 
 abbrev b0 : Syntax.Body
-b0 = Syntax.assign (Syntax.place 8 List.[]) (Syntax.addrOf (Syntax.place 2 (List._∷_ (Syntax.field 0) (List._∷_ (Syntax.deref LentTilePartEntry.spelled) List.[]))))
+b0 = Syntax.assign (Syntax.place 9 List.[]) (Syntax.addrOf (Syntax.place 2 (List._∷_ (Syntax.field 0) (List._∷_ (Syntax.deref LentTilePartEntry.spelled) List.[]))))
 
 abbrev b1 : Syntax.Body
-b1 = Syntax.assign (Syntax.place 9 List.[]) (Syntax.aggregate (List._∷_ (Syntax.copy (Syntax.place 8 List.[])) (List._∷_ (Syntax.copy (Syntax.place 2 (List._∷_ (Syntax.field 1)
+b1 = Syntax.assign (Syntax.place 10 List.[]) (Syntax.aggregate (List._∷_ (Syntax.copy (Syntax.place 9 List.[])) (List._∷_ (Syntax.copy (Syntax.place 2 (List._∷_ (Syntax.field 1)
     List.[]))) List.[])))
 
 abbrev b2 : Syntax.Body
-b2 = Syntax.assign (Syntax.place 10 List.[]) (Syntax.addrOf (Syntax.place 3 (List._∷_ (Syntax.field 0) (List._∷_ (Syntax.deref (Syntax.tyInt Syntax.w8)) List.[]))))
+b2 = Syntax.assign (Syntax.place 11 List.[]) (Syntax.addrOf (Syntax.place 3 (List._∷_ (Syntax.field 0) (List._∷_ (Syntax.deref (Syntax.tyInt Syntax.w8)) List.[]))))
 
 abbrev b3 : Syntax.Body
-b3 = Syntax.assign (Syntax.place 11 List.[]) (Syntax.aggregate (List._∷_ (Syntax.copy (Syntax.place 10 List.[])) (List._∷_ (Syntax.copy (Syntax.place 3 (List._∷_ (Syntax.field 1)
+b3 = Syntax.assign (Syntax.place 12 List.[]) (Syntax.aggregate (List._∷_ (Syntax.copy (Syntax.place 11 List.[])) (List._∷_ (Syntax.copy (Syntax.place 3 (List._∷_ (Syntax.field 1)
     List.[]))) List.[])))
 
 abbrev b4 : Syntax.Body
-b4 = Syntax.call "records::main_header::parse_main_header" (List._∷_ (Syntax.copy (Syntax.place 1 List.[])) (List._∷_ (Syntax.copy (Syntax.place 9 List.[])) (List._∷_ (Syntax.copy
-    (Syntax.place 11 List.[])) List.[]))) (Syntax.place 7 List.[])
+b4 = Syntax.call "records::main_header::parse_main_header" (List._∷_ (Syntax.copy (Syntax.place 1 List.[])) (List._∷_ (Syntax.copy (Syntax.place 10 List.[])) (List._∷_ (Syntax.copy
+    (Syntax.place 12 List.[])) List.[]))) (Syntax.place 8 List.[])
 
 abbrev b5 : Syntax.Body
-b5 = Syntax.assign (Syntax.place 12 List.[]) (Syntax.addrOf (Syntax.place 4 (List._∷_ (Syntax.deref (Syntax.tyInt Syntax.w64)) List.[])))
+b5 = Syntax.assign (Syntax.place 13 List.[]) (Syntax.addrOf (Syntax.place 4 (List._∷_ (Syntax.deref (Syntax.tyInt Syntax.w64)) List.[])))
 
 abbrev b6 : Syntax.Body
-b6 = Syntax.assign (Syntax.place 13 List.[]) (Syntax.addrOf (Syntax.place 5 (List._∷_ (Syntax.deref (Syntax.tyInt Syntax.w64)) List.[])))
+b6 = Syntax.assign (Syntax.place 14 List.[]) (Syntax.addrOf (Syntax.place 5 (List._∷_ (Syntax.deref (Syntax.tyInt Syntax.w64)) List.[])))
 
 abbrev b7 : Syntax.Body
-b7 = Syntax.assign (Syntax.place 14 List.[]) (Syntax.addrOf (Syntax.place 6 (List._∷_ (Syntax.deref (Syntax.tyInt Syntax.w64)) List.[])))
+b7 = Syntax.assign (Syntax.place 15 List.[]) (Syntax.addrOf (Syntax.place 6 (List._∷_ (Syntax.deref (Syntax.tyInt Syntax.w64)) List.[])))
 
 abbrev b8 : Syntax.Body
-b8 = Syntax.call "header::parse::tell" (List._∷_ (Syntax.copy (Syntax.place 7 List.[])) (List._∷_ (Syntax.copy (Syntax.place 12 List.[])) (List._∷_ (Syntax.copy (Syntax.place 13
-    List.[])) (List._∷_ (Syntax.copy (Syntax.place 14 List.[])) List.[])))) (Syntax.place 0 List.[])
+b8 = Syntax.assign (Syntax.place 16 List.[]) (Syntax.addrOf (Syntax.place 7 (List._∷_ (Syntax.deref (Syntax.tyInt Syntax.w64)) List.[])))
 
 abbrev b9 : Syntax.Body
-b9 = Syntax.return
+b9 = Syntax.call "header::parse::tell" (List._∷_ (Syntax.copy (Syntax.place 8 List.[])) (List._∷_ (Syntax.copy (Syntax.place 13 List.[])) (List._∷_ (Syntax.copy (Syntax.place 14
+    List.[])) (List._∷_ (Syntax.copy (Syntax.place 15 List.[])) (List._∷_ (Syntax.copy (Syntax.place 16 List.[])) List.[]))))) (Syntax.place 0 List.[])
 
 abbrev b10 : Syntax.Body
-b10 = Syntax.seq b8 b9
+b10 = Syntax.return
 
 abbrev b11 : Syntax.Body
-b11 = Syntax.seq b7 b10
+b11 = Syntax.seq b9 b10
 
 abbrev b12 : Syntax.Body
-b12 = Syntax.seq b6 b11
+b12 = Syntax.seq b8 b11
 
 abbrev b13 : Syntax.Body
-b13 = Syntax.seq b5 b12
+b13 = Syntax.seq b7 b12
 
 abbrev b14 : Syntax.Body
-b14 = Syntax.seq b4 b13
+b14 = Syntax.seq b6 b13
 
 abbrev b15 : Syntax.Body
-b15 = Syntax.seq b3 b14
+b15 = Syntax.seq b5 b14
 
 abbrev b16 : Syntax.Body
-b16 = Syntax.seq b2 b15
+b16 = Syntax.seq b4 b15
 
 abbrev b17 : Syntax.Body
-b17 = Syntax.seq b1 b16
+b17 = Syntax.seq b3 b16
 
 abbrev b18 : Syntax.Body
-b18 = Syntax.seq b0 b17
+b18 = Syntax.seq b2 b17
+
+abbrev b19 : Syntax.Body
+b19 = Syntax.seq b1 b18
+
+abbrev b20 : Syntax.Body
+b20 = Syntax.seq b0 b19
 
 abbrev pub body : Syntax.Body
-body = b18
+body = b20
 
 abbrev pub Claims : Type 1
-Claims = Kinds.In 3 ps·0 × Kinds.Out 3 ps·0 r·0 × Kinds.In 3 ps·1 × Kinds.Out 3 ps·1 r·1
+Claims = Kinds.In 3 ps·0 × Kinds.Out 3 ps·0 r·0 × Kinds.In 4 ps·1 × Kinds.Out 4 ps·1 r·1
 
 abbrev pub t0 : List.List Row.Entry
 t0 = List._∷_ (0, Rows.any-gone (Syntax.tyInt Syntax.w32)) (List._∷_ (
@@ -220,47 +227,51 @@ t0 = List._∷_ (0, Rows.any-gone (Syntax.tyInt Syntax.w32)) (List._∷_ (
   6,
   Rows.mref (Referent.rtF (Referent.fInt Syntax.w64)) (Syntax.tyRef (Syntax.named 5) Syntax.mut
       (Syntax.tyInt Syntax.w64)) 5,
-) (List._∷_ (
-  7,
-  Rows.any-gone (Syntax.tyEnum (List._∷_ 104 (List._∷_ 101 (List._∷_ 97 (List._∷_ 100 (List._∷_ 101 (List._∷_ 114 (List._∷_ 58
-      (List._∷_ 58 (List._∷_ 112 (List._∷_ 97 (List._∷_ 114 (List._∷_ 115 (List._∷_ 101 (List._∷_ 58 (List._∷_ 58 (List._∷_ 77 (List._∷_ 97 (List._∷_ 105 (List._∷_ 110 (List._∷_ 72
-      (List._∷_ 101 (List._∷_ 97 (List._∷_ 100 (List._∷_ 101 (List._∷_ 114 List.[]))))))))))))))))))))))))) (Syntax.ttcons (Syntax.tcons (Syntax.tyStruct (List._∷_ 104 (List._∷_ 101
-      (List._∷_ 97 (List._∷_ 100 (List._∷_ 101 (List._∷_ 114 (List._∷_ 58 (List._∷_ 58 (List._∷_ 112 (List._∷_ 97 (List._∷_ 114 (List._∷_ 115 (List._∷_ 101 (List._∷_ 58 (List._∷_ 58
-      (List._∷_ 77 (List._∷_ 97 (List._∷_ 105 (List._∷_ 110 (List._∷_ 72 (List._∷_ 101 (List._∷_ 97 (List._∷_ 100 (List._∷_ 101 (List._∷_ 114 (List._∷_ 73 (List._∷_ 110 (List._∷_ 102
-      (List._∷_ 111 List.[]))))))))))))))))))))))))))))) (Syntax.tcons (Syntax.tyStruct (List._∷_ 116 (List._∷_ 121 (List._∷_ 112 (List._∷_ 101 (List._∷_ 115 (List._∷_ 58 (List._∷_
-      58 (List._∷_ 67 (List._∷_ 111 (List._∷_ 100 (List._∷_ 101 (List._∷_ 115 (List._∷_ 116 (List._∷_ 114 (List._∷_ 101 (List._∷_ 97 (List._∷_ 109 (List._∷_ 79 (List._∷_ 102
-      (List._∷_ 102 (List._∷_ 115 (List._∷_ 101 (List._∷_ 116 List.[]))))))))))))))))))))))) (Syntax.tcons (Syntax.tyInt Syntax.w64) Syntax.tnil)) (Syntax.tcons (Syntax.tyInt
-      Syntax.w64) (Syntax.tcons (Syntax.tyInt Syntax.w64) Syntax.tnil)))) Syntax.tnil) (Syntax.ttcons (Syntax.tcons (Syntax.tyStruct (List._∷_ 116 (List._∷_ 121 (List._∷_ 112
-      (List._∷_ 101 (List._∷_ 115 (List._∷_ 58 (List._∷_ 58 (List._∷_ 82 (List._∷_ 101 (List._∷_ 102 (List._∷_ 117 (List._∷_ 115 (List._∷_ 97 (List._∷_ 108 List.[]))))))))))))))
-      (Syntax.tcons (Syntax.tyInt Syntax.w32) (Syntax.tcons (Syntax.tyInt Syntax.w64) Syntax.tnil))) Syntax.tnil) Syntax.ttnil))),
-) (List._∷_ (
-  8,
-  Rows.any-gone (Syntax.tyRef
-      Syntax.erased Syntax.mut LentTilePartEntry.pointee),
-) (List._∷_ (
-  9,
-  Rows.any-gone (Syntax.tyStruct (List._∷_ 38 (List._∷_ 91 (List._∷_ 93 List.[]))) (Syntax.tcons (Syntax.tyRef
-      Syntax.erased Syntax.mut LentTilePartEntry.pointee) (Syntax.tcons (Syntax.tyInt Syntax.w64) Syntax.tnil))),
-) (List._∷_ (
-  10,
-  Rows.any-gone (Syntax.tyRef Syntax.erased Syntax.mut
-      (Syntax.tyInt Syntax.w8)),
-) (List._∷_ (
-  11,
-  Rows.any-gone (Syntax.tyStruct (List._∷_ 38 (List._∷_ 91 (List._∷_ 93 List.[]))) (Syntax.tcons (Syntax.tyRef Syntax.erased Syntax.mut
-      (Syntax.tyInt Syntax.w8)) (Syntax.tcons (Syntax.tyInt Syntax.w64) Syntax.tnil))),
-) (List._∷_ (
-  12,
-  Rows.any-gone (Syntax.tyRef Syntax.erased Syntax.mut (Syntax.tyInt
-      Syntax.w64)),
-) (List._∷_ (13, Rows.any-gone (Syntax.tyRef Syntax.erased Syntax.mut (Syntax.tyInt Syntax.w64))) (List._∷_ (
-  14,
-  Rows.any-gone (Syntax.tyRef Syntax.erased
-      Syntax.mut (Syntax.tyInt Syntax.w64)),
-) List.[]))))))))))))))
+) (List._∷_ (7, Rows.mref (Referent.rtF (Referent.fInt Syntax.w64)) (Syntax.tyRef (Syntax.named 6) Syntax.mut (Syntax.tyInt Syntax.w64)) 6)
+    (List._∷_ (
+      8,
+      Rows.any-gone (Syntax.tyEnum (List._∷_ 104 (List._∷_ 101 (List._∷_ 97 (List._∷_ 100 (List._∷_ 101 (List._∷_ 114 (List._∷_ 58 (List._∷_ 58 (List._∷_ 112 (List._∷_
+          97 (List._∷_ 114 (List._∷_ 115 (List._∷_ 101 (List._∷_ 58 (List._∷_ 58 (List._∷_ 77 (List._∷_ 97 (List._∷_ 105 (List._∷_ 110 (List._∷_ 72 (List._∷_ 101 (List._∷_ 97 (List._∷_
+          100 (List._∷_ 101 (List._∷_ 114 List.[]))))))))))))))))))))))))) (Syntax.ttcons (Syntax.tcons (Syntax.tyStruct (List._∷_ 104 (List._∷_ 101 (List._∷_ 97 (List._∷_ 100 (List._∷_
+          101 (List._∷_ 114 (List._∷_ 58 (List._∷_ 58 (List._∷_ 112 (List._∷_ 97 (List._∷_ 114 (List._∷_ 115 (List._∷_ 101 (List._∷_ 58 (List._∷_ 58 (List._∷_ 77 (List._∷_ 97 (List._∷_
+          105 (List._∷_ 110 (List._∷_ 72 (List._∷_ 101 (List._∷_ 97 (List._∷_ 100 (List._∷_ 101 (List._∷_ 114 (List._∷_ 73 (List._∷_ 110 (List._∷_ 102 (List._∷_ 111
+          List.[]))))))))))))))))))))))))))))) (Syntax.tcons (Syntax.tyStruct (List._∷_ 116 (List._∷_ 121 (List._∷_ 112 (List._∷_ 101 (List._∷_ 115 (List._∷_ 58 (List._∷_ 58 (List._∷_ 67
+          (List._∷_ 111 (List._∷_ 100 (List._∷_ 101 (List._∷_ 115 (List._∷_ 116 (List._∷_ 114 (List._∷_ 101 (List._∷_ 97 (List._∷_ 109 (List._∷_ 79 (List._∷_ 102 (List._∷_ 102 (List._∷_
+          115 (List._∷_ 101 (List._∷_ 116 List.[]))))))))))))))))))))))) (Syntax.tcons (Syntax.tyInt Syntax.w64) Syntax.tnil)) (Syntax.tcons (Syntax.tyInt Syntax.w64) (Syntax.tcons
+          (Syntax.tyInt Syntax.w64) (Syntax.tcons (Syntax.tyInt Syntax.w64) Syntax.tnil))))) Syntax.tnil) (Syntax.ttcons (Syntax.tcons (Syntax.tyStruct (List._∷_ 116 (List._∷_ 121
+          (List._∷_ 112 (List._∷_ 101 (List._∷_ 115 (List._∷_ 58 (List._∷_ 58 (List._∷_ 82 (List._∷_ 101 (List._∷_ 102 (List._∷_ 117 (List._∷_ 115 (List._∷_ 97 (List._∷_ 108
+          List.[])))))))))))))) (Syntax.tcons (Syntax.tyInt Syntax.w32) (Syntax.tcons (Syntax.tyInt Syntax.w64) Syntax.tnil))) Syntax.tnil) Syntax.ttnil))),
+    ) (List._∷_ (
+      9,
+      Rows.any-gone
+          (Syntax.tyRef Syntax.erased Syntax.mut LentTilePartEntry.pointee),
+    ) (List._∷_ (
+      10,
+      Rows.any-gone (Syntax.tyStruct (List._∷_ 38 (List._∷_ 91 (List._∷_ 93 List.[]))) (Syntax.tcons
+          (Syntax.tyRef Syntax.erased Syntax.mut LentTilePartEntry.pointee) (Syntax.tcons (Syntax.tyInt Syntax.w64) Syntax.tnil))),
+    ) (List._∷_ (
+      11,
+      Rows.any-gone (Syntax.tyRef
+          Syntax.erased Syntax.mut (Syntax.tyInt Syntax.w8)),
+    ) (List._∷_ (
+      12,
+      Rows.any-gone (Syntax.tyStruct (List._∷_ 38 (List._∷_ 91 (List._∷_ 93 List.[]))) (Syntax.tcons (Syntax.tyRef
+          Syntax.erased Syntax.mut (Syntax.tyInt Syntax.w8)) (Syntax.tcons (Syntax.tyInt Syntax.w64) Syntax.tnil))),
+    ) (List._∷_ (
+      13,
+      Rows.any-gone (Syntax.tyRef Syntax.erased Syntax.mut
+          (Syntax.tyInt Syntax.w64)),
+    ) (List._∷_ (14, Rows.any-gone (Syntax.tyRef Syntax.erased Syntax.mut (Syntax.tyInt Syntax.w64))) (List._∷_ (
+      15,
+      Rows.any-gone (Syntax.tyRef
+          Syntax.erased Syntax.mut (Syntax.tyInt Syntax.w64)),
+    ) List.[])))))))))))))))
 
 abbrev pub t1 : List.List Row.Entry
-t1 = List._∷_ (0, Rows.sc-here (Row.sInt Syntax.w32)) (List._∷_ (
+t1 = List._∷_ (16, Rows.any-gone (Syntax.tyRef Syntax.erased Syntax.mut (Syntax.tyInt Syntax.w64))) List.[]
+
+abbrev pub t2 : List.List Row.Entry
+t2 = List._∷_ (0, Rows.sc-here (Row.sInt Syntax.w32)) (List._∷_ (
   1,
   Rows.sslice (Referent.rtF (Referent.fInt Syntax.w8)) (Syntax.tyRef (Syntax.named 0) Syntax.imm (Syntax.tyInt
       Syntax.w8)) 0,
@@ -280,104 +291,49 @@ t1 = List._∷_ (0, Rows.sc-here (Row.sInt Syntax.w32)) (List._∷_ (
   6,
   Rows.mref (Referent.rtF (Referent.fInt Syntax.w64)) (Syntax.tyRef (Syntax.named 5) Syntax.mut (Syntax.tyInt Syntax.w64))
       5,
-) (List._∷_ (
-  7,
-  Rows.any-gone (Syntax.tyEnum (List._∷_ 104 (List._∷_ 101 (List._∷_ 97 (List._∷_ 100 (List._∷_ 101 (List._∷_ 114 (List._∷_ 58 (List._∷_ 58 (List._∷_ 112
-      (List._∷_ 97 (List._∷_ 114 (List._∷_ 115 (List._∷_ 101 (List._∷_ 58 (List._∷_ 58 (List._∷_ 77 (List._∷_ 97 (List._∷_ 105 (List._∷_ 110 (List._∷_ 72 (List._∷_ 101 (List._∷_ 97
-      (List._∷_ 100 (List._∷_ 101 (List._∷_ 114 List.[]))))))))))))))))))))))))) (Syntax.ttcons (Syntax.tcons (Syntax.tyStruct (List._∷_ 104 (List._∷_ 101 (List._∷_ 97 (List._∷_ 100
-      (List._∷_ 101 (List._∷_ 114 (List._∷_ 58 (List._∷_ 58 (List._∷_ 112 (List._∷_ 97 (List._∷_ 114 (List._∷_ 115 (List._∷_ 101 (List._∷_ 58 (List._∷_ 58 (List._∷_ 77 (List._∷_ 97
-      (List._∷_ 105 (List._∷_ 110 (List._∷_ 72 (List._∷_ 101 (List._∷_ 97 (List._∷_ 100 (List._∷_ 101 (List._∷_ 114 (List._∷_ 73 (List._∷_ 110 (List._∷_ 102 (List._∷_ 111
-      List.[]))))))))))))))))))))))))))))) (Syntax.tcons (Syntax.tyStruct (List._∷_ 116 (List._∷_ 121 (List._∷_ 112 (List._∷_ 101 (List._∷_ 115 (List._∷_ 58 (List._∷_ 58 (List._∷_ 67
-      (List._∷_ 111 (List._∷_ 100 (List._∷_ 101 (List._∷_ 115 (List._∷_ 116 (List._∷_ 114 (List._∷_ 101 (List._∷_ 97 (List._∷_ 109 (List._∷_ 79 (List._∷_ 102 (List._∷_ 102 (List._∷_
-      115 (List._∷_ 101 (List._∷_ 116 List.[]))))))))))))))))))))))) (Syntax.tcons (Syntax.tyInt Syntax.w64) Syntax.tnil)) (Syntax.tcons (Syntax.tyInt Syntax.w64) (Syntax.tcons
-      (Syntax.tyInt Syntax.w64) Syntax.tnil)))) Syntax.tnil) (Syntax.ttcons (Syntax.tcons (Syntax.tyStruct (List._∷_ 116 (List._∷_ 121 (List._∷_ 112 (List._∷_ 101 (List._∷_ 115
-      (List._∷_ 58 (List._∷_ 58 (List._∷_ 82 (List._∷_ 101 (List._∷_ 102 (List._∷_ 117 (List._∷_ 115 (List._∷_ 97 (List._∷_ 108 List.[])))))))))))))) (Syntax.tcons (Syntax.tyInt
-      Syntax.w32) (Syntax.tcons (Syntax.tyInt Syntax.w64) Syntax.tnil))) Syntax.tnil) Syntax.ttnil))),
-) (List._∷_ (
+) (List._∷_ (7, Rows.mref (Referent.rtF (Referent.fInt Syntax.w64)) (Syntax.tyRef (Syntax.named 6) Syntax.mut (Syntax.tyInt Syntax.w64)) 6) (List._∷_ (
   8,
-  Rows.any-gone (Syntax.tyRef Syntax.erased Syntax.mut
-      LentTilePartEntry.pointee),
+  Rows.any-gone
+      (Syntax.tyEnum (List._∷_ 104 (List._∷_ 101 (List._∷_ 97 (List._∷_ 100 (List._∷_ 101 (List._∷_ 114 (List._∷_ 58 (List._∷_ 58 (List._∷_ 112 (List._∷_ 97 (List._∷_ 114 (List._∷_
+      115 (List._∷_ 101 (List._∷_ 58 (List._∷_ 58 (List._∷_ 77 (List._∷_ 97 (List._∷_ 105 (List._∷_ 110 (List._∷_ 72 (List._∷_ 101 (List._∷_ 97 (List._∷_ 100 (List._∷_ 101 (List._∷_
+      114 List.[]))))))))))))))))))))))))) (Syntax.ttcons (Syntax.tcons (Syntax.tyStruct (List._∷_ 104 (List._∷_ 101 (List._∷_ 97 (List._∷_ 100 (List._∷_ 101 (List._∷_ 114 (List._∷_
+      58 (List._∷_ 58 (List._∷_ 112 (List._∷_ 97 (List._∷_ 114 (List._∷_ 115 (List._∷_ 101 (List._∷_ 58 (List._∷_ 58 (List._∷_ 77 (List._∷_ 97 (List._∷_ 105 (List._∷_ 110 (List._∷_
+      72 (List._∷_ 101 (List._∷_ 97 (List._∷_ 100 (List._∷_ 101 (List._∷_ 114 (List._∷_ 73 (List._∷_ 110 (List._∷_ 102 (List._∷_ 111 List.[])))))))))))))))))))))))))))))
+      (Syntax.tcons (Syntax.tyStruct (List._∷_ 116 (List._∷_ 121 (List._∷_ 112 (List._∷_ 101 (List._∷_ 115 (List._∷_ 58 (List._∷_ 58 (List._∷_ 67 (List._∷_ 111 (List._∷_ 100
+      (List._∷_ 101 (List._∷_ 115 (List._∷_ 116 (List._∷_ 114 (List._∷_ 101 (List._∷_ 97 (List._∷_ 109 (List._∷_ 79 (List._∷_ 102 (List._∷_ 102 (List._∷_ 115 (List._∷_ 101 (List._∷_
+      116 List.[]))))))))))))))))))))))) (Syntax.tcons (Syntax.tyInt Syntax.w64) Syntax.tnil)) (Syntax.tcons (Syntax.tyInt Syntax.w64) (Syntax.tcons (Syntax.tyInt Syntax.w64)
+      (Syntax.tcons (Syntax.tyInt Syntax.w64) Syntax.tnil))))) Syntax.tnil) (Syntax.ttcons (Syntax.tcons (Syntax.tyStruct (List._∷_ 116 (List._∷_ 121 (List._∷_ 112 (List._∷_ 101
+      (List._∷_ 115 (List._∷_ 58 (List._∷_ 58 (List._∷_ 82 (List._∷_ 101 (List._∷_ 102 (List._∷_ 117 (List._∷_ 115 (List._∷_ 97 (List._∷_ 108 List.[])))))))))))))) (Syntax.tcons
+      (Syntax.tyInt Syntax.w32) (Syntax.tcons (Syntax.tyInt Syntax.w64) Syntax.tnil))) Syntax.tnil) Syntax.ttnil))),
 ) (List._∷_ (
   9,
-  Rows.any-gone (Syntax.tyStruct (List._∷_ 38 (List._∷_ 91 (List._∷_ 93 List.[]))) (Syntax.tcons (Syntax.tyRef Syntax.erased Syntax.mut
-      LentTilePartEntry.pointee) (Syntax.tcons (Syntax.tyInt Syntax.w64) Syntax.tnil))),
+  Rows.any-gone (Syntax.tyRef Syntax.erased
+      Syntax.mut LentTilePartEntry.pointee),
 ) (List._∷_ (
   10,
+  Rows.any-gone (Syntax.tyStruct (List._∷_ 38 (List._∷_ 91 (List._∷_ 93 List.[]))) (Syntax.tcons (Syntax.tyRef Syntax.erased
+      Syntax.mut LentTilePartEntry.pointee) (Syntax.tcons (Syntax.tyInt Syntax.w64) Syntax.tnil))),
+) (List._∷_ (
+  11,
   Rows.any-gone (Syntax.tyRef Syntax.erased Syntax.mut (Syntax.tyInt
       Syntax.w8)),
 ) (List._∷_ (
-  11,
+  12,
   Rows.any-gone (Syntax.tyStruct (List._∷_ 38 (List._∷_ 91 (List._∷_ 93 List.[]))) (Syntax.tcons (Syntax.tyRef Syntax.erased Syntax.mut (Syntax.tyInt
       Syntax.w8)) (Syntax.tcons (Syntax.tyInt Syntax.w64) Syntax.tnil))),
-) (List._∷_ (12, Rows.any-gone (Syntax.tyRef Syntax.erased Syntax.mut (Syntax.tyInt Syntax.w64))) (List._∷_
-    (13, Rows.any-gone (Syntax.tyRef Syntax.erased Syntax.mut (Syntax.tyInt Syntax.w64))) (List._∷_ (
-      14,
+) (List._∷_ (13, Rows.any-gone (Syntax.tyRef Syntax.erased Syntax.mut (Syntax.tyInt Syntax.w64))) (List._∷_
+    (14, Rows.any-gone (Syntax.tyRef Syntax.erased Syntax.mut (Syntax.tyInt Syntax.w64))) (List._∷_ (
+      15,
       Rows.any-gone (Syntax.tyRef Syntax.erased Syntax.mut (Syntax.tyInt
           Syntax.w64)),
-    ) List.[]))))))))))))))
-
-abbrev pub t2 : List.List Row.Entry
-t2 = List._∷_ (0, Rows.any-gone (Syntax.tyInt Syntax.w32)) (List._∷_ (
-  1,
-  Rows.sslice (Referent.rtF (Referent.fInt Syntax.w8)) (Syntax.tyRef (Syntax.named 0) Syntax.imm
-      (Syntax.tyInt Syntax.w8)) 0,
-) (List._∷_ (2, Relend.mslice-owed LentTilePartEntry.row (Syntax.tyRef (Syntax.named 1) Syntax.mut LentTilePartEntry.pointee) 1 6 Row.off) (List._∷_
-    (3, Mut.mslice (Referent.rtF (Referent.fInt Syntax.w8)) (Syntax.tyRef (Syntax.named 2) Syntax.mut (Syntax.tyInt Syntax.w8)) 2) (List._∷_ (
-      4,
-      Rows.mref (Referent.rtF
-          (Referent.fInt Syntax.w64)) (Syntax.tyRef (Syntax.named 3) Syntax.mut (Syntax.tyInt Syntax.w64)) 3,
-    ) (List._∷_ (
-      5,
-      Rows.mref (Referent.rtF (Referent.fInt Syntax.w64))
-          (Syntax.tyRef (Syntax.named 4) Syntax.mut (Syntax.tyInt Syntax.w64)) 4,
-    ) (List._∷_ (
-      6,
-      Rows.mref (Referent.rtF (Referent.fInt Syntax.w64)) (Syntax.tyRef (Syntax.named 5)
-          Syntax.mut (Syntax.tyInt Syntax.w64)) 5,
-    ) (List._∷_ (
-      7,
-      Rows.any-gone (Syntax.tyEnum (List._∷_ 104 (List._∷_ 101 (List._∷_ 97 (List._∷_ 100 (List._∷_ 101 (List._∷_ 114 (List._∷_
-          58 (List._∷_ 58 (List._∷_ 112 (List._∷_ 97 (List._∷_ 114 (List._∷_ 115 (List._∷_ 101 (List._∷_ 58 (List._∷_ 58 (List._∷_ 77 (List._∷_ 97 (List._∷_ 105 (List._∷_ 110 (List._∷_
-          72 (List._∷_ 101 (List._∷_ 97 (List._∷_ 100 (List._∷_ 101 (List._∷_ 114 List.[]))))))))))))))))))))))))) (Syntax.ttcons (Syntax.tcons (Syntax.tyStruct (List._∷_ 104 (List._∷_
-          101 (List._∷_ 97 (List._∷_ 100 (List._∷_ 101 (List._∷_ 114 (List._∷_ 58 (List._∷_ 58 (List._∷_ 112 (List._∷_ 97 (List._∷_ 114 (List._∷_ 115 (List._∷_ 101 (List._∷_ 58 (List._∷_
-          58 (List._∷_ 77 (List._∷_ 97 (List._∷_ 105 (List._∷_ 110 (List._∷_ 72 (List._∷_ 101 (List._∷_ 97 (List._∷_ 100 (List._∷_ 101 (List._∷_ 114 (List._∷_ 73 (List._∷_ 110 (List._∷_
-          102 (List._∷_ 111 List.[]))))))))))))))))))))))))))))) (Syntax.tcons (Syntax.tyStruct (List._∷_ 116 (List._∷_ 121 (List._∷_ 112 (List._∷_ 101 (List._∷_ 115 (List._∷_ 58
-          (List._∷_ 58 (List._∷_ 67 (List._∷_ 111 (List._∷_ 100 (List._∷_ 101 (List._∷_ 115 (List._∷_ 116 (List._∷_ 114 (List._∷_ 101 (List._∷_ 97 (List._∷_ 109 (List._∷_ 79 (List._∷_
-          102 (List._∷_ 102 (List._∷_ 115 (List._∷_ 101 (List._∷_ 116 List.[]))))))))))))))))))))))) (Syntax.tcons (Syntax.tyInt Syntax.w64) Syntax.tnil)) (Syntax.tcons (Syntax.tyInt
-          Syntax.w64) (Syntax.tcons (Syntax.tyInt Syntax.w64) Syntax.tnil)))) Syntax.tnil) (Syntax.ttcons (Syntax.tcons (Syntax.tyStruct (List._∷_ 116 (List._∷_ 121 (List._∷_ 112
-          (List._∷_ 101 (List._∷_ 115 (List._∷_ 58 (List._∷_ 58 (List._∷_ 82 (List._∷_ 101 (List._∷_ 102 (List._∷_ 117 (List._∷_ 115 (List._∷_ 97 (List._∷_ 108 List.[]))))))))))))))
-          (Syntax.tcons (Syntax.tyInt Syntax.w32) (Syntax.tcons (Syntax.tyInt Syntax.w64) Syntax.tnil))) Syntax.tnil) Syntax.ttnil))),
-    ) (List._∷_ (
-      8,
-      Relend.msptr LentTilePartEntry.row
-          (Syntax.tyRef Syntax.erased Syntax.mut LentTilePartEntry.pointee) 6,
-    ) (List._∷_ (
-      9,
-      Rows.any-gone (Syntax.tyStruct (List._∷_ 38 (List._∷_ 91 (List._∷_ 93 List.[])))
-          (Syntax.tcons (Syntax.tyRef Syntax.erased Syntax.mut LentTilePartEntry.pointee) (Syntax.tcons (Syntax.tyInt Syntax.w64) Syntax.tnil))),
-    ) (List._∷_ (
-      10,
-      Rows.any-gone
-          (Syntax.tyRef Syntax.erased Syntax.mut (Syntax.tyInt Syntax.w8)),
-    ) (List._∷_ (
-      11,
-      Rows.any-gone (Syntax.tyStruct (List._∷_ 38 (List._∷_ 91 (List._∷_ 93 List.[]))) (Syntax.tcons
-          (Syntax.tyRef Syntax.erased Syntax.mut (Syntax.tyInt Syntax.w8)) (Syntax.tcons (Syntax.tyInt Syntax.w64) Syntax.tnil))),
-    ) (List._∷_ (
-      12,
-      Rows.any-gone (Syntax.tyRef
-          Syntax.erased Syntax.mut (Syntax.tyInt Syntax.w64)),
-    ) (List._∷_ (13, Rows.any-gone (Syntax.tyRef Syntax.erased Syntax.mut (Syntax.tyInt Syntax.w64))) (List._∷_ (
-      14,
-      Rows.any-gone (Syntax.tyRef Syntax.erased Syntax.mut (Syntax.tyInt Syntax.w64)),
-    ) List.[]))))))))))))))
+    ) List.[])))))))))))))))
 
 abbrev pub t3 : List.List Row.Entry
 t3 = List._∷_ (0, Rows.any-gone (Syntax.tyInt Syntax.w32)) (List._∷_ (
   1,
   Rows.sslice (Referent.rtF (Referent.fInt Syntax.w8)) (Syntax.tyRef (Syntax.named 0) Syntax.imm
       (Syntax.tyInt Syntax.w8)) 0,
-) (List._∷_ (2, Relend.mslice-owed LentTilePartEntry.row (Syntax.tyRef (Syntax.named 1) Syntax.mut LentTilePartEntry.pointee) 1 6 Row.off) (List._∷_
+) (List._∷_ (2, Relend.mslice-owed LentTilePartEntry.row (Syntax.tyRef (Syntax.named 1) Syntax.mut LentTilePartEntry.pointee) 1 7 Row.off) (List._∷_
     (3, Mut.mslice (Referent.rtF (Referent.fInt Syntax.w8)) (Syntax.tyRef (Syntax.named 2) Syntax.mut (Syntax.tyInt Syntax.w8)) 2) (List._∷_ (
       4,
       Rows.mref (Referent.rtF
@@ -392,87 +348,107 @@ t3 = List._∷_ (0, Rows.any-gone (Syntax.tyInt Syntax.w32)) (List._∷_ (
           Syntax.mut (Syntax.tyInt Syntax.w64)) 5,
     ) (List._∷_ (
       7,
-      Rows.any-gone (Syntax.tyEnum (List._∷_ 104 (List._∷_ 101 (List._∷_ 97 (List._∷_ 100 (List._∷_ 101 (List._∷_ 114 (List._∷_
-          58 (List._∷_ 58 (List._∷_ 112 (List._∷_ 97 (List._∷_ 114 (List._∷_ 115 (List._∷_ 101 (List._∷_ 58 (List._∷_ 58 (List._∷_ 77 (List._∷_ 97 (List._∷_ 105 (List._∷_ 110 (List._∷_
-          72 (List._∷_ 101 (List._∷_ 97 (List._∷_ 100 (List._∷_ 101 (List._∷_ 114 List.[]))))))))))))))))))))))))) (Syntax.ttcons (Syntax.tcons (Syntax.tyStruct (List._∷_ 104 (List._∷_
-          101 (List._∷_ 97 (List._∷_ 100 (List._∷_ 101 (List._∷_ 114 (List._∷_ 58 (List._∷_ 58 (List._∷_ 112 (List._∷_ 97 (List._∷_ 114 (List._∷_ 115 (List._∷_ 101 (List._∷_ 58 (List._∷_
-          58 (List._∷_ 77 (List._∷_ 97 (List._∷_ 105 (List._∷_ 110 (List._∷_ 72 (List._∷_ 101 (List._∷_ 97 (List._∷_ 100 (List._∷_ 101 (List._∷_ 114 (List._∷_ 73 (List._∷_ 110 (List._∷_
-          102 (List._∷_ 111 List.[]))))))))))))))))))))))))))))) (Syntax.tcons (Syntax.tyStruct (List._∷_ 116 (List._∷_ 121 (List._∷_ 112 (List._∷_ 101 (List._∷_ 115 (List._∷_ 58
-          (List._∷_ 58 (List._∷_ 67 (List._∷_ 111 (List._∷_ 100 (List._∷_ 101 (List._∷_ 115 (List._∷_ 116 (List._∷_ 114 (List._∷_ 101 (List._∷_ 97 (List._∷_ 109 (List._∷_ 79 (List._∷_
-          102 (List._∷_ 102 (List._∷_ 115 (List._∷_ 101 (List._∷_ 116 List.[]))))))))))))))))))))))) (Syntax.tcons (Syntax.tyInt Syntax.w64) Syntax.tnil)) (Syntax.tcons (Syntax.tyInt
-          Syntax.w64) (Syntax.tcons (Syntax.tyInt Syntax.w64) Syntax.tnil)))) Syntax.tnil) (Syntax.ttcons (Syntax.tcons (Syntax.tyStruct (List._∷_ 116 (List._∷_ 121 (List._∷_ 112
-          (List._∷_ 101 (List._∷_ 115 (List._∷_ 58 (List._∷_ 58 (List._∷_ 82 (List._∷_ 101 (List._∷_ 102 (List._∷_ 117 (List._∷_ 115 (List._∷_ 97 (List._∷_ 108 List.[]))))))))))))))
-          (Syntax.tcons (Syntax.tyInt Syntax.w32) (Syntax.tcons (Syntax.tyInt Syntax.w64) Syntax.tnil))) Syntax.tnil) Syntax.ttnil))),
+      Rows.mref (Referent.rtF (Referent.fInt Syntax.w64)) (Syntax.tyRef (Syntax.named 6) Syntax.mut (Syntax.tyInt Syntax.w64))
+          6,
     ) (List._∷_ (
       8,
-      Rows.any-gone (Syntax.tyRef
-          Syntax.erased Syntax.mut LentTilePartEntry.pointee),
-    ) (List._∷_ (9, Mut.mslice LentTilePartEntry.row (Syntax.tyRef Syntax.erased Syntax.mut LentTilePartEntry.pointee) 6)
-    (List._∷_ (10, Rows.any-gone (Syntax.tyRef Syntax.erased Syntax.mut (Syntax.tyInt Syntax.w8))) (List._∷_ (
+      Rows.any-gone (Syntax.tyEnum (List._∷_ 104 (List._∷_ 101 (List._∷_ 97 (List._∷_ 100 (List._∷_ 101 (List._∷_ 114 (List._∷_ 58 (List._∷_ 58 (List._∷_ 112
+          (List._∷_ 97 (List._∷_ 114 (List._∷_ 115 (List._∷_ 101 (List._∷_ 58 (List._∷_ 58 (List._∷_ 77 (List._∷_ 97 (List._∷_ 105 (List._∷_ 110 (List._∷_ 72 (List._∷_ 101 (List._∷_ 97
+          (List._∷_ 100 (List._∷_ 101 (List._∷_ 114 List.[]))))))))))))))))))))))))) (Syntax.ttcons (Syntax.tcons (Syntax.tyStruct (List._∷_ 104 (List._∷_ 101 (List._∷_ 97 (List._∷_ 100
+          (List._∷_ 101 (List._∷_ 114 (List._∷_ 58 (List._∷_ 58 (List._∷_ 112 (List._∷_ 97 (List._∷_ 114 (List._∷_ 115 (List._∷_ 101 (List._∷_ 58 (List._∷_ 58 (List._∷_ 77 (List._∷_ 97
+          (List._∷_ 105 (List._∷_ 110 (List._∷_ 72 (List._∷_ 101 (List._∷_ 97 (List._∷_ 100 (List._∷_ 101 (List._∷_ 114 (List._∷_ 73 (List._∷_ 110 (List._∷_ 102 (List._∷_ 111
+          List.[]))))))))))))))))))))))))))))) (Syntax.tcons (Syntax.tyStruct (List._∷_ 116 (List._∷_ 121 (List._∷_ 112 (List._∷_ 101 (List._∷_ 115 (List._∷_ 58 (List._∷_ 58 (List._∷_ 67
+          (List._∷_ 111 (List._∷_ 100 (List._∷_ 101 (List._∷_ 115 (List._∷_ 116 (List._∷_ 114 (List._∷_ 101 (List._∷_ 97 (List._∷_ 109 (List._∷_ 79 (List._∷_ 102 (List._∷_ 102 (List._∷_
+          115 (List._∷_ 101 (List._∷_ 116 List.[]))))))))))))))))))))))) (Syntax.tcons (Syntax.tyInt Syntax.w64) Syntax.tnil)) (Syntax.tcons (Syntax.tyInt Syntax.w64) (Syntax.tcons
+          (Syntax.tyInt Syntax.w64) (Syntax.tcons (Syntax.tyInt Syntax.w64) Syntax.tnil))))) Syntax.tnil) (Syntax.ttcons (Syntax.tcons (Syntax.tyStruct (List._∷_ 116 (List._∷_ 121
+          (List._∷_ 112 (List._∷_ 101 (List._∷_ 115 (List._∷_ 58 (List._∷_ 58 (List._∷_ 82 (List._∷_ 101 (List._∷_ 102 (List._∷_ 117 (List._∷_ 115 (List._∷_ 97 (List._∷_ 108
+          List.[])))))))))))))) (Syntax.tcons (Syntax.tyInt Syntax.w32) (Syntax.tcons (Syntax.tyInt Syntax.w64) Syntax.tnil))) Syntax.tnil) Syntax.ttnil))),
+    ) (List._∷_ (
+      9,
+      Relend.msptr
+          LentTilePartEntry.row (Syntax.tyRef Syntax.erased Syntax.mut LentTilePartEntry.pointee) 7,
+    ) (List._∷_ (
+      10,
+      Rows.any-gone (Syntax.tyStruct (List._∷_ 38 (List._∷_ 91 (List._∷_ 93
+          List.[]))) (Syntax.tcons (Syntax.tyRef Syntax.erased Syntax.mut LentTilePartEntry.pointee) (Syntax.tcons (Syntax.tyInt Syntax.w64) Syntax.tnil))),
+    ) (List._∷_ (
       11,
-      Rows.any-gone (Syntax.tyStruct (List._∷_ 38 (List._∷_ 91 (List._∷_
-          93 List.[]))) (Syntax.tcons (Syntax.tyRef Syntax.erased Syntax.mut (Syntax.tyInt Syntax.w8)) (Syntax.tcons (Syntax.tyInt Syntax.w64) Syntax.tnil))),
+      Rows.any-gone
+          (Syntax.tyRef Syntax.erased Syntax.mut (Syntax.tyInt Syntax.w8)),
     ) (List._∷_ (
       12,
+      Rows.any-gone (Syntax.tyStruct (List._∷_ 38 (List._∷_ 91 (List._∷_ 93 List.[]))) (Syntax.tcons
+          (Syntax.tyRef Syntax.erased Syntax.mut (Syntax.tyInt Syntax.w8)) (Syntax.tcons (Syntax.tyInt Syntax.w64) Syntax.tnil))),
+    ) (List._∷_ (
+      13,
+      Rows.any-gone (Syntax.tyRef
+          Syntax.erased Syntax.mut (Syntax.tyInt Syntax.w64)),
+    ) (List._∷_ (14, Rows.any-gone (Syntax.tyRef Syntax.erased Syntax.mut (Syntax.tyInt Syntax.w64))) (List._∷_ (
+      15,
       Rows.any-gone (Syntax.tyRef Syntax.erased Syntax.mut (Syntax.tyInt Syntax.w64)),
-    ) (List._∷_ (13, Rows.any-gone (Syntax.tyRef Syntax.erased Syntax.mut (Syntax.tyInt Syntax.w64)))
-    (List._∷_ (14, Rows.any-gone (Syntax.tyRef Syntax.erased Syntax.mut (Syntax.tyInt Syntax.w64))) List.[]))))))))))))))
+    ) List.[])))))))))))))))
 
 abbrev pub t4 : List.List Row.Entry
 t4 = List._∷_ (0, Rows.any-gone (Syntax.tyInt Syntax.w32)) (List._∷_ (
   1,
   Rows.sslice (Referent.rtF (Referent.fInt Syntax.w8)) (Syntax.tyRef (Syntax.named 0) Syntax.imm
       (Syntax.tyInt Syntax.w8)) 0,
-) (List._∷_ (2, Relend.mslice-owed LentTilePartEntry.row (Syntax.tyRef (Syntax.named 1) Syntax.mut LentTilePartEntry.pointee) 1 6 Row.off) (List._∷_
-    (3, Relend.mslice-owed (Referent.rtF (Referent.fInt Syntax.w8)) (Syntax.tyRef (Syntax.named 2) Syntax.mut (Syntax.tyInt Syntax.w8)) 2 7 Row.off) (List._∷_ (
+) (List._∷_ (2, Relend.mslice-owed LentTilePartEntry.row (Syntax.tyRef (Syntax.named 1) Syntax.mut LentTilePartEntry.pointee) 1 7 Row.off) (List._∷_
+    (3, Mut.mslice (Referent.rtF (Referent.fInt Syntax.w8)) (Syntax.tyRef (Syntax.named 2) Syntax.mut (Syntax.tyInt Syntax.w8)) 2) (List._∷_ (
       4,
-      Rows.mref
-          (Referent.rtF (Referent.fInt Syntax.w64)) (Syntax.tyRef (Syntax.named 3) Syntax.mut (Syntax.tyInt Syntax.w64)) 3,
+      Rows.mref (Referent.rtF
+          (Referent.fInt Syntax.w64)) (Syntax.tyRef (Syntax.named 3) Syntax.mut (Syntax.tyInt Syntax.w64)) 3,
     ) (List._∷_ (
       5,
-      Rows.mref (Referent.rtF (Referent.fInt
-          Syntax.w64)) (Syntax.tyRef (Syntax.named 4) Syntax.mut (Syntax.tyInt Syntax.w64)) 4,
+      Rows.mref (Referent.rtF (Referent.fInt Syntax.w64))
+          (Syntax.tyRef (Syntax.named 4) Syntax.mut (Syntax.tyInt Syntax.w64)) 4,
     ) (List._∷_ (
       6,
-      Rows.mref (Referent.rtF (Referent.fInt Syntax.w64)) (Syntax.tyRef
-          (Syntax.named 5) Syntax.mut (Syntax.tyInt Syntax.w64)) 5,
+      Rows.mref (Referent.rtF (Referent.fInt Syntax.w64)) (Syntax.tyRef (Syntax.named 5)
+          Syntax.mut (Syntax.tyInt Syntax.w64)) 5,
     ) (List._∷_ (
       7,
-      Rows.any-gone (Syntax.tyEnum (List._∷_ 104 (List._∷_ 101 (List._∷_ 97 (List._∷_ 100 (List._∷_ 101
-          (List._∷_ 114 (List._∷_ 58 (List._∷_ 58 (List._∷_ 112 (List._∷_ 97 (List._∷_ 114 (List._∷_ 115 (List._∷_ 101 (List._∷_ 58 (List._∷_ 58 (List._∷_ 77 (List._∷_ 97 (List._∷_ 105
-          (List._∷_ 110 (List._∷_ 72 (List._∷_ 101 (List._∷_ 97 (List._∷_ 100 (List._∷_ 101 (List._∷_ 114 List.[]))))))))))))))))))))))))) (Syntax.ttcons (Syntax.tcons (Syntax.tyStruct
-          (List._∷_ 104 (List._∷_ 101 (List._∷_ 97 (List._∷_ 100 (List._∷_ 101 (List._∷_ 114 (List._∷_ 58 (List._∷_ 58 (List._∷_ 112 (List._∷_ 97 (List._∷_ 114 (List._∷_ 115 (List._∷_
-          101 (List._∷_ 58 (List._∷_ 58 (List._∷_ 77 (List._∷_ 97 (List._∷_ 105 (List._∷_ 110 (List._∷_ 72 (List._∷_ 101 (List._∷_ 97 (List._∷_ 100 (List._∷_ 101 (List._∷_ 114 (List._∷_
-          73 (List._∷_ 110 (List._∷_ 102 (List._∷_ 111 List.[]))))))))))))))))))))))))))))) (Syntax.tcons (Syntax.tyStruct (List._∷_ 116 (List._∷_ 121 (List._∷_ 112 (List._∷_ 101
-          (List._∷_ 115 (List._∷_ 58 (List._∷_ 58 (List._∷_ 67 (List._∷_ 111 (List._∷_ 100 (List._∷_ 101 (List._∷_ 115 (List._∷_ 116 (List._∷_ 114 (List._∷_ 101 (List._∷_ 97 (List._∷_
-          109 (List._∷_ 79 (List._∷_ 102 (List._∷_ 102 (List._∷_ 115 (List._∷_ 101 (List._∷_ 116 List.[]))))))))))))))))))))))) (Syntax.tcons (Syntax.tyInt Syntax.w64) Syntax.tnil))
-          (Syntax.tcons (Syntax.tyInt Syntax.w64) (Syntax.tcons (Syntax.tyInt Syntax.w64) Syntax.tnil)))) Syntax.tnil) (Syntax.ttcons (Syntax.tcons (Syntax.tyStruct (List._∷_ 116
-          (List._∷_ 121 (List._∷_ 112 (List._∷_ 101 (List._∷_ 115 (List._∷_ 58 (List._∷_ 58 (List._∷_ 82 (List._∷_ 101 (List._∷_ 102 (List._∷_ 117 (List._∷_ 115 (List._∷_ 97 (List._∷_
-          108 List.[])))))))))))))) (Syntax.tcons (Syntax.tyInt Syntax.w32) (Syntax.tcons (Syntax.tyInt Syntax.w64) Syntax.tnil))) Syntax.tnil) Syntax.ttnil))),
+      Rows.mref (Referent.rtF (Referent.fInt Syntax.w64)) (Syntax.tyRef (Syntax.named 6) Syntax.mut (Syntax.tyInt Syntax.w64))
+          6,
     ) (List._∷_ (
       8,
-      Rows.any-gone (Syntax.tyRef Syntax.erased Syntax.mut LentTilePartEntry.pointee),
+      Rows.any-gone (Syntax.tyEnum (List._∷_ 104 (List._∷_ 101 (List._∷_ 97 (List._∷_ 100 (List._∷_ 101 (List._∷_ 114 (List._∷_ 58 (List._∷_ 58 (List._∷_ 112
+          (List._∷_ 97 (List._∷_ 114 (List._∷_ 115 (List._∷_ 101 (List._∷_ 58 (List._∷_ 58 (List._∷_ 77 (List._∷_ 97 (List._∷_ 105 (List._∷_ 110 (List._∷_ 72 (List._∷_ 101 (List._∷_ 97
+          (List._∷_ 100 (List._∷_ 101 (List._∷_ 114 List.[]))))))))))))))))))))))))) (Syntax.ttcons (Syntax.tcons (Syntax.tyStruct (List._∷_ 104 (List._∷_ 101 (List._∷_ 97 (List._∷_ 100
+          (List._∷_ 101 (List._∷_ 114 (List._∷_ 58 (List._∷_ 58 (List._∷_ 112 (List._∷_ 97 (List._∷_ 114 (List._∷_ 115 (List._∷_ 101 (List._∷_ 58 (List._∷_ 58 (List._∷_ 77 (List._∷_ 97
+          (List._∷_ 105 (List._∷_ 110 (List._∷_ 72 (List._∷_ 101 (List._∷_ 97 (List._∷_ 100 (List._∷_ 101 (List._∷_ 114 (List._∷_ 73 (List._∷_ 110 (List._∷_ 102 (List._∷_ 111
+          List.[]))))))))))))))))))))))))))))) (Syntax.tcons (Syntax.tyStruct (List._∷_ 116 (List._∷_ 121 (List._∷_ 112 (List._∷_ 101 (List._∷_ 115 (List._∷_ 58 (List._∷_ 58 (List._∷_ 67
+          (List._∷_ 111 (List._∷_ 100 (List._∷_ 101 (List._∷_ 115 (List._∷_ 116 (List._∷_ 114 (List._∷_ 101 (List._∷_ 97 (List._∷_ 109 (List._∷_ 79 (List._∷_ 102 (List._∷_ 102 (List._∷_
+          115 (List._∷_ 101 (List._∷_ 116 List.[]))))))))))))))))))))))) (Syntax.tcons (Syntax.tyInt Syntax.w64) Syntax.tnil)) (Syntax.tcons (Syntax.tyInt Syntax.w64) (Syntax.tcons
+          (Syntax.tyInt Syntax.w64) (Syntax.tcons (Syntax.tyInt Syntax.w64) Syntax.tnil))))) Syntax.tnil) (Syntax.ttcons (Syntax.tcons (Syntax.tyStruct (List._∷_ 116 (List._∷_ 121
+          (List._∷_ 112 (List._∷_ 101 (List._∷_ 115 (List._∷_ 58 (List._∷_ 58 (List._∷_ 82 (List._∷_ 101 (List._∷_ 102 (List._∷_ 117 (List._∷_ 115 (List._∷_ 97 (List._∷_ 108
+          List.[])))))))))))))) (Syntax.tcons (Syntax.tyInt Syntax.w32) (Syntax.tcons (Syntax.tyInt Syntax.w64) Syntax.tnil))) Syntax.tnil) Syntax.ttnil))),
     ) (List._∷_ (
       9,
+      Rows.any-gone
+          (Syntax.tyRef Syntax.erased Syntax.mut LentTilePartEntry.pointee),
+    ) (List._∷_ (
+      10,
       Mut.mslice LentTilePartEntry.row (Syntax.tyRef Syntax.erased Syntax.mut
-          LentTilePartEntry.pointee) 6,
-    ) (List._∷_ (10, Relend.msptr (Referent.rtF (Referent.fInt Syntax.w8)) (Syntax.tyRef Syntax.erased Syntax.mut (Syntax.tyInt Syntax.w8)) 7) (List._∷_ (
-      11,
-      Rows.any-gone (Syntax.tyStruct (List._∷_ 38 (List._∷_ 91 (List._∷_ 93 List.[]))) (Syntax.tcons (Syntax.tyRef Syntax.erased Syntax.mut (Syntax.tyInt Syntax.w8))
-          (Syntax.tcons (Syntax.tyInt Syntax.w64) Syntax.tnil))),
-    ) (List._∷_ (12, Rows.any-gone (Syntax.tyRef Syntax.erased Syntax.mut (Syntax.tyInt Syntax.w64))) (List._∷_ (
-      13,
-      Rows.any-gone (Syntax.tyRef Syntax.erased Syntax.mut (Syntax.tyInt Syntax.w64)),
-    ) (List._∷_ (14, Rows.any-gone (Syntax.tyRef Syntax.erased Syntax.mut (Syntax.tyInt Syntax.w64)))
-    List.[]))))))))))))))
+          LentTilePartEntry.pointee) 7,
+    ) (List._∷_ (11, Rows.any-gone (Syntax.tyRef Syntax.erased Syntax.mut (Syntax.tyInt Syntax.w8))) (List._∷_ (
+      12,
+      Rows.any-gone (Syntax.tyStruct
+          (List._∷_ 38 (List._∷_ 91 (List._∷_ 93 List.[]))) (Syntax.tcons (Syntax.tyRef Syntax.erased Syntax.mut (Syntax.tyInt Syntax.w8)) (Syntax.tcons (Syntax.tyInt Syntax.w64)
+          Syntax.tnil))),
+    ) (List._∷_ (13, Rows.any-gone (Syntax.tyRef Syntax.erased Syntax.mut (Syntax.tyInt Syntax.w64))) (List._∷_ (
+      14,
+      Rows.any-gone (Syntax.tyRef Syntax.erased
+          Syntax.mut (Syntax.tyInt Syntax.w64)),
+    ) (List._∷_ (15, Rows.any-gone (Syntax.tyRef Syntax.erased Syntax.mut (Syntax.tyInt Syntax.w64))) List.[])))))))))))))))
 
 abbrev pub t5 : List.List Row.Entry
 t5 = List._∷_ (0, Rows.any-gone (Syntax.tyInt Syntax.w32)) (List._∷_ (
   1,
   Rows.sslice (Referent.rtF (Referent.fInt Syntax.w8)) (Syntax.tyRef (Syntax.named 0) Syntax.imm
       (Syntax.tyInt Syntax.w8)) 0,
-) (List._∷_ (2, Relend.mslice-owed LentTilePartEntry.row (Syntax.tyRef (Syntax.named 1) Syntax.mut LentTilePartEntry.pointee) 1 6 Row.off) (List._∷_
-    (3, Relend.mslice-owed (Referent.rtF (Referent.fInt Syntax.w8)) (Syntax.tyRef (Syntax.named 2) Syntax.mut (Syntax.tyInt Syntax.w8)) 2 7 Row.off) (List._∷_ (
+) (List._∷_ (2, Relend.mslice-owed LentTilePartEntry.row (Syntax.tyRef (Syntax.named 1) Syntax.mut LentTilePartEntry.pointee) 1 7 Row.off) (List._∷_
+    (3, Relend.mslice-owed (Referent.rtF (Referent.fInt Syntax.w8)) (Syntax.tyRef (Syntax.named 2) Syntax.mut (Syntax.tyInt Syntax.w8)) 2 8 Row.off) (List._∷_ (
       4,
       Rows.mref
           (Referent.rtF (Referent.fInt Syntax.w64)) (Syntax.tyRef (Syntax.named 3) Syntax.mut (Syntax.tyInt Syntax.w64)) 3,
@@ -486,45 +462,43 @@ t5 = List._∷_ (0, Rows.any-gone (Syntax.tyInt Syntax.w32)) (List._∷_ (
           (Syntax.named 5) Syntax.mut (Syntax.tyInt Syntax.w64)) 5,
     ) (List._∷_ (
       7,
-      Rows.any-gone (Syntax.tyEnum (List._∷_ 104 (List._∷_ 101 (List._∷_ 97 (List._∷_ 100 (List._∷_ 101
-          (List._∷_ 114 (List._∷_ 58 (List._∷_ 58 (List._∷_ 112 (List._∷_ 97 (List._∷_ 114 (List._∷_ 115 (List._∷_ 101 (List._∷_ 58 (List._∷_ 58 (List._∷_ 77 (List._∷_ 97 (List._∷_ 105
-          (List._∷_ 110 (List._∷_ 72 (List._∷_ 101 (List._∷_ 97 (List._∷_ 100 (List._∷_ 101 (List._∷_ 114 List.[]))))))))))))))))))))))))) (Syntax.ttcons (Syntax.tcons (Syntax.tyStruct
-          (List._∷_ 104 (List._∷_ 101 (List._∷_ 97 (List._∷_ 100 (List._∷_ 101 (List._∷_ 114 (List._∷_ 58 (List._∷_ 58 (List._∷_ 112 (List._∷_ 97 (List._∷_ 114 (List._∷_ 115 (List._∷_
-          101 (List._∷_ 58 (List._∷_ 58 (List._∷_ 77 (List._∷_ 97 (List._∷_ 105 (List._∷_ 110 (List._∷_ 72 (List._∷_ 101 (List._∷_ 97 (List._∷_ 100 (List._∷_ 101 (List._∷_ 114 (List._∷_
-          73 (List._∷_ 110 (List._∷_ 102 (List._∷_ 111 List.[]))))))))))))))))))))))))))))) (Syntax.tcons (Syntax.tyStruct (List._∷_ 116 (List._∷_ 121 (List._∷_ 112 (List._∷_ 101
-          (List._∷_ 115 (List._∷_ 58 (List._∷_ 58 (List._∷_ 67 (List._∷_ 111 (List._∷_ 100 (List._∷_ 101 (List._∷_ 115 (List._∷_ 116 (List._∷_ 114 (List._∷_ 101 (List._∷_ 97 (List._∷_
-          109 (List._∷_ 79 (List._∷_ 102 (List._∷_ 102 (List._∷_ 115 (List._∷_ 101 (List._∷_ 116 List.[]))))))))))))))))))))))) (Syntax.tcons (Syntax.tyInt Syntax.w64) Syntax.tnil))
-          (Syntax.tcons (Syntax.tyInt Syntax.w64) (Syntax.tcons (Syntax.tyInt Syntax.w64) Syntax.tnil)))) Syntax.tnil) (Syntax.ttcons (Syntax.tcons (Syntax.tyStruct (List._∷_ 116
-          (List._∷_ 121 (List._∷_ 112 (List._∷_ 101 (List._∷_ 115 (List._∷_ 58 (List._∷_ 58 (List._∷_ 82 (List._∷_ 101 (List._∷_ 102 (List._∷_ 117 (List._∷_ 115 (List._∷_ 97 (List._∷_
-          108 List.[])))))))))))))) (Syntax.tcons (Syntax.tyInt Syntax.w32) (Syntax.tcons (Syntax.tyInt Syntax.w64) Syntax.tnil))) Syntax.tnil) Syntax.ttnil))),
+      Rows.mref (Referent.rtF (Referent.fInt Syntax.w64)) (Syntax.tyRef (Syntax.named 6) Syntax.mut
+          (Syntax.tyInt Syntax.w64)) 6,
     ) (List._∷_ (
       8,
-      Rows.any-gone (Syntax.tyRef Syntax.erased Syntax.mut LentTilePartEntry.pointee),
-    ) (List._∷_ (
-      9,
+      Rows.any-gone (Syntax.tyEnum (List._∷_ 104 (List._∷_ 101 (List._∷_ 97 (List._∷_ 100 (List._∷_ 101 (List._∷_ 114 (List._∷_ 58
+          (List._∷_ 58 (List._∷_ 112 (List._∷_ 97 (List._∷_ 114 (List._∷_ 115 (List._∷_ 101 (List._∷_ 58 (List._∷_ 58 (List._∷_ 77 (List._∷_ 97 (List._∷_ 105 (List._∷_ 110 (List._∷_ 72
+          (List._∷_ 101 (List._∷_ 97 (List._∷_ 100 (List._∷_ 101 (List._∷_ 114 List.[]))))))))))))))))))))))))) (Syntax.ttcons (Syntax.tcons (Syntax.tyStruct (List._∷_ 104 (List._∷_ 101
+          (List._∷_ 97 (List._∷_ 100 (List._∷_ 101 (List._∷_ 114 (List._∷_ 58 (List._∷_ 58 (List._∷_ 112 (List._∷_ 97 (List._∷_ 114 (List._∷_ 115 (List._∷_ 101 (List._∷_ 58 (List._∷_ 58
+          (List._∷_ 77 (List._∷_ 97 (List._∷_ 105 (List._∷_ 110 (List._∷_ 72 (List._∷_ 101 (List._∷_ 97 (List._∷_ 100 (List._∷_ 101 (List._∷_ 114 (List._∷_ 73 (List._∷_ 110 (List._∷_ 102
+          (List._∷_ 111 List.[]))))))))))))))))))))))))))))) (Syntax.tcons (Syntax.tyStruct (List._∷_ 116 (List._∷_ 121 (List._∷_ 112 (List._∷_ 101 (List._∷_ 115 (List._∷_ 58 (List._∷_
+          58 (List._∷_ 67 (List._∷_ 111 (List._∷_ 100 (List._∷_ 101 (List._∷_ 115 (List._∷_ 116 (List._∷_ 114 (List._∷_ 101 (List._∷_ 97 (List._∷_ 109 (List._∷_ 79 (List._∷_ 102
+          (List._∷_ 102 (List._∷_ 115 (List._∷_ 101 (List._∷_ 116 List.[]))))))))))))))))))))))) (Syntax.tcons (Syntax.tyInt Syntax.w64) Syntax.tnil)) (Syntax.tcons (Syntax.tyInt
+          Syntax.w64) (Syntax.tcons (Syntax.tyInt Syntax.w64) (Syntax.tcons (Syntax.tyInt Syntax.w64) Syntax.tnil))))) Syntax.tnil) (Syntax.ttcons (Syntax.tcons (Syntax.tyStruct
+          (List._∷_ 116 (List._∷_ 121 (List._∷_ 112 (List._∷_ 101 (List._∷_ 115 (List._∷_ 58 (List._∷_ 58 (List._∷_ 82 (List._∷_ 101 (List._∷_ 102 (List._∷_ 117 (List._∷_ 115 (List._∷_
+          97 (List._∷_ 108 List.[])))))))))))))) (Syntax.tcons (Syntax.tyInt Syntax.w32) (Syntax.tcons (Syntax.tyInt Syntax.w64) Syntax.tnil))) Syntax.tnil) Syntax.ttnil))),
+    ) (List._∷_
+    (9, Rows.any-gone (Syntax.tyRef Syntax.erased Syntax.mut LentTilePartEntry.pointee)) (List._∷_ (
+      10,
       Mut.mslice LentTilePartEntry.row (Syntax.tyRef Syntax.erased Syntax.mut
-          LentTilePartEntry.pointee) 6,
-    ) (List._∷_ (10, Rows.any-gone (Syntax.tyRef Syntax.erased Syntax.mut (Syntax.tyInt Syntax.w8))) (List._∷_ (
-      11,
-      Mut.mslice (Referent.rtF
-          (Referent.fInt Syntax.w8)) (Syntax.tyRef Syntax.erased Syntax.mut (Syntax.tyInt Syntax.w8)) 7,
-    ) (List._∷_ (
+          LentTilePartEntry.pointee) 7,
+    ) (List._∷_ (11, Relend.msptr (Referent.rtF (Referent.fInt Syntax.w8)) (Syntax.tyRef Syntax.erased Syntax.mut (Syntax.tyInt Syntax.w8)) 8) (List._∷_ (
       12,
-      Rows.any-gone (Syntax.tyRef Syntax.erased Syntax.mut (Syntax.tyInt
-          Syntax.w64)),
+      Rows.any-gone (Syntax.tyStruct (List._∷_ 38 (List._∷_ 91 (List._∷_ 93 List.[]))) (Syntax.tcons (Syntax.tyRef Syntax.erased Syntax.mut (Syntax.tyInt Syntax.w8))
+          (Syntax.tcons (Syntax.tyInt Syntax.w64) Syntax.tnil))),
     ) (List._∷_ (13, Rows.any-gone (Syntax.tyRef Syntax.erased Syntax.mut (Syntax.tyInt Syntax.w64))) (List._∷_ (
       14,
-      Rows.any-gone (Syntax.tyRef Syntax.erased
-          Syntax.mut (Syntax.tyInt Syntax.w64)),
-    ) List.[]))))))))))))))
+      Rows.any-gone (Syntax.tyRef Syntax.erased Syntax.mut (Syntax.tyInt Syntax.w64)),
+    ) (List._∷_ (15, Rows.any-gone (Syntax.tyRef Syntax.erased Syntax.mut (Syntax.tyInt Syntax.w64)))
+    List.[])))))))))))))))
 
 abbrev pub t6 : List.List Row.Entry
 t6 = List._∷_ (0, Rows.any-gone (Syntax.tyInt Syntax.w32)) (List._∷_ (
   1,
   Rows.sslice (Referent.rtF (Referent.fInt Syntax.w8)) (Syntax.tyRef (Syntax.named 0) Syntax.imm
       (Syntax.tyInt Syntax.w8)) 0,
-) (List._∷_ (2, Relend.mslice-owed LentTilePartEntry.row (Syntax.tyRef (Syntax.named 1) Syntax.mut LentTilePartEntry.pointee) 1 6 Row.off) (List._∷_
-    (3, Relend.mslice-owed (Referent.rtF (Referent.fInt Syntax.w8)) (Syntax.tyRef (Syntax.named 2) Syntax.mut (Syntax.tyInt Syntax.w8)) 2 7 Row.off) (List._∷_ (
+) (List._∷_ (2, Relend.mslice-owed LentTilePartEntry.row (Syntax.tyRef (Syntax.named 1) Syntax.mut LentTilePartEntry.pointee) 1 7 Row.off) (List._∷_
+    (3, Relend.mslice-owed (Referent.rtF (Referent.fInt Syntax.w8)) (Syntax.tyRef (Syntax.named 2) Syntax.mut (Syntax.tyInt Syntax.w8)) 2 8 Row.off) (List._∷_ (
       4,
       Rows.mref
           (Referent.rtF (Referent.fInt Syntax.w64)) (Syntax.tyRef (Syntax.named 3) Syntax.mut (Syntax.tyInt Syntax.w64)) 3,
@@ -536,31 +510,90 @@ t6 = List._∷_ (0, Rows.any-gone (Syntax.tyInt Syntax.w32)) (List._∷_ (
       6,
       Rows.mref (Referent.rtF (Referent.fInt Syntax.w64)) (Syntax.tyRef
           (Syntax.named 5) Syntax.mut (Syntax.tyInt Syntax.w64)) 5,
-    ) (List._∷_ (7, Rows.whole (Declared.row MainHeader.the-type)) (List._∷_ (
-      8,
-      Rows.any-gone (Syntax.tyRef Syntax.erased
-          Syntax.mut LentTilePartEntry.pointee),
-    ) (List._∷_ (9, Mut.msleft LentTilePartEntry.row (Syntax.tyRef Syntax.erased Syntax.mut LentTilePartEntry.pointee)) (List._∷_ (
-      10,
-      Rows.any-gone (Syntax.tyRef Syntax.erased Syntax.mut (Syntax.tyInt Syntax.w8)),
     ) (List._∷_ (
-      11,
-      Mut.msleft (Referent.rtF (Referent.fInt Syntax.w8)) (Syntax.tyRef Syntax.erased
-          Syntax.mut (Syntax.tyInt Syntax.w8)),
-    ) (List._∷_ (12, Rows.any-gone (Syntax.tyRef Syntax.erased Syntax.mut (Syntax.tyInt Syntax.w64))) (List._∷_ (
+      7,
+      Rows.mref (Referent.rtF (Referent.fInt Syntax.w64)) (Syntax.tyRef (Syntax.named 6) Syntax.mut
+          (Syntax.tyInt Syntax.w64)) 6,
+    ) (List._∷_ (
+      8,
+      Rows.any-gone (Syntax.tyEnum (List._∷_ 104 (List._∷_ 101 (List._∷_ 97 (List._∷_ 100 (List._∷_ 101 (List._∷_ 114 (List._∷_ 58
+          (List._∷_ 58 (List._∷_ 112 (List._∷_ 97 (List._∷_ 114 (List._∷_ 115 (List._∷_ 101 (List._∷_ 58 (List._∷_ 58 (List._∷_ 77 (List._∷_ 97 (List._∷_ 105 (List._∷_ 110 (List._∷_ 72
+          (List._∷_ 101 (List._∷_ 97 (List._∷_ 100 (List._∷_ 101 (List._∷_ 114 List.[]))))))))))))))))))))))))) (Syntax.ttcons (Syntax.tcons (Syntax.tyStruct (List._∷_ 104 (List._∷_ 101
+          (List._∷_ 97 (List._∷_ 100 (List._∷_ 101 (List._∷_ 114 (List._∷_ 58 (List._∷_ 58 (List._∷_ 112 (List._∷_ 97 (List._∷_ 114 (List._∷_ 115 (List._∷_ 101 (List._∷_ 58 (List._∷_ 58
+          (List._∷_ 77 (List._∷_ 97 (List._∷_ 105 (List._∷_ 110 (List._∷_ 72 (List._∷_ 101 (List._∷_ 97 (List._∷_ 100 (List._∷_ 101 (List._∷_ 114 (List._∷_ 73 (List._∷_ 110 (List._∷_ 102
+          (List._∷_ 111 List.[]))))))))))))))))))))))))))))) (Syntax.tcons (Syntax.tyStruct (List._∷_ 116 (List._∷_ 121 (List._∷_ 112 (List._∷_ 101 (List._∷_ 115 (List._∷_ 58 (List._∷_
+          58 (List._∷_ 67 (List._∷_ 111 (List._∷_ 100 (List._∷_ 101 (List._∷_ 115 (List._∷_ 116 (List._∷_ 114 (List._∷_ 101 (List._∷_ 97 (List._∷_ 109 (List._∷_ 79 (List._∷_ 102
+          (List._∷_ 102 (List._∷_ 115 (List._∷_ 101 (List._∷_ 116 List.[]))))))))))))))))))))))) (Syntax.tcons (Syntax.tyInt Syntax.w64) Syntax.tnil)) (Syntax.tcons (Syntax.tyInt
+          Syntax.w64) (Syntax.tcons (Syntax.tyInt Syntax.w64) (Syntax.tcons (Syntax.tyInt Syntax.w64) Syntax.tnil))))) Syntax.tnil) (Syntax.ttcons (Syntax.tcons (Syntax.tyStruct
+          (List._∷_ 116 (List._∷_ 121 (List._∷_ 112 (List._∷_ 101 (List._∷_ 115 (List._∷_ 58 (List._∷_ 58 (List._∷_ 82 (List._∷_ 101 (List._∷_ 102 (List._∷_ 117 (List._∷_ 115 (List._∷_
+          97 (List._∷_ 108 List.[])))))))))))))) (Syntax.tcons (Syntax.tyInt Syntax.w32) (Syntax.tcons (Syntax.tyInt Syntax.w64) Syntax.tnil))) Syntax.tnil) Syntax.ttnil))),
+    ) (List._∷_
+    (9, Rows.any-gone (Syntax.tyRef Syntax.erased Syntax.mut LentTilePartEntry.pointee)) (List._∷_ (
+      10,
+      Mut.mslice LentTilePartEntry.row (Syntax.tyRef Syntax.erased Syntax.mut
+          LentTilePartEntry.pointee) 7,
+    ) (List._∷_ (11, Rows.any-gone (Syntax.tyRef Syntax.erased Syntax.mut (Syntax.tyInt Syntax.w8))) (List._∷_ (
+      12,
+      Mut.mslice (Referent.rtF
+          (Referent.fInt Syntax.w8)) (Syntax.tyRef Syntax.erased Syntax.mut (Syntax.tyInt Syntax.w8)) 8,
+    ) (List._∷_ (
       13,
-      Rows.any-gone (Syntax.tyRef
-          Syntax.erased Syntax.mut (Syntax.tyInt Syntax.w64)),
-    ) (List._∷_ (14, Rows.any-gone (Syntax.tyRef Syntax.erased Syntax.mut (Syntax.tyInt Syntax.w64))) List.[]))))))))))))))
+      Rows.any-gone (Syntax.tyRef Syntax.erased Syntax.mut (Syntax.tyInt
+          Syntax.w64)),
+    ) (List._∷_ (14, Rows.any-gone (Syntax.tyRef Syntax.erased Syntax.mut (Syntax.tyInt Syntax.w64))) (List._∷_ (
+      15,
+      Rows.any-gone (Syntax.tyRef Syntax.erased
+          Syntax.mut (Syntax.tyInt Syntax.w64)),
+    ) List.[])))))))))))))))
 
 abbrev pub t7 : List.List Row.Entry
 t7 = List._∷_ (0, Rows.any-gone (Syntax.tyInt Syntax.w32)) (List._∷_ (
   1,
   Rows.sslice (Referent.rtF (Referent.fInt Syntax.w8)) (Syntax.tyRef (Syntax.named 0) Syntax.imm
       (Syntax.tyInt Syntax.w8)) 0,
+) (List._∷_ (2, Relend.mslice-owed LentTilePartEntry.row (Syntax.tyRef (Syntax.named 1) Syntax.mut LentTilePartEntry.pointee) 1 7 Row.off) (List._∷_
+    (3, Relend.mslice-owed (Referent.rtF (Referent.fInt Syntax.w8)) (Syntax.tyRef (Syntax.named 2) Syntax.mut (Syntax.tyInt Syntax.w8)) 2 8 Row.off) (List._∷_ (
+      4,
+      Rows.mref
+          (Referent.rtF (Referent.fInt Syntax.w64)) (Syntax.tyRef (Syntax.named 3) Syntax.mut (Syntax.tyInt Syntax.w64)) 3,
+    ) (List._∷_ (
+      5,
+      Rows.mref (Referent.rtF (Referent.fInt
+          Syntax.w64)) (Syntax.tyRef (Syntax.named 4) Syntax.mut (Syntax.tyInt Syntax.w64)) 4,
+    ) (List._∷_ (
+      6,
+      Rows.mref (Referent.rtF (Referent.fInt Syntax.w64)) (Syntax.tyRef
+          (Syntax.named 5) Syntax.mut (Syntax.tyInt Syntax.w64)) 5,
+    ) (List._∷_ (
+      7,
+      Rows.mref (Referent.rtF (Referent.fInt Syntax.w64)) (Syntax.tyRef (Syntax.named 6) Syntax.mut
+          (Syntax.tyInt Syntax.w64)) 6,
+    ) (List._∷_ (8, Rows.whole (Declared.row MainHeader.the-type)) (List._∷_ (
+      9,
+      Rows.any-gone (Syntax.tyRef Syntax.erased Syntax.mut
+          LentTilePartEntry.pointee),
+    ) (List._∷_ (10, Mut.msleft LentTilePartEntry.row (Syntax.tyRef Syntax.erased Syntax.mut LentTilePartEntry.pointee)) (List._∷_ (
+      11,
+      Rows.any-gone
+          (Syntax.tyRef Syntax.erased Syntax.mut (Syntax.tyInt Syntax.w8)),
+    ) (List._∷_ (
+      12,
+      Mut.msleft (Referent.rtF (Referent.fInt Syntax.w8)) (Syntax.tyRef Syntax.erased Syntax.mut
+          (Syntax.tyInt Syntax.w8)),
+    ) (List._∷_ (13, Rows.any-gone (Syntax.tyRef Syntax.erased Syntax.mut (Syntax.tyInt Syntax.w64))) (List._∷_ (
+      14,
+      Rows.any-gone (Syntax.tyRef
+          Syntax.erased Syntax.mut (Syntax.tyInt Syntax.w64)),
+    ) (List._∷_ (15, Rows.any-gone (Syntax.tyRef Syntax.erased Syntax.mut (Syntax.tyInt Syntax.w64))) List.[])))))))))))))))
+
+abbrev pub t8 : List.List Row.Entry
+t8 = List._∷_ (0, Rows.any-gone (Syntax.tyInt Syntax.w32)) (List._∷_ (
+  1,
+  Rows.sslice (Referent.rtF (Referent.fInt Syntax.w8)) (Syntax.tyRef (Syntax.named 0) Syntax.imm
+      (Syntax.tyInt Syntax.w8)) 0,
 ) (List._∷_ (2, Mut.mslice LentTilePartEntry.row (Syntax.tyRef (Syntax.named 1) Syntax.mut LentTilePartEntry.pointee) 1) (List._∷_ (
   3,
-  Relend.mslice-owed (Referent.rtF (Referent.fInt Syntax.w8)) (Syntax.tyRef (Syntax.named 2) Syntax.mut (Syntax.tyInt Syntax.w8)) 2 7 Row.off,
+  Relend.mslice-owed (Referent.rtF (Referent.fInt Syntax.w8)) (Syntax.tyRef (Syntax.named 2) Syntax.mut (Syntax.tyInt Syntax.w8)) 2 8 Row.off,
 ) (List._∷_ (
   4,
   Rows.mref
@@ -573,27 +606,31 @@ t7 = List._∷_ (0, Rows.any-gone (Syntax.tyInt Syntax.w32)) (List._∷_ (
   6,
   Rows.mref (Referent.rtF (Referent.fInt Syntax.w64)) (Syntax.tyRef
       (Syntax.named 5) Syntax.mut (Syntax.tyInt Syntax.w64)) 5,
-) (List._∷_ (7, Rows.whole (Declared.row MainHeader.the-type)) (List._∷_ (
-  8,
-  Rows.any-gone (Syntax.tyRef Syntax.erased
-      Syntax.mut LentTilePartEntry.pointee),
 ) (List._∷_ (
+  7,
+  Rows.mref (Referent.rtF (Referent.fInt Syntax.w64)) (Syntax.tyRef (Syntax.named 6) Syntax.mut
+      (Syntax.tyInt Syntax.w64)) 6,
+) (List._∷_ (8, Rows.whole (Declared.row MainHeader.the-type)) (List._∷_ (
   9,
-  Rows.any-gone (Syntax.tyStruct (List._∷_ 38 (List._∷_ 91 (List._∷_ 93 List.[]))) (Syntax.tcons (Syntax.tyRef Syntax.erased
-      Syntax.mut LentTilePartEntry.pointee) (Syntax.tcons (Syntax.tyInt Syntax.w64) Syntax.tnil))),
+  Rows.any-gone (Syntax.tyRef Syntax.erased Syntax.mut
+      LentTilePartEntry.pointee),
 ) (List._∷_ (
   10,
+  Rows.any-gone (Syntax.tyStruct (List._∷_ 38 (List._∷_ 91 (List._∷_ 93 List.[]))) (Syntax.tcons (Syntax.tyRef Syntax.erased Syntax.mut
+      LentTilePartEntry.pointee) (Syntax.tcons (Syntax.tyInt Syntax.w64) Syntax.tnil))),
+) (List._∷_ (
+  11,
   Rows.any-gone (Syntax.tyRef Syntax.erased Syntax.mut (Syntax.tyInt
       Syntax.w8)),
-) (List._∷_ (11, Mut.msleft (Referent.rtF (Referent.fInt Syntax.w8)) (Syntax.tyRef Syntax.erased Syntax.mut (Syntax.tyInt Syntax.w8))) (List._∷_ (
-  12,
+) (List._∷_ (12, Mut.msleft (Referent.rtF (Referent.fInt Syntax.w8)) (Syntax.tyRef Syntax.erased Syntax.mut (Syntax.tyInt Syntax.w8))) (List._∷_ (
+  13,
   Rows.any-gone
       (Syntax.tyRef Syntax.erased Syntax.mut (Syntax.tyInt Syntax.w64)),
-) (List._∷_ (13, Rows.any-gone (Syntax.tyRef Syntax.erased Syntax.mut (Syntax.tyInt Syntax.w64))) (List._∷_
-    (14, Rows.any-gone (Syntax.tyRef Syntax.erased Syntax.mut (Syntax.tyInt Syntax.w64))) List.[]))))))))))))))
+) (List._∷_ (14, Rows.any-gone (Syntax.tyRef Syntax.erased Syntax.mut (Syntax.tyInt Syntax.w64))) (List._∷_
+    (15, Rows.any-gone (Syntax.tyRef Syntax.erased Syntax.mut (Syntax.tyInt Syntax.w64))) List.[])))))))))))))))
 
-abbrev pub t8 : List.List Row.Entry
-t8 = List._∷_ (0, Rows.any-gone (Syntax.tyInt Syntax.w32)) (List._∷_ (
+abbrev pub t9 : List.List Row.Entry
+t9 = List._∷_ (0, Rows.any-gone (Syntax.tyInt Syntax.w32)) (List._∷_ (
   1,
   Rows.sslice (Referent.rtF (Referent.fInt Syntax.w8)) (Syntax.tyRef (Syntax.named 0) Syntax.imm
       (Syntax.tyInt Syntax.w8)) 0,
@@ -613,75 +650,21 @@ t8 = List._∷_ (0, Rows.any-gone (Syntax.tyInt Syntax.w32)) (List._∷_ (
   6,
   Rows.mref (Referent.rtF (Referent.fInt Syntax.w64)) (Syntax.tyRef (Syntax.named 5) Syntax.mut
       (Syntax.tyInt Syntax.w64)) 5,
-) (List._∷_ (7, Rows.whole (Declared.row MainHeader.the-type)) (List._∷_ (
-  8,
-  Rows.any-gone (Syntax.tyRef Syntax.erased Syntax.mut
-      LentTilePartEntry.pointee),
-) (List._∷_ (
-  9,
-  Rows.any-gone (Syntax.tyStruct (List._∷_ 38 (List._∷_ 91 (List._∷_ 93 List.[]))) (Syntax.tcons (Syntax.tyRef Syntax.erased Syntax.mut
-      LentTilePartEntry.pointee) (Syntax.tcons (Syntax.tyInt Syntax.w64) Syntax.tnil))),
-) (List._∷_ (
-  10,
-  Rows.any-gone (Syntax.tyRef Syntax.erased Syntax.mut (Syntax.tyInt
-      Syntax.w8)),
-) (List._∷_ (
-  11,
-  Rows.any-gone (Syntax.tyStruct (List._∷_ 38 (List._∷_ 91 (List._∷_ 93 List.[]))) (Syntax.tcons (Syntax.tyRef Syntax.erased Syntax.mut (Syntax.tyInt
-      Syntax.w8)) (Syntax.tcons (Syntax.tyInt Syntax.w64) Syntax.tnil))),
-) (List._∷_ (12, Rows.any-gone (Syntax.tyRef Syntax.erased Syntax.mut (Syntax.tyInt Syntax.w64))) (List._∷_
-    (13, Rows.any-gone (Syntax.tyRef Syntax.erased Syntax.mut (Syntax.tyInt Syntax.w64))) (List._∷_ (
+) (List._∷_ (7, Rows.mref (Referent.rtF (Referent.fInt Syntax.w64)) (Syntax.tyRef (Syntax.named 6) Syntax.mut (Syntax.tyInt Syntax.w64)) 6)
+    (List._∷_ (8, Rows.whole (Declared.row MainHeader.the-type)) (List._∷_ (9, Rows.any-gone (Syntax.tyRef Syntax.erased Syntax.mut LentTilePartEntry.pointee)) (List._∷_ (
+      10,
+      Rows.any-gone (Syntax.tyStruct (List._∷_ 38 (List._∷_ 91 (List._∷_ 93 List.[]))) (Syntax.tcons (Syntax.tyRef Syntax.erased Syntax.mut LentTilePartEntry.pointee) (Syntax.tcons
+          (Syntax.tyInt Syntax.w64) Syntax.tnil))),
+    ) (List._∷_ (11, Rows.any-gone (Syntax.tyRef Syntax.erased Syntax.mut (Syntax.tyInt Syntax.w8))) (List._∷_ (
+      12,
+      Rows.any-gone
+          (Syntax.tyStruct (List._∷_ 38 (List._∷_ 91 (List._∷_ 93 List.[]))) (Syntax.tcons (Syntax.tyRef Syntax.erased Syntax.mut (Syntax.tyInt Syntax.w8)) (Syntax.tcons (Syntax.tyInt
+          Syntax.w64) Syntax.tnil))),
+    ) (List._∷_ (13, Rows.any-gone (Syntax.tyRef Syntax.erased Syntax.mut (Syntax.tyInt Syntax.w64))) (List._∷_ (
       14,
-      Rows.any-gone (Syntax.tyRef Syntax.erased Syntax.mut (Syntax.tyInt
-          Syntax.w64)),
-    ) List.[]))))))))))))))
-
-abbrev pub t9 : List.List Row.Entry
-t9 = List._∷_ (0, Rows.any-gone (Syntax.tyInt Syntax.w32)) (List._∷_ (
-  1,
-  Rows.sslice (Referent.rtF (Referent.fInt Syntax.w8)) (Syntax.tyRef (Syntax.named 0) Syntax.imm
-      (Syntax.tyInt Syntax.w8)) 0,
-) (List._∷_ (2, Mut.mslice LentTilePartEntry.row (Syntax.tyRef (Syntax.named 1) Syntax.mut LentTilePartEntry.pointee) 1) (List._∷_ (
-  3,
-  Mut.mslice
-      (Referent.rtF (Referent.fInt Syntax.w8)) (Syntax.tyRef (Syntax.named 2) Syntax.mut (Syntax.tyInt Syntax.w8)) 2,
-) (List._∷_ (
-  4,
-  Rows.mref-owed (Referent.rtF (Referent.fInt
-      Syntax.w64)) (Syntax.tyRef (Syntax.named 3) Syntax.mut (Syntax.tyInt Syntax.w64)) 3 8 Row.off,
-) (List._∷_ (
-  5,
-  Rows.mref (Referent.rtF (Referent.fInt Syntax.w64)) (Syntax.tyRef
-      (Syntax.named 4) Syntax.mut (Syntax.tyInt Syntax.w64)) 4,
-) (List._∷_ (
-  6,
-  Rows.mref (Referent.rtF (Referent.fInt Syntax.w64)) (Syntax.tyRef (Syntax.named 5) Syntax.mut
-      (Syntax.tyInt Syntax.w64)) 5,
-) (List._∷_ (7, Rows.whole (Declared.row MainHeader.the-type)) (List._∷_ (
-  8,
-  Rows.any-gone (Syntax.tyRef Syntax.erased Syntax.mut
-      LentTilePartEntry.pointee),
-) (List._∷_ (
-  9,
-  Rows.any-gone (Syntax.tyStruct (List._∷_ 38 (List._∷_ 91 (List._∷_ 93 List.[]))) (Syntax.tcons (Syntax.tyRef Syntax.erased Syntax.mut
-      LentTilePartEntry.pointee) (Syntax.tcons (Syntax.tyInt Syntax.w64) Syntax.tnil))),
-) (List._∷_ (
-  10,
-  Rows.any-gone (Syntax.tyRef Syntax.erased Syntax.mut (Syntax.tyInt
-      Syntax.w8)),
-) (List._∷_ (
-  11,
-  Rows.any-gone (Syntax.tyStruct (List._∷_ 38 (List._∷_ 91 (List._∷_ 93 List.[]))) (Syntax.tcons (Syntax.tyRef Syntax.erased Syntax.mut (Syntax.tyInt
-      Syntax.w8)) (Syntax.tcons (Syntax.tyInt Syntax.w64) Syntax.tnil))),
-) (List._∷_ (
-  12,
-  Rows.mref (Referent.rtF (Referent.fInt Syntax.w64)) (Syntax.tyRef Syntax.erased Syntax.mut
-      (Syntax.tyInt Syntax.w64)) 8,
-) (List._∷_ (13, Rows.any-gone (Syntax.tyRef Syntax.erased Syntax.mut (Syntax.tyInt Syntax.w64))) (List._∷_ (
-  14,
-  Rows.any-gone (Syntax.tyRef
-      Syntax.erased Syntax.mut (Syntax.tyInt Syntax.w64)),
-) List.[]))))))))))))))
+      Rows.any-gone (Syntax.tyRef
+          Syntax.erased Syntax.mut (Syntax.tyInt Syntax.w64)),
+    ) (List._∷_ (15, Rows.any-gone (Syntax.tyRef Syntax.erased Syntax.mut (Syntax.tyInt Syntax.w64))) List.[])))))))))))))))
 
 abbrev pub t10 : List.List Row.Entry
 t10 = List._∷_ (0, Rows.any-gone (Syntax.tyInt Syntax.w32)) (List._∷_ (
@@ -695,37 +678,31 @@ t10 = List._∷_ (0, Rows.any-gone (Syntax.tyInt Syntax.w32)) (List._∷_ (
 ) (List._∷_ (
   4,
   Rows.mref-owed (Referent.rtF (Referent.fInt
-      Syntax.w64)) (Syntax.tyRef (Syntax.named 3) Syntax.mut (Syntax.tyInt Syntax.w64)) 3 8 Row.off,
+      Syntax.w64)) (Syntax.tyRef (Syntax.named 3) Syntax.mut (Syntax.tyInt Syntax.w64)) 3 9 Row.off,
 ) (List._∷_ (
   5,
-  Rows.mref-owed (Referent.rtF (Referent.fInt Syntax.w64))
-      (Syntax.tyRef (Syntax.named 4) Syntax.mut (Syntax.tyInt Syntax.w64)) 4 9 Row.off,
+  Rows.mref (Referent.rtF (Referent.fInt Syntax.w64)) (Syntax.tyRef
+      (Syntax.named 4) Syntax.mut (Syntax.tyInt Syntax.w64)) 4,
 ) (List._∷_ (
   6,
-  Rows.mref (Referent.rtF (Referent.fInt Syntax.w64)) (Syntax.tyRef (Syntax.named
-      5) Syntax.mut (Syntax.tyInt Syntax.w64)) 5,
-) (List._∷_ (7, Rows.whole (Declared.row MainHeader.the-type)) (List._∷_ (
-  8,
-  Rows.any-gone (Syntax.tyRef Syntax.erased Syntax.mut
-      LentTilePartEntry.pointee),
-) (List._∷_ (
-  9,
-  Rows.any-gone (Syntax.tyStruct (List._∷_ 38 (List._∷_ 91 (List._∷_ 93 List.[]))) (Syntax.tcons (Syntax.tyRef Syntax.erased Syntax.mut
-      LentTilePartEntry.pointee) (Syntax.tcons (Syntax.tyInt Syntax.w64) Syntax.tnil))),
-) (List._∷_ (
-  10,
-  Rows.any-gone (Syntax.tyRef Syntax.erased Syntax.mut (Syntax.tyInt
-      Syntax.w8)),
-) (List._∷_ (
-  11,
-  Rows.any-gone (Syntax.tyStruct (List._∷_ 38 (List._∷_ 91 (List._∷_ 93 List.[]))) (Syntax.tcons (Syntax.tyRef Syntax.erased Syntax.mut (Syntax.tyInt
-      Syntax.w8)) (Syntax.tcons (Syntax.tyInt Syntax.w64) Syntax.tnil))),
-) (List._∷_ (
-  12,
-  Rows.mref (Referent.rtF (Referent.fInt Syntax.w64)) (Syntax.tyRef Syntax.erased Syntax.mut
-      (Syntax.tyInt Syntax.w64)) 8,
-) (List._∷_ (13, Rows.mref (Referent.rtF (Referent.fInt Syntax.w64)) (Syntax.tyRef Syntax.erased Syntax.mut (Syntax.tyInt Syntax.w64)) 9) (List._∷_
-    (14, Rows.any-gone (Syntax.tyRef Syntax.erased Syntax.mut (Syntax.tyInt Syntax.w64))) List.[]))))))))))))))
+  Rows.mref (Referent.rtF (Referent.fInt Syntax.w64)) (Syntax.tyRef (Syntax.named 5) Syntax.mut
+      (Syntax.tyInt Syntax.w64)) 5,
+) (List._∷_ (7, Rows.mref (Referent.rtF (Referent.fInt Syntax.w64)) (Syntax.tyRef (Syntax.named 6) Syntax.mut (Syntax.tyInt Syntax.w64)) 6)
+    (List._∷_ (8, Rows.whole (Declared.row MainHeader.the-type)) (List._∷_ (9, Rows.any-gone (Syntax.tyRef Syntax.erased Syntax.mut LentTilePartEntry.pointee)) (List._∷_ (
+      10,
+      Rows.any-gone (Syntax.tyStruct (List._∷_ 38 (List._∷_ 91 (List._∷_ 93 List.[]))) (Syntax.tcons (Syntax.tyRef Syntax.erased Syntax.mut LentTilePartEntry.pointee) (Syntax.tcons
+          (Syntax.tyInt Syntax.w64) Syntax.tnil))),
+    ) (List._∷_ (11, Rows.any-gone (Syntax.tyRef Syntax.erased Syntax.mut (Syntax.tyInt Syntax.w8))) (List._∷_ (
+      12,
+      Rows.any-gone
+          (Syntax.tyStruct (List._∷_ 38 (List._∷_ 91 (List._∷_ 93 List.[]))) (Syntax.tcons (Syntax.tyRef Syntax.erased Syntax.mut (Syntax.tyInt Syntax.w8)) (Syntax.tcons (Syntax.tyInt
+          Syntax.w64) Syntax.tnil))),
+    ) (List._∷_ (13, Rows.mref (Referent.rtF (Referent.fInt Syntax.w64)) (Syntax.tyRef Syntax.erased Syntax.mut (Syntax.tyInt Syntax.w64)) 9) (List._∷_
+    (14, Rows.any-gone (Syntax.tyRef Syntax.erased Syntax.mut (Syntax.tyInt Syntax.w64))) (List._∷_ (
+      15,
+      Rows.any-gone (Syntax.tyRef Syntax.erased Syntax.mut (Syntax.tyInt
+          Syntax.w64)),
+    ) List.[])))))))))))))))
 
 abbrev pub t11 : List.List Row.Entry
 t11 = List._∷_ (0, Rows.any-gone (Syntax.tyInt Syntax.w32)) (List._∷_ (
@@ -739,84 +716,139 @@ t11 = List._∷_ (0, Rows.any-gone (Syntax.tyInt Syntax.w32)) (List._∷_ (
 ) (List._∷_ (
   4,
   Rows.mref-owed (Referent.rtF (Referent.fInt
-      Syntax.w64)) (Syntax.tyRef (Syntax.named 3) Syntax.mut (Syntax.tyInt Syntax.w64)) 3 8 Row.off,
+      Syntax.w64)) (Syntax.tyRef (Syntax.named 3) Syntax.mut (Syntax.tyInt Syntax.w64)) 3 9 Row.off,
 ) (List._∷_ (
   5,
   Rows.mref-owed (Referent.rtF (Referent.fInt Syntax.w64))
-      (Syntax.tyRef (Syntax.named 4) Syntax.mut (Syntax.tyInt Syntax.w64)) 4 9 Row.off,
+      (Syntax.tyRef (Syntax.named 4) Syntax.mut (Syntax.tyInt Syntax.w64)) 4 10 Row.off,
 ) (List._∷_ (
   6,
-  Rows.mref-owed (Referent.rtF (Referent.fInt Syntax.w64)) (Syntax.tyRef
-      (Syntax.named 5) Syntax.mut (Syntax.tyInt Syntax.w64)) 5 10 Row.off,
-) (List._∷_ (7, Rows.whole (Declared.row MainHeader.the-type)) (List._∷_ (
-  8,
-  Rows.any-gone (Syntax.tyRef
-      Syntax.erased Syntax.mut LentTilePartEntry.pointee),
+  Rows.mref (Referent.rtF (Referent.fInt Syntax.w64)) (Syntax.tyRef (Syntax.named
+      5) Syntax.mut (Syntax.tyInt Syntax.w64)) 5,
 ) (List._∷_ (
-  9,
-  Rows.any-gone (Syntax.tyStruct (List._∷_ 38 (List._∷_ 91 (List._∷_ 93 List.[]))) (Syntax.tcons (Syntax.tyRef
-      Syntax.erased Syntax.mut LentTilePartEntry.pointee) (Syntax.tcons (Syntax.tyInt Syntax.w64) Syntax.tnil))),
-) (List._∷_ (
-  10,
-  Rows.any-gone (Syntax.tyRef Syntax.erased Syntax.mut
-      (Syntax.tyInt Syntax.w8)),
-) (List._∷_ (
-  11,
-  Rows.any-gone (Syntax.tyStruct (List._∷_ 38 (List._∷_ 91 (List._∷_ 93 List.[]))) (Syntax.tcons (Syntax.tyRef Syntax.erased Syntax.mut
-      (Syntax.tyInt Syntax.w8)) (Syntax.tcons (Syntax.tyInt Syntax.w64) Syntax.tnil))),
-) (List._∷_ (
-  12,
-  Rows.mref (Referent.rtF (Referent.fInt Syntax.w64)) (Syntax.tyRef Syntax.erased
-      Syntax.mut (Syntax.tyInt Syntax.w64)) 8,
-) (List._∷_ (13, Rows.mref (Referent.rtF (Referent.fInt Syntax.w64)) (Syntax.tyRef Syntax.erased Syntax.mut (Syntax.tyInt Syntax.w64)) 9)
-    (List._∷_ (14, Rows.mref (Referent.rtF (Referent.fInt Syntax.w64)) (Syntax.tyRef Syntax.erased Syntax.mut (Syntax.tyInt Syntax.w64)) 10) List.[]))))))))))))))
+  7,
+  Rows.mref (Referent.rtF (Referent.fInt Syntax.w64)) (Syntax.tyRef (Syntax.named 6) Syntax.mut (Syntax.tyInt
+      Syntax.w64)) 6,
+) (List._∷_ (8, Rows.whole (Declared.row MainHeader.the-type)) (List._∷_ (9, Rows.any-gone (Syntax.tyRef Syntax.erased Syntax.mut LentTilePartEntry.pointee))
+    (List._∷_ (
+      10,
+      Rows.any-gone (Syntax.tyStruct (List._∷_ 38 (List._∷_ 91 (List._∷_ 93 List.[]))) (Syntax.tcons (Syntax.tyRef Syntax.erased Syntax.mut LentTilePartEntry.pointee)
+          (Syntax.tcons (Syntax.tyInt Syntax.w64) Syntax.tnil))),
+    ) (List._∷_ (11, Rows.any-gone (Syntax.tyRef Syntax.erased Syntax.mut (Syntax.tyInt Syntax.w8))) (List._∷_ (
+      12,
+      Rows.any-gone (Syntax.tyStruct (List._∷_ 38 (List._∷_ 91 (List._∷_ 93 List.[]))) (Syntax.tcons (Syntax.tyRef Syntax.erased Syntax.mut (Syntax.tyInt Syntax.w8)) (Syntax.tcons
+          (Syntax.tyInt Syntax.w64) Syntax.tnil))),
+    ) (List._∷_ (
+      13,
+      Rows.mref (Referent.rtF (Referent.fInt Syntax.w64)) (Syntax.tyRef Syntax.erased Syntax.mut (Syntax.tyInt Syntax.w64))
+          9,
+    ) (List._∷_ (14, Rows.mref (Referent.rtF (Referent.fInt Syntax.w64)) (Syntax.tyRef Syntax.erased Syntax.mut (Syntax.tyInt Syntax.w64)) 10) (List._∷_ (
+      15,
+      Rows.any-gone
+          (Syntax.tyRef Syntax.erased Syntax.mut (Syntax.tyInt Syntax.w64)),
+    ) List.[])))))))))))))))
 
 abbrev pub t12 : List.List Row.Entry
-t12 = List._∷_ (0, Rows.sc-here (Row.sInt Syntax.w32)) (List._∷_ (
+t12 = List._∷_ (0, Rows.any-gone (Syntax.tyInt Syntax.w32)) (List._∷_ (
   1,
-  Rows.sslice (Referent.rtF (Referent.fInt Syntax.w8)) (Syntax.tyRef (Syntax.named 0) Syntax.imm (Syntax.tyInt
-      Syntax.w8)) 0,
+  Rows.sslice (Referent.rtF (Referent.fInt Syntax.w8)) (Syntax.tyRef (Syntax.named 0) Syntax.imm
+      (Syntax.tyInt Syntax.w8)) 0,
 ) (List._∷_ (2, Mut.mslice LentTilePartEntry.row (Syntax.tyRef (Syntax.named 1) Syntax.mut LentTilePartEntry.pointee) 1) (List._∷_ (
   3,
-  Mut.mslice (Referent.rtF
-      (Referent.fInt Syntax.w8)) (Syntax.tyRef (Syntax.named 2) Syntax.mut (Syntax.tyInt Syntax.w8)) 2,
+  Mut.mslice
+      (Referent.rtF (Referent.fInt Syntax.w8)) (Syntax.tyRef (Syntax.named 2) Syntax.mut (Syntax.tyInt Syntax.w8)) 2,
 ) (List._∷_ (
   4,
-  Rows.mref-owed (Referent.rtF (Referent.fInt Syntax.w64))
-      (Syntax.tyRef (Syntax.named 3) Syntax.mut (Syntax.tyInt Syntax.w64)) 3 8 Row.off,
+  Rows.mref-owed (Referent.rtF (Referent.fInt
+      Syntax.w64)) (Syntax.tyRef (Syntax.named 3) Syntax.mut (Syntax.tyInt Syntax.w64)) 3 9 Row.off,
 ) (List._∷_ (
   5,
-  Rows.mref-owed (Referent.rtF (Referent.fInt Syntax.w64)) (Syntax.tyRef
-      (Syntax.named 4) Syntax.mut (Syntax.tyInt Syntax.w64)) 4 9 Row.off,
+  Rows.mref-owed (Referent.rtF (Referent.fInt Syntax.w64))
+      (Syntax.tyRef (Syntax.named 4) Syntax.mut (Syntax.tyInt Syntax.w64)) 4 10 Row.off,
 ) (List._∷_ (
   6,
-  Rows.mref-owed (Referent.rtF (Referent.fInt Syntax.w64)) (Syntax.tyRef (Syntax.named 5)
-      Syntax.mut (Syntax.tyInt Syntax.w64)) 5 10 Row.off,
-) (List._∷_ (7, Rows.whole (Declared.row MainHeader.the-type)) (List._∷_ (
-  8,
-  Rows.any-gone (Syntax.tyRef Syntax.erased
-      Syntax.mut LentTilePartEntry.pointee),
+  Rows.mref-owed (Referent.rtF (Referent.fInt Syntax.w64)) (Syntax.tyRef
+      (Syntax.named 5) Syntax.mut (Syntax.tyInt Syntax.w64)) 5 11 Row.off,
 ) (List._∷_ (
+  7,
+  Rows.mref (Referent.rtF (Referent.fInt Syntax.w64)) (Syntax.tyRef (Syntax.named 6) Syntax.mut
+      (Syntax.tyInt Syntax.w64)) 6,
+) (List._∷_ (8, Rows.whole (Declared.row MainHeader.the-type)) (List._∷_ (
   9,
-  Rows.any-gone (Syntax.tyStruct (List._∷_ 38 (List._∷_ 91 (List._∷_ 93 List.[]))) (Syntax.tcons (Syntax.tyRef Syntax.erased
-      Syntax.mut LentTilePartEntry.pointee) (Syntax.tcons (Syntax.tyInt Syntax.w64) Syntax.tnil))),
+  Rows.any-gone (Syntax.tyRef Syntax.erased Syntax.mut
+      LentTilePartEntry.pointee),
 ) (List._∷_ (
   10,
+  Rows.any-gone (Syntax.tyStruct (List._∷_ 38 (List._∷_ 91 (List._∷_ 93 List.[]))) (Syntax.tcons (Syntax.tyRef Syntax.erased Syntax.mut
+      LentTilePartEntry.pointee) (Syntax.tcons (Syntax.tyInt Syntax.w64) Syntax.tnil))),
+) (List._∷_ (
+  11,
   Rows.any-gone (Syntax.tyRef Syntax.erased Syntax.mut (Syntax.tyInt
       Syntax.w8)),
 ) (List._∷_ (
-  11,
+  12,
   Rows.any-gone (Syntax.tyStruct (List._∷_ 38 (List._∷_ 91 (List._∷_ 93 List.[]))) (Syntax.tcons (Syntax.tyRef Syntax.erased Syntax.mut (Syntax.tyInt
       Syntax.w8)) (Syntax.tcons (Syntax.tyInt Syntax.w64) Syntax.tnil))),
 ) (List._∷_ (
-  12,
-  Rows.mleft (Referent.rtF (Referent.fInt Syntax.w64)) (Syntax.tyRef Syntax.erased Syntax.mut
-      (Syntax.tyInt Syntax.w64)),
-) (List._∷_ (13, Rows.mleft (Referent.rtF (Referent.fInt Syntax.w64)) (Syntax.tyRef Syntax.erased Syntax.mut (Syntax.tyInt Syntax.w64))) (List._∷_
-    (14, Rows.mleft (Referent.rtF (Referent.fInt Syntax.w64)) (Syntax.tyRef Syntax.erased Syntax.mut (Syntax.tyInt Syntax.w64))) List.[]))))))))))))))
+  13,
+  Rows.mref (Referent.rtF (Referent.fInt Syntax.w64)) (Syntax.tyRef Syntax.erased Syntax.mut
+      (Syntax.tyInt Syntax.w64)) 9,
+) (List._∷_ (14, Rows.mref (Referent.rtF (Referent.fInt Syntax.w64)) (Syntax.tyRef Syntax.erased Syntax.mut (Syntax.tyInt Syntax.w64)) 10) (List._∷_
+    (15, Rows.mref (Referent.rtF (Referent.fInt Syntax.w64)) (Syntax.tyRef Syntax.erased Syntax.mut (Syntax.tyInt Syntax.w64)) 11) List.[])))))))))))))))
 
 abbrev pub t13 : List.List Row.Entry
-t13 = List._∷_ (0, Rows.sc-here (Row.sInt Syntax.w32)) (List._∷_ (
+t13 = List._∷_ (0, Rows.any-gone (Syntax.tyInt Syntax.w32)) (List._∷_ (
+  1,
+  Rows.sslice (Referent.rtF (Referent.fInt Syntax.w8)) (Syntax.tyRef (Syntax.named 0) Syntax.imm
+      (Syntax.tyInt Syntax.w8)) 0,
+) (List._∷_ (2, Mut.mslice LentTilePartEntry.row (Syntax.tyRef (Syntax.named 1) Syntax.mut LentTilePartEntry.pointee) 1) (List._∷_ (
+  3,
+  Mut.mslice
+      (Referent.rtF (Referent.fInt Syntax.w8)) (Syntax.tyRef (Syntax.named 2) Syntax.mut (Syntax.tyInt Syntax.w8)) 2,
+) (List._∷_ (
+  4,
+  Rows.mref-owed (Referent.rtF (Referent.fInt
+      Syntax.w64)) (Syntax.tyRef (Syntax.named 3) Syntax.mut (Syntax.tyInt Syntax.w64)) 3 9 Row.off,
+) (List._∷_ (
+  5,
+  Rows.mref-owed (Referent.rtF (Referent.fInt Syntax.w64))
+      (Syntax.tyRef (Syntax.named 4) Syntax.mut (Syntax.tyInt Syntax.w64)) 4 10 Row.off,
+) (List._∷_ (
+  6,
+  Rows.mref-owed (Referent.rtF (Referent.fInt Syntax.w64)) (Syntax.tyRef
+      (Syntax.named 5) Syntax.mut (Syntax.tyInt Syntax.w64)) 5 11 Row.off,
+) (List._∷_ (
+  7,
+  Rows.mref-owed (Referent.rtF (Referent.fInt Syntax.w64)) (Syntax.tyRef (Syntax.named 6)
+      Syntax.mut (Syntax.tyInt Syntax.w64)) 6 12 Row.off,
+) (List._∷_ (8, Rows.whole (Declared.row MainHeader.the-type)) (List._∷_ (
+  9,
+  Rows.any-gone (Syntax.tyRef Syntax.erased
+      Syntax.mut LentTilePartEntry.pointee),
+) (List._∷_ (
+  10,
+  Rows.any-gone (Syntax.tyStruct (List._∷_ 38 (List._∷_ 91 (List._∷_ 93 List.[]))) (Syntax.tcons (Syntax.tyRef Syntax.erased
+      Syntax.mut LentTilePartEntry.pointee) (Syntax.tcons (Syntax.tyInt Syntax.w64) Syntax.tnil))),
+) (List._∷_ (
+  11,
+  Rows.any-gone (Syntax.tyRef Syntax.erased Syntax.mut (Syntax.tyInt
+      Syntax.w8)),
+) (List._∷_ (
+  12,
+  Rows.any-gone (Syntax.tyStruct (List._∷_ 38 (List._∷_ 91 (List._∷_ 93 List.[]))) (Syntax.tcons (Syntax.tyRef Syntax.erased Syntax.mut (Syntax.tyInt
+      Syntax.w8)) (Syntax.tcons (Syntax.tyInt Syntax.w64) Syntax.tnil))),
+) (List._∷_ (
+  13,
+  Rows.mref (Referent.rtF (Referent.fInt Syntax.w64)) (Syntax.tyRef Syntax.erased Syntax.mut
+      (Syntax.tyInt Syntax.w64)) 9,
+) (List._∷_ (14, Rows.mref (Referent.rtF (Referent.fInt Syntax.w64)) (Syntax.tyRef Syntax.erased Syntax.mut (Syntax.tyInt Syntax.w64)) 10) (List._∷_
+    (15, Rows.mref (Referent.rtF (Referent.fInt Syntax.w64)) (Syntax.tyRef Syntax.erased Syntax.mut (Syntax.tyInt Syntax.w64)) 11) List.[])))))))))))))))
+
+abbrev pub t14 : List.List Row.Entry
+t14 = List._∷_ (16, Rows.mref (Referent.rtF (Referent.fInt Syntax.w64)) (Syntax.tyRef Syntax.erased Syntax.mut (Syntax.tyInt Syntax.w64)) 12) List.[]
+
+abbrev pub t15 : List.List Row.Entry
+t15 = List._∷_ (0, Rows.sc-here (Row.sInt Syntax.w32)) (List._∷_ (
   1,
   Rows.sslice (Referent.rtF (Referent.fInt Syntax.w8)) (Syntax.tyRef (Syntax.named 0) Syntax.imm (Syntax.tyInt
       Syntax.w8)) 0,
@@ -827,56 +859,109 @@ t13 = List._∷_ (0, Rows.sc-here (Row.sInt Syntax.w32)) (List._∷_ (
 ) (List._∷_ (
   4,
   Rows.mref-owed (Referent.rtF (Referent.fInt Syntax.w64))
-      (Syntax.tyRef (Syntax.named 3) Syntax.mut (Syntax.tyInt Syntax.w64)) 3 8 Row.off,
+      (Syntax.tyRef (Syntax.named 3) Syntax.mut (Syntax.tyInt Syntax.w64)) 3 9 Row.off,
 ) (List._∷_ (
   5,
   Rows.mref-owed (Referent.rtF (Referent.fInt Syntax.w64)) (Syntax.tyRef
-      (Syntax.named 4) Syntax.mut (Syntax.tyInt Syntax.w64)) 4 9 Row.off,
+      (Syntax.named 4) Syntax.mut (Syntax.tyInt Syntax.w64)) 4 10 Row.off,
 ) (List._∷_ (
   6,
   Rows.mref-owed (Referent.rtF (Referent.fInt Syntax.w64)) (Syntax.tyRef (Syntax.named 5)
-      Syntax.mut (Syntax.tyInt Syntax.w64)) 5 10 Row.off,
+      Syntax.mut (Syntax.tyInt Syntax.w64)) 5 11 Row.off,
 ) (List._∷_ (
   7,
-  Rows.any-gone (Syntax.tyEnum (List._∷_ 104 (List._∷_ 101 (List._∷_ 97 (List._∷_ 100 (List._∷_ 101 (List._∷_
-      114 (List._∷_ 58 (List._∷_ 58 (List._∷_ 112 (List._∷_ 97 (List._∷_ 114 (List._∷_ 115 (List._∷_ 101 (List._∷_ 58 (List._∷_ 58 (List._∷_ 77 (List._∷_ 97 (List._∷_ 105 (List._∷_
-      110 (List._∷_ 72 (List._∷_ 101 (List._∷_ 97 (List._∷_ 100 (List._∷_ 101 (List._∷_ 114 List.[]))))))))))))))))))))))))) (Syntax.ttcons (Syntax.tcons (Syntax.tyStruct (List._∷_
-      104 (List._∷_ 101 (List._∷_ 97 (List._∷_ 100 (List._∷_ 101 (List._∷_ 114 (List._∷_ 58 (List._∷_ 58 (List._∷_ 112 (List._∷_ 97 (List._∷_ 114 (List._∷_ 115 (List._∷_ 101
-      (List._∷_ 58 (List._∷_ 58 (List._∷_ 77 (List._∷_ 97 (List._∷_ 105 (List._∷_ 110 (List._∷_ 72 (List._∷_ 101 (List._∷_ 97 (List._∷_ 100 (List._∷_ 101 (List._∷_ 114 (List._∷_ 73
-      (List._∷_ 110 (List._∷_ 102 (List._∷_ 111 List.[]))))))))))))))))))))))))))))) (Syntax.tcons (Syntax.tyStruct (List._∷_ 116 (List._∷_ 121 (List._∷_ 112 (List._∷_ 101 (List._∷_
-      115 (List._∷_ 58 (List._∷_ 58 (List._∷_ 67 (List._∷_ 111 (List._∷_ 100 (List._∷_ 101 (List._∷_ 115 (List._∷_ 116 (List._∷_ 114 (List._∷_ 101 (List._∷_ 97 (List._∷_ 109
-      (List._∷_ 79 (List._∷_ 102 (List._∷_ 102 (List._∷_ 115 (List._∷_ 101 (List._∷_ 116 List.[]))))))))))))))))))))))) (Syntax.tcons (Syntax.tyInt Syntax.w64) Syntax.tnil))
-      (Syntax.tcons (Syntax.tyInt Syntax.w64) (Syntax.tcons (Syntax.tyInt Syntax.w64) Syntax.tnil)))) Syntax.tnil) (Syntax.ttcons (Syntax.tcons (Syntax.tyStruct (List._∷_ 116
-      (List._∷_ 121 (List._∷_ 112 (List._∷_ 101 (List._∷_ 115 (List._∷_ 58 (List._∷_ 58 (List._∷_ 82 (List._∷_ 101 (List._∷_ 102 (List._∷_ 117 (List._∷_ 115 (List._∷_ 97 (List._∷_
-      108 List.[])))))))))))))) (Syntax.tcons (Syntax.tyInt Syntax.w32) (Syntax.tcons (Syntax.tyInt Syntax.w64) Syntax.tnil))) Syntax.tnil) Syntax.ttnil))),
-) (List._∷_ (
-  8,
-  Rows.any-gone (Syntax.tyRef Syntax.erased Syntax.mut LentTilePartEntry.pointee),
-) (List._∷_ (
+  Rows.mref-owed (Referent.rtF (Referent.fInt Syntax.w64)) (Syntax.tyRef (Syntax.named 6) Syntax.mut
+      (Syntax.tyInt Syntax.w64)) 6 12 Row.off,
+) (List._∷_ (8, Rows.whole (Declared.row MainHeader.the-type)) (List._∷_ (
   9,
-  Rows.any-gone (Syntax.tyStruct (List._∷_ 38 (List._∷_ 91 (List._∷_ 93 List.[])))
-      (Syntax.tcons (Syntax.tyRef Syntax.erased Syntax.mut LentTilePartEntry.pointee) (Syntax.tcons (Syntax.tyInt Syntax.w64) Syntax.tnil))),
+  Rows.any-gone (Syntax.tyRef Syntax.erased Syntax.mut
+      LentTilePartEntry.pointee),
 ) (List._∷_ (
   10,
-  Rows.any-gone
-      (Syntax.tyRef Syntax.erased Syntax.mut (Syntax.tyInt Syntax.w8)),
+  Rows.any-gone (Syntax.tyStruct (List._∷_ 38 (List._∷_ 91 (List._∷_ 93 List.[]))) (Syntax.tcons (Syntax.tyRef Syntax.erased Syntax.mut
+      LentTilePartEntry.pointee) (Syntax.tcons (Syntax.tyInt Syntax.w64) Syntax.tnil))),
 ) (List._∷_ (
   11,
-  Rows.any-gone (Syntax.tyStruct (List._∷_ 38 (List._∷_ 91 (List._∷_ 93 List.[]))) (Syntax.tcons
-      (Syntax.tyRef Syntax.erased Syntax.mut (Syntax.tyInt Syntax.w8)) (Syntax.tcons (Syntax.tyInt Syntax.w64) Syntax.tnil))),
+  Rows.any-gone (Syntax.tyRef Syntax.erased Syntax.mut (Syntax.tyInt
+      Syntax.w8)),
 ) (List._∷_ (
   12,
-  Rows.mleft (Referent.rtF (Referent.fInt
-      Syntax.w64)) (Syntax.tyRef Syntax.erased Syntax.mut (Syntax.tyInt Syntax.w64)),
+  Rows.any-gone (Syntax.tyStruct (List._∷_ 38 (List._∷_ 91 (List._∷_ 93 List.[]))) (Syntax.tcons (Syntax.tyRef Syntax.erased Syntax.mut (Syntax.tyInt
+      Syntax.w8)) (Syntax.tcons (Syntax.tyInt Syntax.w64) Syntax.tnil))),
 ) (List._∷_ (
   13,
-  Rows.mleft (Referent.rtF (Referent.fInt Syntax.w64)) (Syntax.tyRef Syntax.erased
-      Syntax.mut (Syntax.tyInt Syntax.w64)),
-) (List._∷_ (14, Rows.mleft (Referent.rtF (Referent.fInt Syntax.w64)) (Syntax.tyRef Syntax.erased Syntax.mut (Syntax.tyInt Syntax.w64)))
-    List.[]))))))))))))))
+  Rows.mleft (Referent.rtF (Referent.fInt Syntax.w64)) (Syntax.tyRef Syntax.erased Syntax.mut
+      (Syntax.tyInt Syntax.w64)),
+) (List._∷_ (14, Rows.mleft (Referent.rtF (Referent.fInt Syntax.w64)) (Syntax.tyRef Syntax.erased Syntax.mut (Syntax.tyInt Syntax.w64))) (List._∷_
+    (15, Rows.mleft (Referent.rtF (Referent.fInt Syntax.w64)) (Syntax.tyRef Syntax.erased Syntax.mut (Syntax.tyInt Syntax.w64))) List.[])))))))))))))))
 
-abbrev pub t14 : List.List Row.Entry
-t14 = List._∷_ (0, Rows.sc-here (Row.sInt Syntax.w32)) (List._∷_ (
+abbrev pub t16 : List.List Row.Entry
+t16 = List._∷_ (16, Rows.mleft (Referent.rtF (Referent.fInt Syntax.w64)) (Syntax.tyRef Syntax.erased Syntax.mut (Syntax.tyInt Syntax.w64))) List.[]
+
+abbrev pub t17 : List.List Row.Entry
+t17 = List._∷_ (0, Rows.sc-here (Row.sInt Syntax.w32)) (List._∷_ (
+  1,
+  Rows.sslice (Referent.rtF (Referent.fInt Syntax.w8)) (Syntax.tyRef (Syntax.named 0) Syntax.imm (Syntax.tyInt
+      Syntax.w8)) 0,
+) (List._∷_ (2, Mut.mslice LentTilePartEntry.row (Syntax.tyRef (Syntax.named 1) Syntax.mut LentTilePartEntry.pointee) 1) (List._∷_ (
+  3,
+  Mut.mslice (Referent.rtF
+      (Referent.fInt Syntax.w8)) (Syntax.tyRef (Syntax.named 2) Syntax.mut (Syntax.tyInt Syntax.w8)) 2,
+) (List._∷_ (
+  4,
+  Rows.mref-owed (Referent.rtF (Referent.fInt Syntax.w64))
+      (Syntax.tyRef (Syntax.named 3) Syntax.mut (Syntax.tyInt Syntax.w64)) 3 9 Row.off,
+) (List._∷_ (
+  5,
+  Rows.mref-owed (Referent.rtF (Referent.fInt Syntax.w64)) (Syntax.tyRef
+      (Syntax.named 4) Syntax.mut (Syntax.tyInt Syntax.w64)) 4 10 Row.off,
+) (List._∷_ (
+  6,
+  Rows.mref-owed (Referent.rtF (Referent.fInt Syntax.w64)) (Syntax.tyRef (Syntax.named 5)
+      Syntax.mut (Syntax.tyInt Syntax.w64)) 5 11 Row.off,
+) (List._∷_ (
+  7,
+  Rows.mref-owed (Referent.rtF (Referent.fInt Syntax.w64)) (Syntax.tyRef (Syntax.named 6) Syntax.mut
+      (Syntax.tyInt Syntax.w64)) 6 12 Row.off,
+) (List._∷_ (
+  8,
+  Rows.any-gone (Syntax.tyEnum (List._∷_ 104 (List._∷_ 101 (List._∷_ 97 (List._∷_ 100 (List._∷_ 101 (List._∷_ 114 (List._∷_
+      58 (List._∷_ 58 (List._∷_ 112 (List._∷_ 97 (List._∷_ 114 (List._∷_ 115 (List._∷_ 101 (List._∷_ 58 (List._∷_ 58 (List._∷_ 77 (List._∷_ 97 (List._∷_ 105 (List._∷_ 110 (List._∷_
+      72 (List._∷_ 101 (List._∷_ 97 (List._∷_ 100 (List._∷_ 101 (List._∷_ 114 List.[]))))))))))))))))))))))))) (Syntax.ttcons (Syntax.tcons (Syntax.tyStruct (List._∷_ 104 (List._∷_
+      101 (List._∷_ 97 (List._∷_ 100 (List._∷_ 101 (List._∷_ 114 (List._∷_ 58 (List._∷_ 58 (List._∷_ 112 (List._∷_ 97 (List._∷_ 114 (List._∷_ 115 (List._∷_ 101 (List._∷_ 58 (List._∷_
+      58 (List._∷_ 77 (List._∷_ 97 (List._∷_ 105 (List._∷_ 110 (List._∷_ 72 (List._∷_ 101 (List._∷_ 97 (List._∷_ 100 (List._∷_ 101 (List._∷_ 114 (List._∷_ 73 (List._∷_ 110 (List._∷_
+      102 (List._∷_ 111 List.[]))))))))))))))))))))))))))))) (Syntax.tcons (Syntax.tyStruct (List._∷_ 116 (List._∷_ 121 (List._∷_ 112 (List._∷_ 101 (List._∷_ 115 (List._∷_ 58
+      (List._∷_ 58 (List._∷_ 67 (List._∷_ 111 (List._∷_ 100 (List._∷_ 101 (List._∷_ 115 (List._∷_ 116 (List._∷_ 114 (List._∷_ 101 (List._∷_ 97 (List._∷_ 109 (List._∷_ 79 (List._∷_
+      102 (List._∷_ 102 (List._∷_ 115 (List._∷_ 101 (List._∷_ 116 List.[]))))))))))))))))))))))) (Syntax.tcons (Syntax.tyInt Syntax.w64) Syntax.tnil)) (Syntax.tcons (Syntax.tyInt
+      Syntax.w64) (Syntax.tcons (Syntax.tyInt Syntax.w64) (Syntax.tcons (Syntax.tyInt Syntax.w64) Syntax.tnil))))) Syntax.tnil) (Syntax.ttcons (Syntax.tcons (Syntax.tyStruct
+      (List._∷_ 116 (List._∷_ 121 (List._∷_ 112 (List._∷_ 101 (List._∷_ 115 (List._∷_ 58 (List._∷_ 58 (List._∷_ 82 (List._∷_ 101 (List._∷_ 102 (List._∷_ 117 (List._∷_ 115 (List._∷_
+      97 (List._∷_ 108 List.[])))))))))))))) (Syntax.tcons (Syntax.tyInt Syntax.w32) (Syntax.tcons (Syntax.tyInt Syntax.w64) Syntax.tnil))) Syntax.tnil) Syntax.ttnil))),
+) (List._∷_
+    (9, Rows.any-gone (Syntax.tyRef Syntax.erased Syntax.mut LentTilePartEntry.pointee)) (List._∷_ (
+      10,
+      Rows.any-gone (Syntax.tyStruct (List._∷_ 38 (List._∷_ 91 (List._∷_ 93
+          List.[]))) (Syntax.tcons (Syntax.tyRef Syntax.erased Syntax.mut LentTilePartEntry.pointee) (Syntax.tcons (Syntax.tyInt Syntax.w64) Syntax.tnil))),
+    ) (List._∷_ (
+      11,
+      Rows.any-gone
+          (Syntax.tyRef Syntax.erased Syntax.mut (Syntax.tyInt Syntax.w8)),
+    ) (List._∷_ (
+      12,
+      Rows.any-gone (Syntax.tyStruct (List._∷_ 38 (List._∷_ 91 (List._∷_ 93 List.[]))) (Syntax.tcons
+          (Syntax.tyRef Syntax.erased Syntax.mut (Syntax.tyInt Syntax.w8)) (Syntax.tcons (Syntax.tyInt Syntax.w64) Syntax.tnil))),
+    ) (List._∷_ (
+      13,
+      Rows.mleft (Referent.rtF (Referent.fInt
+          Syntax.w64)) (Syntax.tyRef Syntax.erased Syntax.mut (Syntax.tyInt Syntax.w64)),
+    ) (List._∷_ (
+      14,
+      Rows.mleft (Referent.rtF (Referent.fInt Syntax.w64)) (Syntax.tyRef Syntax.erased
+          Syntax.mut (Syntax.tyInt Syntax.w64)),
+    ) (List._∷_ (15, Rows.mleft (Referent.rtF (Referent.fInt Syntax.w64)) (Syntax.tyRef Syntax.erased Syntax.mut (Syntax.tyInt Syntax.w64)))
+    List.[])))))))))))))))
+
+abbrev pub t18 : List.List Row.Entry
+t18 = List._∷_ (0, Rows.sc-here (Row.sInt Syntax.w32)) (List._∷_ (
   1,
   Rows.sslice (Referent.rtF (Referent.fInt Syntax.w8)) (Syntax.tyRef (Syntax.named 0) Syntax.imm (Syntax.tyInt
       Syntax.w8)) 0,
@@ -891,52 +976,55 @@ t14 = List._∷_ (0, Rows.sc-here (Row.sInt Syntax.w32)) (List._∷_ (
 ) (List._∷_ (
   5,
   Rows.mref-owed (Referent.rtF (Referent.fInt Syntax.w64)) (Syntax.tyRef (Syntax.named 4)
-      Syntax.mut (Syntax.tyInt Syntax.w64)) 4 9 Row.off,
+      Syntax.mut (Syntax.tyInt Syntax.w64)) 4 10 Row.off,
 ) (List._∷_ (
   6,
   Rows.mref-owed (Referent.rtF (Referent.fInt Syntax.w64)) (Syntax.tyRef (Syntax.named 5) Syntax.mut
-      (Syntax.tyInt Syntax.w64)) 5 10 Row.off,
+      (Syntax.tyInt Syntax.w64)) 5 11 Row.off,
 ) (List._∷_ (
   7,
-  Rows.any-gone (Syntax.tyEnum (List._∷_ 104 (List._∷_ 101 (List._∷_ 97 (List._∷_ 100 (List._∷_ 101 (List._∷_ 114 (List._∷_
-      58 (List._∷_ 58 (List._∷_ 112 (List._∷_ 97 (List._∷_ 114 (List._∷_ 115 (List._∷_ 101 (List._∷_ 58 (List._∷_ 58 (List._∷_ 77 (List._∷_ 97 (List._∷_ 105 (List._∷_ 110 (List._∷_
-      72 (List._∷_ 101 (List._∷_ 97 (List._∷_ 100 (List._∷_ 101 (List._∷_ 114 List.[]))))))))))))))))))))))))) (Syntax.ttcons (Syntax.tcons (Syntax.tyStruct (List._∷_ 104 (List._∷_
-      101 (List._∷_ 97 (List._∷_ 100 (List._∷_ 101 (List._∷_ 114 (List._∷_ 58 (List._∷_ 58 (List._∷_ 112 (List._∷_ 97 (List._∷_ 114 (List._∷_ 115 (List._∷_ 101 (List._∷_ 58 (List._∷_
-      58 (List._∷_ 77 (List._∷_ 97 (List._∷_ 105 (List._∷_ 110 (List._∷_ 72 (List._∷_ 101 (List._∷_ 97 (List._∷_ 100 (List._∷_ 101 (List._∷_ 114 (List._∷_ 73 (List._∷_ 110 (List._∷_
-      102 (List._∷_ 111 List.[]))))))))))))))))))))))))))))) (Syntax.tcons (Syntax.tyStruct (List._∷_ 116 (List._∷_ 121 (List._∷_ 112 (List._∷_ 101 (List._∷_ 115 (List._∷_ 58
-      (List._∷_ 58 (List._∷_ 67 (List._∷_ 111 (List._∷_ 100 (List._∷_ 101 (List._∷_ 115 (List._∷_ 116 (List._∷_ 114 (List._∷_ 101 (List._∷_ 97 (List._∷_ 109 (List._∷_ 79 (List._∷_
-      102 (List._∷_ 102 (List._∷_ 115 (List._∷_ 101 (List._∷_ 116 List.[]))))))))))))))))))))))) (Syntax.tcons (Syntax.tyInt Syntax.w64) Syntax.tnil)) (Syntax.tcons (Syntax.tyInt
-      Syntax.w64) (Syntax.tcons (Syntax.tyInt Syntax.w64) Syntax.tnil)))) Syntax.tnil) (Syntax.ttcons (Syntax.tcons (Syntax.tyStruct (List._∷_ 116 (List._∷_ 121 (List._∷_ 112
-      (List._∷_ 101 (List._∷_ 115 (List._∷_ 58 (List._∷_ 58 (List._∷_ 82 (List._∷_ 101 (List._∷_ 102 (List._∷_ 117 (List._∷_ 115 (List._∷_ 97 (List._∷_ 108 List.[]))))))))))))))
-      (Syntax.tcons (Syntax.tyInt Syntax.w32) (Syntax.tcons (Syntax.tyInt Syntax.w64) Syntax.tnil))) Syntax.tnil) Syntax.ttnil))),
+  Rows.mref-owed (Referent.rtF (Referent.fInt Syntax.w64)) (Syntax.tyRef (Syntax.named 6) Syntax.mut (Syntax.tyInt
+      Syntax.w64)) 6 12 Row.off,
 ) (List._∷_ (
   8,
-  Rows.any-gone (Syntax.tyRef
-      Syntax.erased Syntax.mut LentTilePartEntry.pointee),
+  Rows.any-gone (Syntax.tyEnum (List._∷_ 104 (List._∷_ 101 (List._∷_ 97 (List._∷_ 100 (List._∷_ 101 (List._∷_ 114 (List._∷_ 58 (List._∷_
+      58 (List._∷_ 112 (List._∷_ 97 (List._∷_ 114 (List._∷_ 115 (List._∷_ 101 (List._∷_ 58 (List._∷_ 58 (List._∷_ 77 (List._∷_ 97 (List._∷_ 105 (List._∷_ 110 (List._∷_ 72 (List._∷_
+      101 (List._∷_ 97 (List._∷_ 100 (List._∷_ 101 (List._∷_ 114 List.[]))))))))))))))))))))))))) (Syntax.ttcons (Syntax.tcons (Syntax.tyStruct (List._∷_ 104 (List._∷_ 101 (List._∷_
+      97 (List._∷_ 100 (List._∷_ 101 (List._∷_ 114 (List._∷_ 58 (List._∷_ 58 (List._∷_ 112 (List._∷_ 97 (List._∷_ 114 (List._∷_ 115 (List._∷_ 101 (List._∷_ 58 (List._∷_ 58 (List._∷_
+      77 (List._∷_ 97 (List._∷_ 105 (List._∷_ 110 (List._∷_ 72 (List._∷_ 101 (List._∷_ 97 (List._∷_ 100 (List._∷_ 101 (List._∷_ 114 (List._∷_ 73 (List._∷_ 110 (List._∷_ 102 (List._∷_
+      111 List.[]))))))))))))))))))))))))))))) (Syntax.tcons (Syntax.tyStruct (List._∷_ 116 (List._∷_ 121 (List._∷_ 112 (List._∷_ 101 (List._∷_ 115 (List._∷_ 58 (List._∷_ 58
+      (List._∷_ 67 (List._∷_ 111 (List._∷_ 100 (List._∷_ 101 (List._∷_ 115 (List._∷_ 116 (List._∷_ 114 (List._∷_ 101 (List._∷_ 97 (List._∷_ 109 (List._∷_ 79 (List._∷_ 102 (List._∷_
+      102 (List._∷_ 115 (List._∷_ 101 (List._∷_ 116 List.[]))))))))))))))))))))))) (Syntax.tcons (Syntax.tyInt Syntax.w64) Syntax.tnil)) (Syntax.tcons (Syntax.tyInt Syntax.w64)
+      (Syntax.tcons (Syntax.tyInt Syntax.w64) (Syntax.tcons (Syntax.tyInt Syntax.w64) Syntax.tnil))))) Syntax.tnil) (Syntax.ttcons (Syntax.tcons (Syntax.tyStruct (List._∷_ 116
+      (List._∷_ 121 (List._∷_ 112 (List._∷_ 101 (List._∷_ 115 (List._∷_ 58 (List._∷_ 58 (List._∷_ 82 (List._∷_ 101 (List._∷_ 102 (List._∷_ 117 (List._∷_ 115 (List._∷_ 97 (List._∷_
+      108 List.[])))))))))))))) (Syntax.tcons (Syntax.tyInt Syntax.w32) (Syntax.tcons (Syntax.tyInt Syntax.w64) Syntax.tnil))) Syntax.tnil) Syntax.ttnil))),
 ) (List._∷_ (
   9,
-  Rows.any-gone (Syntax.tyStruct (List._∷_ 38 (List._∷_ 91 (List._∷_ 93 List.[]))) (Syntax.tcons (Syntax.tyRef
-      Syntax.erased Syntax.mut LentTilePartEntry.pointee) (Syntax.tcons (Syntax.tyInt Syntax.w64) Syntax.tnil))),
+  Rows.any-gone (Syntax.tyRef Syntax.erased Syntax.mut LentTilePartEntry.pointee),
 ) (List._∷_ (
   10,
-  Rows.any-gone (Syntax.tyRef Syntax.erased Syntax.mut
-      (Syntax.tyInt Syntax.w8)),
+  Rows.any-gone (Syntax.tyStruct (List._∷_ 38 (List._∷_ 91 (List._∷_ 93 List.[])))
+      (Syntax.tcons (Syntax.tyRef Syntax.erased Syntax.mut LentTilePartEntry.pointee) (Syntax.tcons (Syntax.tyInt Syntax.w64) Syntax.tnil))),
 ) (List._∷_ (
   11,
-  Rows.any-gone (Syntax.tyStruct (List._∷_ 38 (List._∷_ 91 (List._∷_ 93 List.[]))) (Syntax.tcons (Syntax.tyRef Syntax.erased Syntax.mut
-      (Syntax.tyInt Syntax.w8)) (Syntax.tcons (Syntax.tyInt Syntax.w64) Syntax.tnil))),
+  Rows.any-gone
+      (Syntax.tyRef Syntax.erased Syntax.mut (Syntax.tyInt Syntax.w8)),
 ) (List._∷_ (
   12,
-  Rows.any-gone (Syntax.tyRef Syntax.erased Syntax.mut (Syntax.tyInt
-      Syntax.w64)),
-) (List._∷_ (13, Rows.mleft (Referent.rtF (Referent.fInt Syntax.w64)) (Syntax.tyRef Syntax.erased Syntax.mut (Syntax.tyInt Syntax.w64))) (List._∷_ (
+  Rows.any-gone (Syntax.tyStruct (List._∷_ 38 (List._∷_ 91 (List._∷_ 93 List.[]))) (Syntax.tcons
+      (Syntax.tyRef Syntax.erased Syntax.mut (Syntax.tyInt Syntax.w8)) (Syntax.tcons (Syntax.tyInt Syntax.w64) Syntax.tnil))),
+) (List._∷_ (
+  13,
+  Rows.any-gone (Syntax.tyRef
+      Syntax.erased Syntax.mut (Syntax.tyInt Syntax.w64)),
+) (List._∷_ (
   14,
-  Rows.mleft
-      (Referent.rtF (Referent.fInt Syntax.w64)) (Syntax.tyRef Syntax.erased Syntax.mut (Syntax.tyInt Syntax.w64)),
-) List.[]))))))))))))))
+  Rows.mleft (Referent.rtF (Referent.fInt Syntax.w64)) (Syntax.tyRef Syntax.erased Syntax.mut (Syntax.tyInt
+      Syntax.w64)),
+) (List._∷_ (15, Rows.mleft (Referent.rtF (Referent.fInt Syntax.w64)) (Syntax.tyRef Syntax.erased Syntax.mut (Syntax.tyInt Syntax.w64))) List.[])))))))))))))))
 
-abbrev pub t15 : List.List Row.Entry
-t15 = List._∷_ (0, Rows.sc-here (Row.sInt Syntax.w32)) (List._∷_ (
+abbrev pub t19 : List.List Row.Entry
+t19 = List._∷_ (0, Rows.sc-here (Row.sInt Syntax.w32)) (List._∷_ (
   1,
   Rows.sslice (Referent.rtF (Referent.fInt Syntax.w8)) (Syntax.tyRef (Syntax.named 0) Syntax.imm (Syntax.tyInt
       Syntax.w8)) 0,
@@ -955,102 +1043,175 @@ t15 = List._∷_ (0, Rows.sc-here (Row.sInt Syntax.w32)) (List._∷_ (
 ) (List._∷_ (
   6,
   Rows.mref-owed (Referent.rtF (Referent.fInt Syntax.w64)) (Syntax.tyRef (Syntax.named 5) Syntax.mut (Syntax.tyInt
-      Syntax.w64)) 5 10 Row.off,
+      Syntax.w64)) 5 11 Row.off,
 ) (List._∷_ (
   7,
-  Rows.any-gone (Syntax.tyEnum (List._∷_ 104 (List._∷_ 101 (List._∷_ 97 (List._∷_ 100 (List._∷_ 101 (List._∷_ 114 (List._∷_ 58 (List._∷_
-      58 (List._∷_ 112 (List._∷_ 97 (List._∷_ 114 (List._∷_ 115 (List._∷_ 101 (List._∷_ 58 (List._∷_ 58 (List._∷_ 77 (List._∷_ 97 (List._∷_ 105 (List._∷_ 110 (List._∷_ 72 (List._∷_
-      101 (List._∷_ 97 (List._∷_ 100 (List._∷_ 101 (List._∷_ 114 List.[]))))))))))))))))))))))))) (Syntax.ttcons (Syntax.tcons (Syntax.tyStruct (List._∷_ 104 (List._∷_ 101 (List._∷_
-      97 (List._∷_ 100 (List._∷_ 101 (List._∷_ 114 (List._∷_ 58 (List._∷_ 58 (List._∷_ 112 (List._∷_ 97 (List._∷_ 114 (List._∷_ 115 (List._∷_ 101 (List._∷_ 58 (List._∷_ 58 (List._∷_
-      77 (List._∷_ 97 (List._∷_ 105 (List._∷_ 110 (List._∷_ 72 (List._∷_ 101 (List._∷_ 97 (List._∷_ 100 (List._∷_ 101 (List._∷_ 114 (List._∷_ 73 (List._∷_ 110 (List._∷_ 102 (List._∷_
-      111 List.[]))))))))))))))))))))))))))))) (Syntax.tcons (Syntax.tyStruct (List._∷_ 116 (List._∷_ 121 (List._∷_ 112 (List._∷_ 101 (List._∷_ 115 (List._∷_ 58 (List._∷_ 58
-      (List._∷_ 67 (List._∷_ 111 (List._∷_ 100 (List._∷_ 101 (List._∷_ 115 (List._∷_ 116 (List._∷_ 114 (List._∷_ 101 (List._∷_ 97 (List._∷_ 109 (List._∷_ 79 (List._∷_ 102 (List._∷_
-      102 (List._∷_ 115 (List._∷_ 101 (List._∷_ 116 List.[]))))))))))))))))))))))) (Syntax.tcons (Syntax.tyInt Syntax.w64) Syntax.tnil)) (Syntax.tcons (Syntax.tyInt Syntax.w64)
-      (Syntax.tcons (Syntax.tyInt Syntax.w64) Syntax.tnil)))) Syntax.tnil) (Syntax.ttcons (Syntax.tcons (Syntax.tyStruct (List._∷_ 116 (List._∷_ 121 (List._∷_ 112 (List._∷_ 101
-      (List._∷_ 115 (List._∷_ 58 (List._∷_ 58 (List._∷_ 82 (List._∷_ 101 (List._∷_ 102 (List._∷_ 117 (List._∷_ 115 (List._∷_ 97 (List._∷_ 108 List.[])))))))))))))) (Syntax.tcons
-      (Syntax.tyInt Syntax.w32) (Syntax.tcons (Syntax.tyInt Syntax.w64) Syntax.tnil))) Syntax.tnil) Syntax.ttnil))),
+  Rows.mref-owed (Referent.rtF (Referent.fInt Syntax.w64)) (Syntax.tyRef (Syntax.named 6) Syntax.mut (Syntax.tyInt Syntax.w64)) 6 12
+      Row.off,
 ) (List._∷_ (
   8,
-  Rows.any-gone (Syntax.tyRef Syntax.erased
-      Syntax.mut LentTilePartEntry.pointee),
+  Rows.any-gone (Syntax.tyEnum (List._∷_ 104 (List._∷_ 101 (List._∷_ 97 (List._∷_ 100 (List._∷_ 101 (List._∷_ 114 (List._∷_ 58 (List._∷_ 58 (List._∷_ 112
+      (List._∷_ 97 (List._∷_ 114 (List._∷_ 115 (List._∷_ 101 (List._∷_ 58 (List._∷_ 58 (List._∷_ 77 (List._∷_ 97 (List._∷_ 105 (List._∷_ 110 (List._∷_ 72 (List._∷_ 101 (List._∷_ 97
+      (List._∷_ 100 (List._∷_ 101 (List._∷_ 114 List.[]))))))))))))))))))))))))) (Syntax.ttcons (Syntax.tcons (Syntax.tyStruct (List._∷_ 104 (List._∷_ 101 (List._∷_ 97 (List._∷_ 100
+      (List._∷_ 101 (List._∷_ 114 (List._∷_ 58 (List._∷_ 58 (List._∷_ 112 (List._∷_ 97 (List._∷_ 114 (List._∷_ 115 (List._∷_ 101 (List._∷_ 58 (List._∷_ 58 (List._∷_ 77 (List._∷_ 97
+      (List._∷_ 105 (List._∷_ 110 (List._∷_ 72 (List._∷_ 101 (List._∷_ 97 (List._∷_ 100 (List._∷_ 101 (List._∷_ 114 (List._∷_ 73 (List._∷_ 110 (List._∷_ 102 (List._∷_ 111
+      List.[]))))))))))))))))))))))))))))) (Syntax.tcons (Syntax.tyStruct (List._∷_ 116 (List._∷_ 121 (List._∷_ 112 (List._∷_ 101 (List._∷_ 115 (List._∷_ 58 (List._∷_ 58 (List._∷_ 67
+      (List._∷_ 111 (List._∷_ 100 (List._∷_ 101 (List._∷_ 115 (List._∷_ 116 (List._∷_ 114 (List._∷_ 101 (List._∷_ 97 (List._∷_ 109 (List._∷_ 79 (List._∷_ 102 (List._∷_ 102 (List._∷_
+      115 (List._∷_ 101 (List._∷_ 116 List.[]))))))))))))))))))))))) (Syntax.tcons (Syntax.tyInt Syntax.w64) Syntax.tnil)) (Syntax.tcons (Syntax.tyInt Syntax.w64) (Syntax.tcons
+      (Syntax.tyInt Syntax.w64) (Syntax.tcons (Syntax.tyInt Syntax.w64) Syntax.tnil))))) Syntax.tnil) (Syntax.ttcons (Syntax.tcons (Syntax.tyStruct (List._∷_ 116 (List._∷_ 121
+      (List._∷_ 112 (List._∷_ 101 (List._∷_ 115 (List._∷_ 58 (List._∷_ 58 (List._∷_ 82 (List._∷_ 101 (List._∷_ 102 (List._∷_ 117 (List._∷_ 115 (List._∷_ 97 (List._∷_ 108
+      List.[])))))))))))))) (Syntax.tcons (Syntax.tyInt Syntax.w32) (Syntax.tcons (Syntax.tyInt Syntax.w64) Syntax.tnil))) Syntax.tnil) Syntax.ttnil))),
 ) (List._∷_ (
   9,
-  Rows.any-gone (Syntax.tyStruct (List._∷_ 38 (List._∷_ 91 (List._∷_ 93 List.[]))) (Syntax.tcons (Syntax.tyRef Syntax.erased
-      Syntax.mut LentTilePartEntry.pointee) (Syntax.tcons (Syntax.tyInt Syntax.w64) Syntax.tnil))),
+  Rows.any-gone
+      (Syntax.tyRef Syntax.erased Syntax.mut LentTilePartEntry.pointee),
 ) (List._∷_ (
   10,
-  Rows.any-gone (Syntax.tyRef Syntax.erased Syntax.mut (Syntax.tyInt
-      Syntax.w8)),
+  Rows.any-gone (Syntax.tyStruct (List._∷_ 38 (List._∷_ 91 (List._∷_ 93 List.[]))) (Syntax.tcons
+      (Syntax.tyRef Syntax.erased Syntax.mut LentTilePartEntry.pointee) (Syntax.tcons (Syntax.tyInt Syntax.w64) Syntax.tnil))),
 ) (List._∷_ (
   11,
-  Rows.any-gone (Syntax.tyStruct (List._∷_ 38 (List._∷_ 91 (List._∷_ 93 List.[]))) (Syntax.tcons (Syntax.tyRef Syntax.erased Syntax.mut (Syntax.tyInt
-      Syntax.w8)) (Syntax.tcons (Syntax.tyInt Syntax.w64) Syntax.tnil))),
-) (List._∷_ (12, Rows.any-gone (Syntax.tyRef Syntax.erased Syntax.mut (Syntax.tyInt Syntax.w64))) (List._∷_
-    (13, Rows.any-gone (Syntax.tyRef Syntax.erased Syntax.mut (Syntax.tyInt Syntax.w64))) (List._∷_ (
-      14,
-      Rows.mleft (Referent.rtF (Referent.fInt Syntax.w64)) (Syntax.tyRef
-          Syntax.erased Syntax.mut (Syntax.tyInt Syntax.w64)),
-    ) List.[]))))))))))))))
+  Rows.any-gone (Syntax.tyRef
+      Syntax.erased Syntax.mut (Syntax.tyInt Syntax.w8)),
+) (List._∷_ (
+  12,
+  Rows.any-gone (Syntax.tyStruct (List._∷_ 38 (List._∷_ 91 (List._∷_ 93 List.[]))) (Syntax.tcons (Syntax.tyRef
+      Syntax.erased Syntax.mut (Syntax.tyInt Syntax.w8)) (Syntax.tcons (Syntax.tyInt Syntax.w64) Syntax.tnil))),
+) (List._∷_ (
+  13,
+  Rows.any-gone (Syntax.tyRef Syntax.erased Syntax.mut
+      (Syntax.tyInt Syntax.w64)),
+) (List._∷_ (14, Rows.any-gone (Syntax.tyRef Syntax.erased Syntax.mut (Syntax.tyInt Syntax.w64))) (List._∷_ (
+  15,
+  Rows.mleft (Referent.rtF
+      (Referent.fInt Syntax.w64)) (Syntax.tyRef Syntax.erased Syntax.mut (Syntax.tyInt Syntax.w64)),
+) List.[])))))))))))))))
+
+abbrev pub t20 : List.List Row.Entry
+t20 = List._∷_ (0, Rows.sc-here (Row.sInt Syntax.w32)) (List._∷_ (
+  1,
+  Rows.sslice (Referent.rtF (Referent.fInt Syntax.w8)) (Syntax.tyRef (Syntax.named 0) Syntax.imm (Syntax.tyInt
+      Syntax.w8)) 0,
+) (List._∷_ (2, Mut.mslice LentTilePartEntry.row (Syntax.tyRef (Syntax.named 1) Syntax.mut LentTilePartEntry.pointee) 1) (List._∷_ (
+  3,
+  Mut.mslice (Referent.rtF
+      (Referent.fInt Syntax.w8)) (Syntax.tyRef (Syntax.named 2) Syntax.mut (Syntax.tyInt Syntax.w8)) 2,
+) (List._∷_ (
+  4,
+  Rows.mref (Referent.rtF (Referent.fInt Syntax.w64))
+      (Syntax.tyRef (Syntax.named 3) Syntax.mut (Syntax.tyInt Syntax.w64)) 3,
+) (List._∷_ (
+  5,
+  Rows.mref (Referent.rtF (Referent.fInt Syntax.w64)) (Syntax.tyRef (Syntax.named 4)
+      Syntax.mut (Syntax.tyInt Syntax.w64)) 4,
+) (List._∷_ (
+  6,
+  Rows.mref (Referent.rtF (Referent.fInt Syntax.w64)) (Syntax.tyRef (Syntax.named 5) Syntax.mut (Syntax.tyInt Syntax.w64))
+      5,
+) (List._∷_ (7, Rows.mref-owed (Referent.rtF (Referent.fInt Syntax.w64)) (Syntax.tyRef (Syntax.named 6) Syntax.mut (Syntax.tyInt Syntax.w64)) 6 12 Row.off) (List._∷_ (
+  8,
+  Rows.any-gone (Syntax.tyEnum (List._∷_ 104 (List._∷_ 101 (List._∷_ 97 (List._∷_ 100 (List._∷_ 101 (List._∷_ 114 (List._∷_ 58 (List._∷_ 58 (List._∷_ 112 (List._∷_ 97 (List._∷_
+      114 (List._∷_ 115 (List._∷_ 101 (List._∷_ 58 (List._∷_ 58 (List._∷_ 77 (List._∷_ 97 (List._∷_ 105 (List._∷_ 110 (List._∷_ 72 (List._∷_ 101 (List._∷_ 97 (List._∷_ 100 (List._∷_
+      101 (List._∷_ 114 List.[]))))))))))))))))))))))))) (Syntax.ttcons (Syntax.tcons (Syntax.tyStruct (List._∷_ 104 (List._∷_ 101 (List._∷_ 97 (List._∷_ 100 (List._∷_ 101 (List._∷_
+      114 (List._∷_ 58 (List._∷_ 58 (List._∷_ 112 (List._∷_ 97 (List._∷_ 114 (List._∷_ 115 (List._∷_ 101 (List._∷_ 58 (List._∷_ 58 (List._∷_ 77 (List._∷_ 97 (List._∷_ 105 (List._∷_
+      110 (List._∷_ 72 (List._∷_ 101 (List._∷_ 97 (List._∷_ 100 (List._∷_ 101 (List._∷_ 114 (List._∷_ 73 (List._∷_ 110 (List._∷_ 102 (List._∷_ 111
+      List.[]))))))))))))))))))))))))))))) (Syntax.tcons (Syntax.tyStruct (List._∷_ 116 (List._∷_ 121 (List._∷_ 112 (List._∷_ 101 (List._∷_ 115 (List._∷_ 58 (List._∷_ 58 (List._∷_ 67
+      (List._∷_ 111 (List._∷_ 100 (List._∷_ 101 (List._∷_ 115 (List._∷_ 116 (List._∷_ 114 (List._∷_ 101 (List._∷_ 97 (List._∷_ 109 (List._∷_ 79 (List._∷_ 102 (List._∷_ 102 (List._∷_
+      115 (List._∷_ 101 (List._∷_ 116 List.[]))))))))))))))))))))))) (Syntax.tcons (Syntax.tyInt Syntax.w64) Syntax.tnil)) (Syntax.tcons (Syntax.tyInt Syntax.w64) (Syntax.tcons
+      (Syntax.tyInt Syntax.w64) (Syntax.tcons (Syntax.tyInt Syntax.w64) Syntax.tnil))))) Syntax.tnil) (Syntax.ttcons (Syntax.tcons (Syntax.tyStruct (List._∷_ 116 (List._∷_ 121
+      (List._∷_ 112 (List._∷_ 101 (List._∷_ 115 (List._∷_ 58 (List._∷_ 58 (List._∷_ 82 (List._∷_ 101 (List._∷_ 102 (List._∷_ 117 (List._∷_ 115 (List._∷_ 97 (List._∷_ 108
+      List.[])))))))))))))) (Syntax.tcons (Syntax.tyInt Syntax.w32) (Syntax.tcons (Syntax.tyInt Syntax.w64) Syntax.tnil))) Syntax.tnil) Syntax.ttnil))),
+) (List._∷_ (
+  9,
+  Rows.any-gone
+      (Syntax.tyRef Syntax.erased Syntax.mut LentTilePartEntry.pointee),
+) (List._∷_ (
+  10,
+  Rows.any-gone (Syntax.tyStruct (List._∷_ 38 (List._∷_ 91 (List._∷_ 93 List.[]))) (Syntax.tcons
+      (Syntax.tyRef Syntax.erased Syntax.mut LentTilePartEntry.pointee) (Syntax.tcons (Syntax.tyInt Syntax.w64) Syntax.tnil))),
+) (List._∷_ (
+  11,
+  Rows.any-gone (Syntax.tyRef
+      Syntax.erased Syntax.mut (Syntax.tyInt Syntax.w8)),
+) (List._∷_ (
+  12,
+  Rows.any-gone (Syntax.tyStruct (List._∷_ 38 (List._∷_ 91 (List._∷_ 93 List.[]))) (Syntax.tcons (Syntax.tyRef
+      Syntax.erased Syntax.mut (Syntax.tyInt Syntax.w8)) (Syntax.tcons (Syntax.tyInt Syntax.w64) Syntax.tnil))),
+) (List._∷_ (
+  13,
+  Rows.any-gone (Syntax.tyRef Syntax.erased Syntax.mut
+      (Syntax.tyInt Syntax.w64)),
+) (List._∷_ (14, Rows.any-gone (Syntax.tyRef Syntax.erased Syntax.mut (Syntax.tyInt Syntax.w64))) (List._∷_ (
+  15,
+  Rows.any-gone (Syntax.tyRef
+      Syntax.erased Syntax.mut (Syntax.tyInt Syntax.w64)),
+) List.[])))))))))))))))
 
 abbrev pub T0 : Row.Cx
-T0 = record { locals = t0; slots = List.[] }
+T0 = record { locals = List._++_ t0 t1; slots = List.[] }
 
 abbrev pub T1 : Row.Cx
-T1 = record { locals = t1; slots = List.[] }
+T1 = record { locals = List._++_ t2 t1; slots = List.[] }
 
 abbrev pub T2 : Row.Cx
-T2 = record { locals = t0; slots = List.[] }
+T2 = record { locals = List._++_ t0 t1; slots = List.[] }
 
 abbrev pub T3 : Row.Cx
-T3 = record { locals = t0; slots = List.[] }
+T3 = record { locals = List._++_ t0 t1; slots = List.[] }
 
 abbrev pub T5 : Row.Cx
-T5 = record { locals = t2; slots = List.[] }
+T5 = record { locals = List._++_ t3 t1; slots = List.[] }
 
 abbrev pub T6 : Row.Cx
-T6 = record { locals = t3; slots = List.[] }
+T6 = record { locals = List._++_ t4 t1; slots = List.[] }
 
 abbrev pub T8 : Row.Cx
-T8 = record { locals = t4; slots = List.[] }
+T8 = record { locals = List._++_ t5 t1; slots = List.[] }
 
 abbrev pub T9 : Row.Cx
-T9 = record { locals = t5; slots = List.[] }
+T9 = record { locals = List._++_ t6 t1; slots = List.[] }
 
 abbrev pub T10 : Row.Cx
-T10 = record { locals = t6; slots = List.[] }
+T10 = record { locals = List._++_ t7 t1; slots = List.[] }
 
 abbrev pub T12 : Row.Cx
-T12 = record { locals = t7; slots = List.[] }
+T12 = record { locals = List._++_ t8 t1; slots = List.[] }
 
 abbrev pub T15 : Row.Cx
-T15 = record { locals = t8; slots = List.[] }
+T15 = record { locals = List._++_ t9 t1; slots = List.[] }
 
 abbrev pub T16 : Row.Cx
-T16 = record { locals = t8; slots = List.[] }
+T16 = record { locals = List._++_ t9 t1; slots = List.[] }
 
 abbrev pub T19 : Row.Cx
-T19 = record { locals = t9; slots = List.[] }
+T19 = record { locals = List._++_ t10 t1; slots = List.[] }
 
 abbrev pub T21 : Row.Cx
-T21 = record { locals = t10; slots = List.[] }
+T21 = record { locals = List._++_ t11 t1; slots = List.[] }
 
 abbrev pub T23 : Row.Cx
-T23 = record { locals = t11; slots = List.[] }
-
-abbrev pub T24 : Row.Cx
-T24 = record { locals = t12; slots = List.[] }
+T23 = record { locals = List._++_ t12 t1; slots = List.[] }
 
 abbrev pub T25 : Row.Cx
-T25 = record { locals = t13; slots = List.[] }
+T25 = record { locals = List._++_ t13 t14; slots = List.[] }
+
+abbrev pub T26 : Row.Cx
+T26 = record { locals = List._++_ t15 t16; slots = List.[] }
 
 abbrev pub T27 : Row.Cx
-T27 = record { locals = t14; slots = List.[] }
+T27 = record { locals = List._++_ t17 t16; slots = List.[] }
 
-abbrev pub T30 : Row.Cx
-T30 = record { locals = t15; slots = List.[] }
+abbrev pub T29 : Row.Cx
+T29 = record { locals = List._++_ t18 t16; slots = List.[] }
 
-abbrev pub T33 : Row.Cx
-T33 = record { locals = t1; slots = List.[] }
+abbrev pub T32 : Row.Cx
+T32 = record { locals = List._++_ t19 t16; slots = List.[] }
+
+abbrev pub T35 : Row.Cx
+T35 = record { locals = List._++_ t20 t16; slots = List.[] }
+
+abbrev pub T38 : Row.Cx
+T38 = record { locals = List._++_ t2 t1; slots = List.[] }
 
 abbrev pub O0 : Typed.Outs
 O0 = record { next = Option.none; exits = List.[]; returns = Option.some T1 }
@@ -1063,19 +1224,19 @@ module _ (claims· : Claims) where
   s1 = Know.k-sl-known (Referent.fInt Syntax.w8) T2 3 2 (Syntax.tyRef (Syntax.named 2) Syntax.mut (Syntax.tyInt Syntax.w8)) Row.off 0 λ x. x
 
   abbrev s3 : Typed.Gives T3 T5
-  s3 = Relend.k-sl-relend LentTilePartEntry.row T3 2 8 1 6 (Syntax.tyRef (Syntax.named 1) Syntax.mut LentTilePartEntry.pointee) (Syntax.tyRef Syntax.erased Syntax.mut
+  s3 = Relend.k-sl-relend LentTilePartEntry.row T3 2 9 1 7 (Syntax.tyRef (Syntax.named 1) Syntax.mut LentTilePartEntry.pointee) (Syntax.tyRef Syntax.erased Syntax.mut
       LentTilePartEntry.pointee) Row.off λ x. x
 
   abbrev s4 : Typed.Asks T5 T6
-  s4 = Relend.k-sl-aggregate LentTilePartEntry.row (Relend.asMut LentTilePartEntry.row) T5 8 9 6 (Syntax.tyRef Syntax.erased Syntax.mut LentTilePartEntry.pointee) (Syntax.tyRef
+  s4 = Relend.k-sl-aggregate LentTilePartEntry.row (Relend.asMut LentTilePartEntry.row) T5 9 10 7 (Syntax.tyRef Syntax.erased Syntax.mut LentTilePartEntry.pointee) (Syntax.tyRef
       Syntax.erased Syntax.mut LentTilePartEntry.pointee) (λ x. x) (Scalar.oFld 2 (List._∷_ (Syntax.field 1) List.[]) (Syntax.tyInt Syntax.w64) 8 λ v. Shared.lenV (v .0))
 
   abbrev s6 : Typed.Gives T6 T8
-  s6 = Relend.k-sl-relend (Referent.rtF (Referent.fInt Syntax.w8)) T6 3 10 2 7 (Syntax.tyRef (Syntax.named 2) Syntax.mut (Syntax.tyInt Syntax.w8)) (Syntax.tyRef Syntax.erased
+  s6 = Relend.k-sl-relend (Referent.rtF (Referent.fInt Syntax.w8)) T6 3 11 2 8 (Syntax.tyRef (Syntax.named 2) Syntax.mut (Syntax.tyInt Syntax.w8)) (Syntax.tyRef Syntax.erased
       Syntax.mut (Syntax.tyInt Syntax.w8)) Row.off λ x. x
 
   abbrev s7 : Typed.Asks T8 T9
-  s7 = Relend.k-sl-aggregate (Referent.rtF (Referent.fInt Syntax.w8)) (Relend.asMut (Referent.rtF (Referent.fInt Syntax.w8))) T8 10 11 7 (Syntax.tyRef Syntax.erased Syntax.mut
+  s7 = Relend.k-sl-aggregate (Referent.rtF (Referent.fInt Syntax.w8)) (Relend.asMut (Referent.rtF (Referent.fInt Syntax.w8))) T8 11 12 8 (Syntax.tyRef Syntax.erased Syntax.mut
       (Syntax.tyInt Syntax.w8)) (Syntax.tyRef Syntax.erased Syntax.mut (Syntax.tyInt Syntax.w8)) (λ x. x) (Scalar.oFld 3 (List._∷_ (Syntax.field 1) List.[]) (Syntax.tyInt
       Syntax.w64) 8 λ v. Shared.lenV (v .0))
 
@@ -1085,13 +1246,13 @@ module _ (claims· : Claims) where
     (
       record {
         pos =
-            9;
+            10;
         ty = Syntax.tyRef Syntax.erased Syntax.mut LentTilePartEntry.pointee;
         ref = λ x. x;
       },
       (
         record {
-          pos = 11;
+          pos = 12;
           ty = Syntax.tyRef Syntax.erased Syntax.mut (Syntax.tyInt
               Syntax.w8);
           ref = λ x. x;
@@ -1099,7 +1260,7 @@ module _ (claims· : Claims) where
         tt,
       ),
     ),
-  ) 7 (List._∷_ 0 (List._∷_ 6 (List._∷_ 7 List.[]))) (Syntax.tyEnum (List._∷_ 104 (List._∷_ 101 (List._∷_ 97 (List._∷_ 100 (List._∷_ 101
+  ) 8 (List._∷_ 0 (List._∷_ 7 (List._∷_ 8 List.[]))) (Syntax.tyEnum (List._∷_ 104 (List._∷_ 101 (List._∷_ 97 (List._∷_ 100 (List._∷_ 101
       (List._∷_ 114 (List._∷_ 58 (List._∷_ 58 (List._∷_ 112 (List._∷_ 97 (List._∷_ 114 (List._∷_ 115 (List._∷_ 101 (List._∷_ 58 (List._∷_ 58 (List._∷_ 77 (List._∷_ 97 (List._∷_ 105
       (List._∷_ 110 (List._∷_ 72 (List._∷_ 101 (List._∷_ 97 (List._∷_ 100 (List._∷_ 101 (List._∷_ 114 List.[]))))))))))))))))))))))))) (Syntax.ttcons (Syntax.tcons (Syntax.tyStruct
       (List._∷_ 104 (List._∷_ 101 (List._∷_ 97 (List._∷_ 100 (List._∷_ 101 (List._∷_ 114 (List._∷_ 58 (List._∷_ 58 (List._∷_ 112 (List._∷_ 97 (List._∷_ 114 (List._∷_ 115 (List._∷_
@@ -1107,60 +1268,72 @@ module _ (claims· : Claims) where
       (List._∷_ 73 (List._∷_ 110 (List._∷_ 102 (List._∷_ 111 List.[]))))))))))))))))))))))))))))) (Syntax.tcons (Syntax.tyStruct (List._∷_ 116 (List._∷_ 121 (List._∷_ 112 (List._∷_
       101 (List._∷_ 115 (List._∷_ 58 (List._∷_ 58 (List._∷_ 67 (List._∷_ 111 (List._∷_ 100 (List._∷_ 101 (List._∷_ 115 (List._∷_ 116 (List._∷_ 114 (List._∷_ 101 (List._∷_ 97
       (List._∷_ 109 (List._∷_ 79 (List._∷_ 102 (List._∷_ 102 (List._∷_ 115 (List._∷_ 101 (List._∷_ 116 List.[]))))))))))))))))))))))) (Syntax.tcons (Syntax.tyInt Syntax.w64)
-      Syntax.tnil)) (Syntax.tcons (Syntax.tyInt Syntax.w64) (Syntax.tcons (Syntax.tyInt Syntax.w64) Syntax.tnil)))) Syntax.tnil) (Syntax.ttcons (Syntax.tcons (Syntax.tyStruct
-      (List._∷_ 116 (List._∷_ 121 (List._∷_ 112 (List._∷_ 101 (List._∷_ 115 (List._∷_ 58 (List._∷_ 58 (List._∷_ 82 (List._∷_ 101 (List._∷_ 102 (List._∷_ 117 (List._∷_ 115 (List._∷_
-      97 (List._∷_ 108 List.[])))))))))))))) (Syntax.tcons (Syntax.tyInt Syntax.w32) (Syntax.tcons (Syntax.tyInt Syntax.w64) Syntax.tnil))) Syntax.tnil) Syntax.ttnil)))
+      Syntax.tnil)) (Syntax.tcons (Syntax.tyInt Syntax.w64) (Syntax.tcons (Syntax.tyInt Syntax.w64) (Syntax.tcons (Syntax.tyInt Syntax.w64) Syntax.tnil))))) Syntax.tnil)
+      (Syntax.ttcons (Syntax.tcons (Syntax.tyStruct (List._∷_ 116 (List._∷_ 121 (List._∷_ 112 (List._∷_ 101 (List._∷_ 115 (List._∷_ 58 (List._∷_ 58 (List._∷_ 82 (List._∷_ 101
+      (List._∷_ 102 (List._∷_ 117 (List._∷_ 115 (List._∷_ 97 (List._∷_ 108 List.[])))))))))))))) (Syntax.tcons (Syntax.tyInt Syntax.w32) (Syntax.tcons (Syntax.tyInt Syntax.w64)
+      Syntax.tnil))) Syntax.tnil) Syntax.ttnil)))
 
   abbrev s10 : Typed.Both T10 T12
-  s10 = Relend.k-back-sl LentTilePartEntry.row T10 9 2 1 6 (Syntax.tyRef (Syntax.named 1) Syntax.mut LentTilePartEntry.pointee) (Syntax.tyRef Syntax.erased Syntax.mut
+  s10 = Relend.k-back-sl LentTilePartEntry.row T10 10 2 1 7 (Syntax.tyRef (Syntax.named 1) Syntax.mut LentTilePartEntry.pointee) (Syntax.tyRef Syntax.erased Syntax.mut
       LentTilePartEntry.pointee) Row.off (λ x. x) λ x. x
 
   abbrev s13 : Typed.Both T12 T15
-  s13 = Relend.k-back-sl (Referent.rtF (Referent.fInt Syntax.w8)) T12 11 3 2 7 (Syntax.tyRef (Syntax.named 2) Syntax.mut (Syntax.tyInt Syntax.w8)) (Syntax.tyRef Syntax.erased
+  s13 = Relend.k-back-sl (Referent.rtF (Referent.fInt Syntax.w8)) T12 12 3 2 8 (Syntax.tyRef (Syntax.named 2) Syntax.mut (Syntax.tyInt Syntax.w8)) (Syntax.tyRef Syntax.erased
       Syntax.mut (Syntax.tyInt Syntax.w8)) Row.off (λ x. x) λ x. x
 
   abbrev s14 : Typed.Gives T15 T16
   s14 = Know.k-sl-known (Referent.fInt Syntax.w8) T15 3 2 (Syntax.tyRef (Syntax.named 2) Syntax.mut (Syntax.tyInt Syntax.w8)) Row.off 0 λ x. x
 
   abbrev s17 : Typed.Gives T16 T19
-  s17 = Reborrow.k-mref-relend T16 4 12 3 8 (Referent.rtF (Referent.fInt Syntax.w64)) (Syntax.tyRef (Syntax.named 3) Syntax.mut (Syntax.tyInt Syntax.w64)) (Syntax.tyRef
+  s17 = Reborrow.k-mref-relend T16 4 13 3 9 (Referent.rtF (Referent.fInt Syntax.w64)) (Syntax.tyRef (Syntax.named 3) Syntax.mut (Syntax.tyInt Syntax.w64)) (Syntax.tyRef
       Syntax.erased Syntax.mut (Syntax.tyInt Syntax.w64)) Row.off List.[] λ x. x
 
   abbrev s19 : Typed.Gives T19 T21
-  s19 = Reborrow.k-mref-relend T19 5 13 4 9 (Referent.rtF (Referent.fInt Syntax.w64)) (Syntax.tyRef (Syntax.named 4) Syntax.mut (Syntax.tyInt Syntax.w64)) (Syntax.tyRef
+  s19 = Reborrow.k-mref-relend T19 5 14 4 10 (Referent.rtF (Referent.fInt Syntax.w64)) (Syntax.tyRef (Syntax.named 4) Syntax.mut (Syntax.tyInt Syntax.w64)) (Syntax.tyRef
       Syntax.erased Syntax.mut (Syntax.tyInt Syntax.w64)) Row.off List.[] λ x. x
 
   abbrev s21 : Typed.Gives T21 T23
-  s21 = Reborrow.k-mref-relend T21 6 14 5 10 (Referent.rtF (Referent.fInt Syntax.w64)) (Syntax.tyRef (Syntax.named 5) Syntax.mut (Syntax.tyInt Syntax.w64)) (Syntax.tyRef
+  s21 = Reborrow.k-mref-relend T21 6 15 5 11 (Referent.rtF (Referent.fInt Syntax.w64)) (Syntax.tyRef (Syntax.named 5) Syntax.mut (Syntax.tyInt Syntax.w64)) (Syntax.tyRef
       Syntax.erased Syntax.mut (Syntax.tyInt Syntax.w64)) Row.off List.[] λ x. x
 
-  abbrev s22 : Typed.Both T23 T24
-  s22 = Call.callB ps·1 r·1 (claims· .2) (claims· .3) T23 (
-    record { pos = 7; st = List.[]; d = 0; at = λ x. x },
+  abbrev s23 : Typed.Gives T23 T25
+  s23 = Reborrow.k-mref-relend T23 7 16 6 12 (Referent.rtF (Referent.fInt Syntax.w64)) (Syntax.tyRef (Syntax.named 6) Syntax.mut (Syntax.tyInt Syntax.w64)) (Syntax.tyRef
+      Syntax.erased Syntax.mut (Syntax.tyInt Syntax.w64)) Row.off List.[] λ x. x
+
+  abbrev s24 : Typed.Both T25 T26
+  s24 = Call.callB ps·1 r·1 (claims· .2) (claims· .3) T25 (
+    record { pos = 8; st = List.[]; d = 0; at = λ x. x },
     (
       record {
-        pos = 12;
+        pos = 13;
         ty = Syntax.tyRef Syntax.erased Syntax.mut
             (Syntax.tyInt Syntax.w64);
         ref = λ x. x;
       },
       (
-        record { pos = 13; ty = Syntax.tyRef Syntax.erased Syntax.mut (Syntax.tyInt Syntax.w64); ref = λ x. x },
+        record { pos = 14; ty = Syntax.tyRef Syntax.erased Syntax.mut (Syntax.tyInt Syntax.w64); ref = λ x. x },
         (
           record {
-            pos = 14;
+            pos = 15;
             ty
                 = Syntax.tyRef Syntax.erased Syntax.mut (Syntax.tyInt Syntax.w64);
             ref = λ x. x;
           },
-          tt,
+          (
+            record {
+              pos = 16;
+              ty = Syntax.tyRef Syntax.erased Syntax.mut (Syntax.tyInt Syntax.w64);
+              ref = λ x. x;
+            },
+            tt,
+          ),
         ),
       ),
     ),
-  ) 0 (List._∷_ 8 (List._∷_ 9 (List._∷_ 10 List.[]))) (Syntax.tyInt Syntax.w32)
+  ) 0 (List._∷_ 9 (List._∷_ 10 (List._∷_ 11 (List._∷_ 12 List.[])))) (Syntax.tyInt Syntax.w32)
 
-  abbrev s23 : Typed.Mo T24 → Typed.Mo T25
-  s23 = Scalar.n-room T24 7 (Syntax.tyEnum (List._∷_ 104 (List._∷_ 101 (List._∷_ 97 (List._∷_ 100 (List._∷_ 101 (List._∷_ 114 (List._∷_ 58 (List._∷_ 58 (List._∷_ 112 (List._∷_ 97
+  abbrev s25 : Typed.Mo T26 → Typed.Mo T27
+  s25 = Scalar.n-room T26 8 (Syntax.tyEnum (List._∷_ 104 (List._∷_ 101 (List._∷_ 97 (List._∷_ 100 (List._∷_ 101 (List._∷_ 114 (List._∷_ 58 (List._∷_ 58 (List._∷_ 112 (List._∷_ 97
       (List._∷_ 114 (List._∷_ 115 (List._∷_ 101 (List._∷_ 58 (List._∷_ 58 (List._∷_ 77 (List._∷_ 97 (List._∷_ 105 (List._∷_ 110 (List._∷_ 72 (List._∷_ 101 (List._∷_ 97 (List._∷_
       100 (List._∷_ 101 (List._∷_ 114 List.[]))))))))))))))))))))))))) (Syntax.ttcons (Syntax.tcons (Syntax.tyStruct (List._∷_ 104 (List._∷_ 101 (List._∷_ 97 (List._∷_ 100
       (List._∷_ 101 (List._∷_ 114 (List._∷_ 58 (List._∷_ 58 (List._∷_ 112 (List._∷_ 97 (List._∷_ 114 (List._∷_ 115 (List._∷_ 101 (List._∷_ 58 (List._∷_ 58 (List._∷_ 77 (List._∷_ 97
@@ -1168,199 +1341,160 @@ module _ (claims· : Claims) where
       List.[]))))))))))))))))))))))))))))) (Syntax.tcons (Syntax.tyStruct (List._∷_ 116 (List._∷_ 121 (List._∷_ 112 (List._∷_ 101 (List._∷_ 115 (List._∷_ 58 (List._∷_ 58 (List._∷_
       67 (List._∷_ 111 (List._∷_ 100 (List._∷_ 101 (List._∷_ 115 (List._∷_ 116 (List._∷_ 114 (List._∷_ 101 (List._∷_ 97 (List._∷_ 109 (List._∷_ 79 (List._∷_ 102 (List._∷_ 102
       (List._∷_ 115 (List._∷_ 101 (List._∷_ 116 List.[]))))))))))))))))))))))) (Syntax.tcons (Syntax.tyInt Syntax.w64) Syntax.tnil)) (Syntax.tcons (Syntax.tyInt Syntax.w64)
-      (Syntax.tcons (Syntax.tyInt Syntax.w64) Syntax.tnil)))) Syntax.tnil) (Syntax.ttcons (Syntax.tcons (Syntax.tyStruct (List._∷_ 116 (List._∷_ 121 (List._∷_ 112 (List._∷_ 101
-      (List._∷_ 115 (List._∷_ 58 (List._∷_ 58 (List._∷_ 82 (List._∷_ 101 (List._∷_ 102 (List._∷_ 117 (List._∷_ 115 (List._∷_ 97 (List._∷_ 108 List.[])))))))))))))) (Syntax.tcons
-      (Syntax.tyInt Syntax.w32) (Syntax.tcons (Syntax.tyInt Syntax.w64) Syntax.tnil))) Syntax.tnil) Syntax.ttnil)))
+      (Syntax.tcons (Syntax.tyInt Syntax.w64) (Syntax.tcons (Syntax.tyInt Syntax.w64) Syntax.tnil))))) Syntax.tnil) (Syntax.ttcons (Syntax.tcons (Syntax.tyStruct (List._∷_ 116
+      (List._∷_ 121 (List._∷_ 112 (List._∷_ 101 (List._∷_ 115 (List._∷_ 58 (List._∷_ 58 (List._∷_ 82 (List._∷_ 101 (List._∷_ 102 (List._∷_ 117 (List._∷_ 115 (List._∷_ 97 (List._∷_
+      108 List.[])))))))))))))) (Syntax.tcons (Syntax.tyInt Syntax.w32) (Syntax.tcons (Syntax.tyInt Syntax.w64) Syntax.tnil))) Syntax.tnil) Syntax.ttnil)))
 
-  abbrev s25 : Typed.Asks T25 T27
-  s25 = Reborrow.k-back-mref T25 12 4 3 (Referent.rtF (Referent.fInt Syntax.w64)) (Syntax.tyRef (Syntax.named 3) Syntax.mut (Syntax.tyInt Syntax.w64)) (Syntax.tyRef Syntax.erased
+  abbrev s27 : Typed.Asks T27 T29
+  s27 = Reborrow.k-back-mref T27 13 4 3 (Referent.rtF (Referent.fInt Syntax.w64)) (Syntax.tyRef (Syntax.named 3) Syntax.mut (Syntax.tyInt Syntax.w64)) (Syntax.tyRef Syntax.erased
       Syntax.mut (Syntax.tyInt Syntax.w64)) List.[] (λ x. x) λ x. x
 
-  abbrev s28 : Typed.Asks T27 T30
-  s28 = Reborrow.k-back-mref T27 13 5 4 (Referent.rtF (Referent.fInt Syntax.w64)) (Syntax.tyRef (Syntax.named 4) Syntax.mut (Syntax.tyInt Syntax.w64)) (Syntax.tyRef Syntax.erased
+  abbrev s30 : Typed.Asks T29 T32
+  s30 = Reborrow.k-back-mref T29 14 5 4 (Referent.rtF (Referent.fInt Syntax.w64)) (Syntax.tyRef (Syntax.named 4) Syntax.mut (Syntax.tyInt Syntax.w64)) (Syntax.tyRef Syntax.erased
       Syntax.mut (Syntax.tyInt Syntax.w64)) List.[] (λ x. x) λ x. x
 
-  abbrev s31 : Typed.Asks T30 T33
-  s31 = Reborrow.k-back-mref T30 14 6 5 (Referent.rtF (Referent.fInt Syntax.w64)) (Syntax.tyRef (Syntax.named 5) Syntax.mut (Syntax.tyInt Syntax.w64)) (Syntax.tyRef Syntax.erased
+  abbrev s33 : Typed.Asks T32 T35
+  s33 = Reborrow.k-back-mref T32 15 6 5 (Referent.rtF (Referent.fInt Syntax.w64)) (Syntax.tyRef (Syntax.named 5) Syntax.mut (Syntax.tyInt Syntax.w64)) (Syntax.tyRef Syntax.erased
       Syntax.mut (Syntax.tyInt Syntax.w64)) List.[] (λ x. x) λ x. x
 
-  module _ (Pre· : (κs : Lifetimes.Lfts 6) → Kinds.Dens κs ps → Type 0) (Post· : (κs : Lifetimes.Lfts 6) → (a : Kinds.Dens κs ps) → Kinds.Plain 6 ps r κs) where
+  abbrev s36 : Typed.Asks T35 T38
+  s36 = Reborrow.k-back-mref T35 16 7 6 (Referent.rtF (Referent.fInt Syntax.w64)) (Syntax.tyRef (Syntax.named 6) Syntax.mut (Syntax.tyInt Syntax.w64)) (Syntax.tyRef Syntax.erased
+      Syntax.mut (Syntax.tyInt Syntax.w64)) List.[] (λ x. x) λ x. x
+
+  module _ (Pre· : (κs : Lifetimes.Lfts 7) → Kinds.Dens κs ps → Type 0) (Post· : (κs : Lifetimes.Lfts 7) → (a : Kinds.Dens κs ps) → Kinds.Plain 7 ps r κs) where
     module _ (M : Type 1) where
       abbrev pub Closed : Type 2
       Closed = (𝓤 : URA.URA M) (H : Wp.Heap 𝓤) (A : Atoms.Atoms 𝓤) (W : Kit.Given 𝓤 H A) (𝓣 : Wp.Tables 𝓤 H) (known0 : Plain.Known 𝓤 H A W 𝓣 3 ps·0 r·0 (claims· .0) (claims· .1)
-          "records::main_header::parse_main_header") (known1 : Plain.Known 𝓤 H A W 𝓣 3 ps·1 r·1 (claims· .2) (claims· .3) "header::parse::tell") → Statement.Triple 𝓤 (Wp.WpFn 𝓤 H
-          (𝓣 .C) (𝓣 .Λ) (Function.fnOf 6 ps r xs m hs body)) (Function.plainOf 𝓤 H A 6 ps r Pre· Post·)
+          "records::main_header::parse_main_header") (known1 : Plain.Known 𝓤 H A W 𝓣 4 ps·1 r·1 (claims· .2) (claims· .3) "header::parse::tell") → Statement.Triple 𝓤 (Wp.WpFn 𝓤 H
+          (𝓣 .C) (𝓣 .Λ) (Function.fnOf 7 ps r xs m hs body)) (Function.plainOf 𝓤 H A 7 ps r Pre· Post·)
 
     module _ where
-      abbrev at0 : Typed.TF T33 O0
+      abbrev at0 : Typed.TF T38 O0
       at0 = Typed.atRet O0
 
-      abbrev at1 : Typed.TF T33 O0
+      abbrev at1 : Typed.TF T38 O0
       at1 = λ Ψ. at0 Ψ
 
-      abbrev at2 : Typed.TF T30 O0
-      at2 = λ Ψ. Typed.ask s31 (at1 Ψ)
+      abbrev at2 : Typed.TF T35 O0
+      at2 = λ Ψ. Typed.ask s36 (at1 Ψ)
 
-      abbrev at3 : Typed.TF T30 O0
+      abbrev at3 : Typed.TF T35 O0
       at3 = λ Ψ. at2 Ψ
 
-      abbrev at4 : Typed.TF T30 O0
+      abbrev at4 : Typed.TF T35 O0
       at4 = λ Ψ. at3 Ψ
 
-      abbrev at5 : Typed.TF T27 O0
-      at5 = λ Ψ. Typed.ask s28 (at4 Ψ)
+      abbrev at5 : Typed.TF T32 O0
+      at5 = λ Ψ. Typed.ask s33 (at4 Ψ)
 
-      abbrev at6 : Typed.TF T27 O0
+      abbrev at6 : Typed.TF T32 O0
       at6 = λ Ψ. at5 Ψ
 
-      abbrev at7 : Typed.TF T27 O0
+      abbrev at7 : Typed.TF T32 O0
       at7 = λ Ψ. at6 Ψ
 
-      abbrev at8 : Typed.TF T25 O0
-      at8 = λ Ψ. Typed.ask s25 (at7 Ψ)
+      abbrev at8 : Typed.TF T29 O0
+      at8 = λ Ψ. Typed.ask s30 (at7 Ψ)
 
-      abbrev at9 : Typed.TF T25 O0
+      abbrev at9 : Typed.TF T29 O0
       at9 = λ Ψ. at8 Ψ
 
-      abbrev at10 : Typed.TF T24 O0
-      at10 = λ Ψ. Typed.pass T24 T25 s23 (at9 Ψ)
+      abbrev at10 : Typed.TF T29 O0
+      at10 = λ Ψ. at9 Ψ
 
-      abbrev at11 : Typed.TF T23 O0
-      at11 = λ Ψ. Typed.both s22 (at10 Ψ)
+      abbrev at11 : Typed.TF T27 O0
+      at11 = λ Ψ. Typed.ask s27 (at10 Ψ)
 
-      abbrev at12 : Typed.TF T21 O0
-      at12 = λ Ψ. Typed.give s21 (at11 Ψ)
+      abbrev at12 : Typed.TF T27 O0
+      at12 = λ Ψ. at11 Ψ
 
-      abbrev at13 : Typed.TF T21 O0
-      at13 = λ Ψ. at12 Ψ
+      abbrev at13 : Typed.TF T26 O0
+      at13 = λ Ψ. Typed.pass T26 T27 s25 (at12 Ψ)
 
-      abbrev at14 : Typed.TF T19 O0
-      at14 = λ Ψ. Typed.give s19 (at13 Ψ)
+      abbrev at14 : Typed.TF T25 O0
+      at14 = λ Ψ. Typed.both s24 (at13 Ψ)
 
-      abbrev at15 : Typed.TF T19 O0
-      at15 = λ Ψ. at14 Ψ
+      abbrev at15 : Typed.TF T23 O0
+      at15 = λ Ψ. Typed.give s23 (at14 Ψ)
 
-      abbrev at16 : Typed.TF T16 O0
-      at16 = λ Ψ. Typed.give s17 (at15 Ψ)
+      abbrev at16 : Typed.TF T23 O0
+      at16 = λ Ψ. at15 Ψ
 
-      abbrev at17 : Typed.TF T16 O0
-      at17 = λ Ψ. at16 Ψ
+      abbrev at17 : Typed.TF T21 O0
+      at17 = λ Ψ. Typed.give s21 (at16 Ψ)
 
-      abbrev at18 : Typed.TF T16 O0
+      abbrev at18 : Typed.TF T21 O0
       at18 = λ Ψ. at17 Ψ
 
-      abbrev at19 : Typed.TF T15 O0
-      at19 = λ Ψ. Typed.give s14 (at18 Ψ)
+      abbrev at19 : Typed.TF T19 O0
+      at19 = λ Ψ. Typed.give s19 (at18 Ψ)
 
-      abbrev at20 : Typed.TF T12 O0
-      at20 = λ Ψ. Typed.both s13 (at19 Ψ)
+      abbrev at20 : Typed.TF T19 O0
+      at20 = λ Ψ. at19 Ψ
 
-      abbrev at21 : Typed.TF T12 O0
-      at21 = λ Ψ. at20 Ψ
+      abbrev at21 : Typed.TF T16 O0
+      at21 = λ Ψ. Typed.give s17 (at20 Ψ)
 
-      abbrev at22 : Typed.TF T12 O0
+      abbrev at22 : Typed.TF T16 O0
       at22 = λ Ψ. at21 Ψ
 
-      abbrev at23 : Typed.TF T10 O0
-      at23 = λ Ψ. Typed.both s10 (at22 Ψ)
+      abbrev at23 : Typed.TF T16 O0
+      at23 = λ Ψ. at22 Ψ
 
-      abbrev at24 : Typed.TF T10 O0
-      at24 = λ Ψ. at23 Ψ
+      abbrev at24 : Typed.TF T15 O0
+      at24 = λ Ψ. Typed.give s14 (at23 Ψ)
 
-      abbrev at25 : Typed.TF T9 O0
-      at25 = λ Ψ. Typed.both s8 (at24 Ψ)
+      abbrev at25 : Typed.TF T12 O0
+      at25 = λ Ψ. Typed.both s13 (at24 Ψ)
 
-      abbrev at26 : Typed.TF T8 O0
-      at26 = λ Ψ. Typed.ask s7 (at25 Ψ)
+      abbrev at26 : Typed.TF T12 O0
+      at26 = λ Ψ. at25 Ψ
 
-      abbrev at27 : Typed.TF T6 O0
-      at27 = λ Ψ. Typed.give s6 (at26 Ψ)
+      abbrev at27 : Typed.TF T12 O0
+      at27 = λ Ψ. at26 Ψ
 
-      abbrev at28 : Typed.TF T6 O0
-      at28 = λ Ψ. at27 Ψ
+      abbrev at28 : Typed.TF T10 O0
+      at28 = λ Ψ. Typed.both s10 (at27 Ψ)
 
-      abbrev at29 : Typed.TF T5 O0
-      at29 = λ Ψ. Typed.ask s4 (at28 Ψ)
+      abbrev at29 : Typed.TF T10 O0
+      at29 = λ Ψ. at28 Ψ
 
-      abbrev at30 : Typed.TF T3 O0
-      at30 = λ Ψ. Typed.give s3 (at29 Ψ)
+      abbrev at30 : Typed.TF T9 O0
+      at30 = λ Ψ. Typed.both s8 (at29 Ψ)
 
-      abbrev at31 : Typed.TF T3 O0
-      at31 = λ Ψ. at30 Ψ
+      abbrev at31 : Typed.TF T8 O0
+      at31 = λ Ψ. Typed.ask s7 (at30 Ψ)
 
-      abbrev at32 : Typed.TF T2 O0
-      at32 = λ Ψ. Typed.give s1 (at31 Ψ)
+      abbrev at32 : Typed.TF T6 O0
+      at32 = λ Ψ. Typed.give s6 (at31 Ψ)
 
-      abbrev at33 : Typed.TF T0 O0
-      at33 = λ Ψ. Typed.give s0 (at32 Ψ)
+      abbrev at33 : Typed.TF T6 O0
+      at33 = λ Ψ. at32 Ψ
+
+      abbrev at34 : Typed.TF T5 O0
+      at34 = λ Ψ. Typed.ask s4 (at33 Ψ)
+
+      abbrev at35 : Typed.TF T3 O0
+      at35 = λ Ψ. Typed.give s3 (at34 Ψ)
+
+      abbrev at36 : Typed.TF T3 O0
+      at36 = λ Ψ. at35 Ψ
+
+      abbrev at37 : Typed.TF T2 O0
+      at37 = λ Ψ. Typed.give s1 (at36 Ψ)
+
+      abbrev at38 : Typed.TF T0 O0
+      at38 = λ Ψ. Typed.give s0 (at37 Ψ)
 
       abbrev pub Φ : Typed.TF T0 O0
-      Φ = at33
+      Φ = at38
 
       module _ {M : Type 1} (𝓤 : URA.URA M) (H : Wp.Heap 𝓤) (A : Atoms.Atoms 𝓤) (W : Kit.Given 𝓤 H A) (𝓣 : Wp.Tables 𝓤 H) where
         abbrev Knowns : Type 1
-        Knowns = Plain.Known 𝓤 H A W 𝓣 3 ps·0 r·0 (claims· .0) (claims· .1) "records::main_header::parse_main_header" × Plain.Known 𝓤 H A W 𝓣 3 ps·1 r·1 (claims· .2) (claims· .3)
+        Knowns = Plain.Known 𝓤 H A W 𝓣 3 ps·0 r·0 (claims· .0) (claims· .1) "records::main_header::parse_main_header" × Plain.Known 𝓤 H A W 𝓣 4 ps·1 r·1 (claims· .2) (claims· .3)
             "header::parse::tell"
 
-      module _ (κs : Lifetimes.Lfts 6) (qs : Lifetimes.Shares 6) where
-        abbrev g2 : List.List Row.Entry
-        g2 = List._∷_ (0, Rows.any-gone (Syntax.tyInt Syntax.w32)) (List._∷_ (
-          1,
-          Rows.sslice (Referent.rtF (Referent.fInt Syntax.w8)) (Syntax.tyRef (Syntax.named 0) Syntax.imm
-              (Syntax.tyInt Syntax.w8)) 0,
-        ) (List._∷_ (
-          2,
-          Relend.mslice-owed LentTilePartEntry.row (Syntax.tyRef (Syntax.named 1) Syntax.mut LentTilePartEntry.pointee) 1 6 (Row.lease
-              (κs .1 .0) (qs .1 .0)),
-        ) (List._∷_ (3, Mut.mslice (Referent.rtF (Referent.fInt Syntax.w8)) (Syntax.tyRef (Syntax.named 2) Syntax.mut (Syntax.tyInt Syntax.w8)) 2)
-            (List._∷_ (4, Rows.mref (Referent.rtF (Referent.fInt Syntax.w64)) (Syntax.tyRef (Syntax.named 3) Syntax.mut (Syntax.tyInt Syntax.w64)) 3) (List._∷_ (
-              5,
-              Rows.mref
-                  (Referent.rtF (Referent.fInt Syntax.w64)) (Syntax.tyRef (Syntax.named 4) Syntax.mut (Syntax.tyInt Syntax.w64)) 4,
-            ) (List._∷_ (
-              6,
-              Rows.mref (Referent.rtF (Referent.fInt
-                  Syntax.w64)) (Syntax.tyRef (Syntax.named 5) Syntax.mut (Syntax.tyInt Syntax.w64)) 5,
-            ) (List._∷_ (
-              7,
-              Rows.any-gone (Syntax.tyEnum (List._∷_ 104 (List._∷_ 101 (List._∷_ 97
-                  (List._∷_ 100 (List._∷_ 101 (List._∷_ 114 (List._∷_ 58 (List._∷_ 58 (List._∷_ 112 (List._∷_ 97 (List._∷_ 114 (List._∷_ 115 (List._∷_ 101 (List._∷_ 58 (List._∷_ 58
-                  (List._∷_ 77 (List._∷_ 97 (List._∷_ 105 (List._∷_ 110 (List._∷_ 72 (List._∷_ 101 (List._∷_ 97 (List._∷_ 100 (List._∷_ 101 (List._∷_ 114 List.[])))))))))))))))))))))))))
-                  (Syntax.ttcons (Syntax.tcons (Syntax.tyStruct (List._∷_ 104 (List._∷_ 101 (List._∷_ 97 (List._∷_ 100 (List._∷_ 101 (List._∷_ 114 (List._∷_ 58 (List._∷_ 58 (List._∷_ 112
-                  (List._∷_ 97 (List._∷_ 114 (List._∷_ 115 (List._∷_ 101 (List._∷_ 58 (List._∷_ 58 (List._∷_ 77 (List._∷_ 97 (List._∷_ 105 (List._∷_ 110 (List._∷_ 72 (List._∷_ 101
-                  (List._∷_ 97 (List._∷_ 100 (List._∷_ 101 (List._∷_ 114 (List._∷_ 73 (List._∷_ 110 (List._∷_ 102 (List._∷_ 111 List.[]))))))))))))))))))))))))))))) (Syntax.tcons
-                  (Syntax.tyStruct (List._∷_ 116 (List._∷_ 121 (List._∷_ 112 (List._∷_ 101 (List._∷_ 115 (List._∷_ 58 (List._∷_ 58 (List._∷_ 67 (List._∷_ 111 (List._∷_ 100 (List._∷_ 101
-                  (List._∷_ 115 (List._∷_ 116 (List._∷_ 114 (List._∷_ 101 (List._∷_ 97 (List._∷_ 109 (List._∷_ 79 (List._∷_ 102 (List._∷_ 102 (List._∷_ 115 (List._∷_ 101 (List._∷_ 116
-                  List.[]))))))))))))))))))))))) (Syntax.tcons (Syntax.tyInt Syntax.w64) Syntax.tnil)) (Syntax.tcons (Syntax.tyInt Syntax.w64) (Syntax.tcons (Syntax.tyInt Syntax.w64)
-                  Syntax.tnil)))) Syntax.tnil) (Syntax.ttcons (Syntax.tcons (Syntax.tyStruct (List._∷_ 116 (List._∷_ 121 (List._∷_ 112 (List._∷_ 101 (List._∷_ 115 (List._∷_ 58 (List._∷_
-                  58 (List._∷_ 82 (List._∷_ 101 (List._∷_ 102 (List._∷_ 117 (List._∷_ 115 (List._∷_ 97 (List._∷_ 108 List.[])))))))))))))) (Syntax.tcons (Syntax.tyInt Syntax.w32)
-                  (Syntax.tcons (Syntax.tyInt Syntax.w64) Syntax.tnil))) Syntax.tnil) Syntax.ttnil))),
-            ) (List._∷_ (
-              8,
-              Relend.msptr LentTilePartEntry.row (Syntax.tyRef Syntax.erased
-                  Syntax.mut LentTilePartEntry.pointee) 6,
-            ) (List._∷_ (
-              9,
-              Rows.any-gone (Syntax.tyStruct (List._∷_ 38 (List._∷_ 91 (List._∷_ 93 List.[]))) (Syntax.tcons (Syntax.tyRef
-                  Syntax.erased Syntax.mut LentTilePartEntry.pointee) (Syntax.tcons (Syntax.tyInt Syntax.w64) Syntax.tnil))),
-            ) (List._∷_ (
-              10,
-              Rows.any-gone (Syntax.tyRef Syntax.erased
-                  Syntax.mut (Syntax.tyInt Syntax.w8)),
-            ) (List._∷_ (
-              11,
-              Rows.any-gone (Syntax.tyStruct (List._∷_ 38 (List._∷_ 91 (List._∷_ 93 List.[]))) (Syntax.tcons (Syntax.tyRef
-                  Syntax.erased Syntax.mut (Syntax.tyInt Syntax.w8)) (Syntax.tcons (Syntax.tyInt Syntax.w64) Syntax.tnil))),
-            ) (List._∷_ (
-              12,
-              Rows.any-gone (Syntax.tyRef Syntax.erased
-                  Syntax.mut (Syntax.tyInt Syntax.w64)),
-            ) (List._∷_ (13, Rows.any-gone (Syntax.tyRef Syntax.erased Syntax.mut (Syntax.tyInt Syntax.w64))) (List._∷_ (
-              14,
-              Rows.any-gone
-                  (Syntax.tyRef Syntax.erased Syntax.mut (Syntax.tyInt Syntax.w64)),
-            ) List.[]))))))))))))))
-
+      module _ (κs : Lifetimes.Lfts 7) (qs : Lifetimes.Shares 7) where
         abbrev g3 : List.List Row.Entry
         g3 = List._∷_ (0, Rows.any-gone (Syntax.tyInt Syntax.w32)) (List._∷_ (
           1,
@@ -1368,7 +1502,7 @@ module _ (claims· : Claims) where
               (Syntax.tyInt Syntax.w8)) 0,
         ) (List._∷_ (
           2,
-          Relend.mslice-owed LentTilePartEntry.row (Syntax.tyRef (Syntax.named 1) Syntax.mut LentTilePartEntry.pointee) 1 6 (Row.lease
+          Relend.mslice-owed LentTilePartEntry.row (Syntax.tyRef (Syntax.named 1) Syntax.mut LentTilePartEntry.pointee) 1 7 (Row.lease
               (κs .1 .0) (qs .1 .0)),
         ) (List._∷_ (3, Mut.mslice (Referent.rtF (Referent.fInt Syntax.w8)) (Syntax.tyRef (Syntax.named 2) Syntax.mut (Syntax.tyInt Syntax.w8)) 2)
             (List._∷_ (4, Rows.mref (Referent.rtF (Referent.fInt Syntax.w64)) (Syntax.tyRef (Syntax.named 3) Syntax.mut (Syntax.tyInt Syntax.w64)) 3) (List._∷_ (
@@ -1381,37 +1515,41 @@ module _ (claims· : Claims) where
                   Syntax.w64)) (Syntax.tyRef (Syntax.named 5) Syntax.mut (Syntax.tyInt Syntax.w64)) 5,
             ) (List._∷_ (
               7,
-              Rows.any-gone (Syntax.tyEnum (List._∷_ 104 (List._∷_ 101 (List._∷_ 97
-                  (List._∷_ 100 (List._∷_ 101 (List._∷_ 114 (List._∷_ 58 (List._∷_ 58 (List._∷_ 112 (List._∷_ 97 (List._∷_ 114 (List._∷_ 115 (List._∷_ 101 (List._∷_ 58 (List._∷_ 58
-                  (List._∷_ 77 (List._∷_ 97 (List._∷_ 105 (List._∷_ 110 (List._∷_ 72 (List._∷_ 101 (List._∷_ 97 (List._∷_ 100 (List._∷_ 101 (List._∷_ 114 List.[])))))))))))))))))))))))))
-                  (Syntax.ttcons (Syntax.tcons (Syntax.tyStruct (List._∷_ 104 (List._∷_ 101 (List._∷_ 97 (List._∷_ 100 (List._∷_ 101 (List._∷_ 114 (List._∷_ 58 (List._∷_ 58 (List._∷_ 112
-                  (List._∷_ 97 (List._∷_ 114 (List._∷_ 115 (List._∷_ 101 (List._∷_ 58 (List._∷_ 58 (List._∷_ 77 (List._∷_ 97 (List._∷_ 105 (List._∷_ 110 (List._∷_ 72 (List._∷_ 101
-                  (List._∷_ 97 (List._∷_ 100 (List._∷_ 101 (List._∷_ 114 (List._∷_ 73 (List._∷_ 110 (List._∷_ 102 (List._∷_ 111 List.[]))))))))))))))))))))))))))))) (Syntax.tcons
-                  (Syntax.tyStruct (List._∷_ 116 (List._∷_ 121 (List._∷_ 112 (List._∷_ 101 (List._∷_ 115 (List._∷_ 58 (List._∷_ 58 (List._∷_ 67 (List._∷_ 111 (List._∷_ 100 (List._∷_ 101
-                  (List._∷_ 115 (List._∷_ 116 (List._∷_ 114 (List._∷_ 101 (List._∷_ 97 (List._∷_ 109 (List._∷_ 79 (List._∷_ 102 (List._∷_ 102 (List._∷_ 115 (List._∷_ 101 (List._∷_ 116
-                  List.[]))))))))))))))))))))))) (Syntax.tcons (Syntax.tyInt Syntax.w64) Syntax.tnil)) (Syntax.tcons (Syntax.tyInt Syntax.w64) (Syntax.tcons (Syntax.tyInt Syntax.w64)
-                  Syntax.tnil)))) Syntax.tnil) (Syntax.ttcons (Syntax.tcons (Syntax.tyStruct (List._∷_ 116 (List._∷_ 121 (List._∷_ 112 (List._∷_ 101 (List._∷_ 115 (List._∷_ 58 (List._∷_
-                  58 (List._∷_ 82 (List._∷_ 101 (List._∷_ 102 (List._∷_ 117 (List._∷_ 115 (List._∷_ 97 (List._∷_ 108 List.[])))))))))))))) (Syntax.tcons (Syntax.tyInt Syntax.w32)
-                  (Syntax.tcons (Syntax.tyInt Syntax.w64) Syntax.tnil))) Syntax.tnil) Syntax.ttnil))),
+              Rows.mref (Referent.rtF (Referent.fInt Syntax.w64)) (Syntax.tyRef
+                  (Syntax.named 6) Syntax.mut (Syntax.tyInt Syntax.w64)) 6,
             ) (List._∷_ (
               8,
-              Rows.any-gone (Syntax.tyRef Syntax.erased Syntax.mut
-                  LentTilePartEntry.pointee),
-            ) (List._∷_ (9, Mut.mslice LentTilePartEntry.row (Syntax.tyRef Syntax.erased Syntax.mut LentTilePartEntry.pointee) 6) (List._∷_ (
+              Rows.any-gone (Syntax.tyEnum (List._∷_ 104 (List._∷_ 101 (List._∷_ 97 (List._∷_ 100 (List._∷_
+                  101 (List._∷_ 114 (List._∷_ 58 (List._∷_ 58 (List._∷_ 112 (List._∷_ 97 (List._∷_ 114 (List._∷_ 115 (List._∷_ 101 (List._∷_ 58 (List._∷_ 58 (List._∷_ 77 (List._∷_ 97
+                  (List._∷_ 105 (List._∷_ 110 (List._∷_ 72 (List._∷_ 101 (List._∷_ 97 (List._∷_ 100 (List._∷_ 101 (List._∷_ 114 List.[]))))))))))))))))))))))))) (Syntax.ttcons
+                  (Syntax.tcons (Syntax.tyStruct (List._∷_ 104 (List._∷_ 101 (List._∷_ 97 (List._∷_ 100 (List._∷_ 101 (List._∷_ 114 (List._∷_ 58 (List._∷_ 58 (List._∷_ 112 (List._∷_ 97
+                  (List._∷_ 114 (List._∷_ 115 (List._∷_ 101 (List._∷_ 58 (List._∷_ 58 (List._∷_ 77 (List._∷_ 97 (List._∷_ 105 (List._∷_ 110 (List._∷_ 72 (List._∷_ 101 (List._∷_ 97
+                  (List._∷_ 100 (List._∷_ 101 (List._∷_ 114 (List._∷_ 73 (List._∷_ 110 (List._∷_ 102 (List._∷_ 111 List.[]))))))))))))))))))))))))))))) (Syntax.tcons (Syntax.tyStruct
+                  (List._∷_ 116 (List._∷_ 121 (List._∷_ 112 (List._∷_ 101 (List._∷_ 115 (List._∷_ 58 (List._∷_ 58 (List._∷_ 67 (List._∷_ 111 (List._∷_ 100 (List._∷_ 101 (List._∷_ 115
+                  (List._∷_ 116 (List._∷_ 114 (List._∷_ 101 (List._∷_ 97 (List._∷_ 109 (List._∷_ 79 (List._∷_ 102 (List._∷_ 102 (List._∷_ 115 (List._∷_ 101 (List._∷_ 116
+                  List.[]))))))))))))))))))))))) (Syntax.tcons (Syntax.tyInt Syntax.w64) Syntax.tnil)) (Syntax.tcons (Syntax.tyInt Syntax.w64) (Syntax.tcons (Syntax.tyInt Syntax.w64)
+                  (Syntax.tcons (Syntax.tyInt Syntax.w64) Syntax.tnil))))) Syntax.tnil) (Syntax.ttcons (Syntax.tcons (Syntax.tyStruct (List._∷_ 116 (List._∷_ 121 (List._∷_ 112 (List._∷_
+                  101 (List._∷_ 115 (List._∷_ 58 (List._∷_ 58 (List._∷_ 82 (List._∷_ 101 (List._∷_ 102 (List._∷_ 117 (List._∷_ 115 (List._∷_ 97 (List._∷_ 108 List.[]))))))))))))))
+                  (Syntax.tcons (Syntax.tyInt Syntax.w32) (Syntax.tcons (Syntax.tyInt Syntax.w64) Syntax.tnil))) Syntax.tnil) Syntax.ttnil))),
+            ) (List._∷_ (
+              9,
+              Relend.msptr
+                  LentTilePartEntry.row (Syntax.tyRef Syntax.erased Syntax.mut LentTilePartEntry.pointee) 7,
+            ) (List._∷_ (
               10,
-              Rows.any-gone (Syntax.tyRef Syntax.erased Syntax.mut (Syntax.tyInt Syntax.w8)),
-            ) (List._∷_ (
-              11,
-              Rows.any-gone (Syntax.tyStruct (List._∷_ 38 (List._∷_ 91 (List._∷_ 93
-                  List.[]))) (Syntax.tcons (Syntax.tyRef Syntax.erased Syntax.mut (Syntax.tyInt Syntax.w8)) (Syntax.tcons (Syntax.tyInt Syntax.w64) Syntax.tnil))),
-            ) (List._∷_ (
+              Rows.any-gone (Syntax.tyStruct (List._∷_ 38 (List._∷_ 91
+                  (List._∷_ 93 List.[]))) (Syntax.tcons (Syntax.tyRef Syntax.erased Syntax.mut LentTilePartEntry.pointee) (Syntax.tcons (Syntax.tyInt Syntax.w64) Syntax.tnil))),
+            )
+            (List._∷_ (11, Rows.any-gone (Syntax.tyRef Syntax.erased Syntax.mut (Syntax.tyInt Syntax.w8))) (List._∷_ (
               12,
-              Rows.any-gone (Syntax.tyRef Syntax.erased Syntax.mut (Syntax.tyInt Syntax.w64)),
-            ) (List._∷_ (
-              13,
+              Rows.any-gone (Syntax.tyStruct (List._∷_ 38 (List._∷_ 91
+                  (List._∷_ 93 List.[]))) (Syntax.tcons (Syntax.tyRef Syntax.erased Syntax.mut (Syntax.tyInt Syntax.w8)) (Syntax.tcons (Syntax.tyInt Syntax.w64) Syntax.tnil))),
+            ) (List._∷_
+            (13, Rows.any-gone (Syntax.tyRef Syntax.erased Syntax.mut (Syntax.tyInt Syntax.w64))) (List._∷_ (
+              14,
               Rows.any-gone (Syntax.tyRef Syntax.erased Syntax.mut (Syntax.tyInt
                   Syntax.w64)),
-            ) (List._∷_ (14, Rows.any-gone (Syntax.tyRef Syntax.erased Syntax.mut (Syntax.tyInt Syntax.w64))) List.[]))))))))))))))
+            ) (List._∷_ (15, Rows.any-gone (Syntax.tyRef Syntax.erased Syntax.mut (Syntax.tyInt Syntax.w64))) List.[])))))))))))))))
 
         abbrev g4 : List.List Row.Entry
         g4 = List._∷_ (0, Rows.any-gone (Syntax.tyInt Syntax.w32)) (List._∷_ (
@@ -1420,51 +1558,53 @@ module _ (claims· : Claims) where
               (Syntax.tyInt Syntax.w8)) 0,
         ) (List._∷_ (
           2,
-          Relend.mslice-owed LentTilePartEntry.row (Syntax.tyRef (Syntax.named 1) Syntax.mut LentTilePartEntry.pointee) 1 6 (Row.lease
+          Relend.mslice-owed LentTilePartEntry.row (Syntax.tyRef (Syntax.named 1) Syntax.mut LentTilePartEntry.pointee) 1 7 (Row.lease
               (κs .1 .0) (qs .1 .0)),
-        ) (List._∷_ (
-          3,
-          Relend.mslice-owed (Referent.rtF (Referent.fInt Syntax.w8)) (Syntax.tyRef (Syntax.named 2) Syntax.mut (Syntax.tyInt Syntax.w8)) 2
-              7 (Row.lease (κs .1 .1 .0) (qs .1 .1 .0)),
-        ) (List._∷_ (
-          4,
-          Rows.mref (Referent.rtF (Referent.fInt Syntax.w64)) (Syntax.tyRef (Syntax.named 3) Syntax.mut (Syntax.tyInt
-              Syntax.w64)) 3,
-        ) (List._∷_ (5, Rows.mref (Referent.rtF (Referent.fInt Syntax.w64)) (Syntax.tyRef (Syntax.named 4) Syntax.mut (Syntax.tyInt Syntax.w64)) 4) (List._∷_ (
-          6,
-          Rows.mref (Referent.rtF (Referent.fInt Syntax.w64)) (Syntax.tyRef (Syntax.named 5) Syntax.mut (Syntax.tyInt Syntax.w64)) 5,
-        ) (List._∷_ (
-          7,
-          Rows.any-gone (Syntax.tyEnum
-              (List._∷_ 104 (List._∷_ 101 (List._∷_ 97 (List._∷_ 100 (List._∷_ 101 (List._∷_ 114 (List._∷_ 58 (List._∷_ 58 (List._∷_ 112 (List._∷_ 97 (List._∷_ 114 (List._∷_ 115
-              (List._∷_ 101 (List._∷_ 58 (List._∷_ 58 (List._∷_ 77 (List._∷_ 97 (List._∷_ 105 (List._∷_ 110 (List._∷_ 72 (List._∷_ 101 (List._∷_ 97 (List._∷_ 100 (List._∷_ 101
-              (List._∷_ 114 List.[]))))))))))))))))))))))))) (Syntax.ttcons (Syntax.tcons (Syntax.tyStruct (List._∷_ 104 (List._∷_ 101 (List._∷_ 97 (List._∷_ 100 (List._∷_ 101
-              (List._∷_ 114 (List._∷_ 58 (List._∷_ 58 (List._∷_ 112 (List._∷_ 97 (List._∷_ 114 (List._∷_ 115 (List._∷_ 101 (List._∷_ 58 (List._∷_ 58 (List._∷_ 77 (List._∷_ 97
-              (List._∷_ 105 (List._∷_ 110 (List._∷_ 72 (List._∷_ 101 (List._∷_ 97 (List._∷_ 100 (List._∷_ 101 (List._∷_ 114 (List._∷_ 73 (List._∷_ 110 (List._∷_ 102 (List._∷_ 111
-              List.[]))))))))))))))))))))))))))))) (Syntax.tcons (Syntax.tyStruct (List._∷_ 116 (List._∷_ 121 (List._∷_ 112 (List._∷_ 101 (List._∷_ 115 (List._∷_ 58 (List._∷_ 58
-              (List._∷_ 67 (List._∷_ 111 (List._∷_ 100 (List._∷_ 101 (List._∷_ 115 (List._∷_ 116 (List._∷_ 114 (List._∷_ 101 (List._∷_ 97 (List._∷_ 109 (List._∷_ 79 (List._∷_ 102
-              (List._∷_ 102 (List._∷_ 115 (List._∷_ 101 (List._∷_ 116 List.[]))))))))))))))))))))))) (Syntax.tcons (Syntax.tyInt Syntax.w64) Syntax.tnil)) (Syntax.tcons (Syntax.tyInt
-              Syntax.w64) (Syntax.tcons (Syntax.tyInt Syntax.w64) Syntax.tnil)))) Syntax.tnil) (Syntax.ttcons (Syntax.tcons (Syntax.tyStruct (List._∷_ 116 (List._∷_ 121 (List._∷_ 112
-              (List._∷_ 101 (List._∷_ 115 (List._∷_ 58 (List._∷_ 58 (List._∷_ 82 (List._∷_ 101 (List._∷_ 102 (List._∷_ 117 (List._∷_ 115 (List._∷_ 97 (List._∷_ 108
-              List.[])))))))))))))) (Syntax.tcons (Syntax.tyInt Syntax.w32) (Syntax.tcons (Syntax.tyInt Syntax.w64) Syntax.tnil))) Syntax.tnil) Syntax.ttnil))),
-        ) (List._∷_ (
-          8,
-          Rows.any-gone (Syntax.tyRef Syntax.erased Syntax.mut LentTilePartEntry.pointee),
-        ) (List._∷_ (
-          9,
-          Mut.mslice LentTilePartEntry.row (Syntax.tyRef Syntax.erased Syntax.mut
-              LentTilePartEntry.pointee) 6,
-        ) (List._∷_ (10, Relend.msptr (Referent.rtF (Referent.fInt Syntax.w8)) (Syntax.tyRef Syntax.erased Syntax.mut (Syntax.tyInt Syntax.w8)) 7)
-            (List._∷_ (
-              11,
-              Rows.any-gone (Syntax.tyStruct (List._∷_ 38 (List._∷_ 91 (List._∷_ 93 List.[]))) (Syntax.tcons (Syntax.tyRef Syntax.erased Syntax.mut (Syntax.tyInt
-                  Syntax.w8)) (Syntax.tcons (Syntax.tyInt Syntax.w64) Syntax.tnil))),
-            ) (List._∷_ (12, Rows.any-gone (Syntax.tyRef Syntax.erased Syntax.mut (Syntax.tyInt Syntax.w64)))
+        ) (List._∷_ (3, Mut.mslice (Referent.rtF (Referent.fInt Syntax.w8)) (Syntax.tyRef (Syntax.named 2) Syntax.mut (Syntax.tyInt Syntax.w8)) 2)
+            (List._∷_ (4, Rows.mref (Referent.rtF (Referent.fInt Syntax.w64)) (Syntax.tyRef (Syntax.named 3) Syntax.mut (Syntax.tyInt Syntax.w64)) 3) (List._∷_ (
+              5,
+              Rows.mref
+                  (Referent.rtF (Referent.fInt Syntax.w64)) (Syntax.tyRef (Syntax.named 4) Syntax.mut (Syntax.tyInt Syntax.w64)) 4,
+            ) (List._∷_ (
+              6,
+              Rows.mref (Referent.rtF (Referent.fInt
+                  Syntax.w64)) (Syntax.tyRef (Syntax.named 5) Syntax.mut (Syntax.tyInt Syntax.w64)) 5,
+            ) (List._∷_ (
+              7,
+              Rows.mref (Referent.rtF (Referent.fInt Syntax.w64)) (Syntax.tyRef
+                  (Syntax.named 6) Syntax.mut (Syntax.tyInt Syntax.w64)) 6,
+            ) (List._∷_ (
+              8,
+              Rows.any-gone (Syntax.tyEnum (List._∷_ 104 (List._∷_ 101 (List._∷_ 97 (List._∷_ 100 (List._∷_
+                  101 (List._∷_ 114 (List._∷_ 58 (List._∷_ 58 (List._∷_ 112 (List._∷_ 97 (List._∷_ 114 (List._∷_ 115 (List._∷_ 101 (List._∷_ 58 (List._∷_ 58 (List._∷_ 77 (List._∷_ 97
+                  (List._∷_ 105 (List._∷_ 110 (List._∷_ 72 (List._∷_ 101 (List._∷_ 97 (List._∷_ 100 (List._∷_ 101 (List._∷_ 114 List.[]))))))))))))))))))))))))) (Syntax.ttcons
+                  (Syntax.tcons (Syntax.tyStruct (List._∷_ 104 (List._∷_ 101 (List._∷_ 97 (List._∷_ 100 (List._∷_ 101 (List._∷_ 114 (List._∷_ 58 (List._∷_ 58 (List._∷_ 112 (List._∷_ 97
+                  (List._∷_ 114 (List._∷_ 115 (List._∷_ 101 (List._∷_ 58 (List._∷_ 58 (List._∷_ 77 (List._∷_ 97 (List._∷_ 105 (List._∷_ 110 (List._∷_ 72 (List._∷_ 101 (List._∷_ 97
+                  (List._∷_ 100 (List._∷_ 101 (List._∷_ 114 (List._∷_ 73 (List._∷_ 110 (List._∷_ 102 (List._∷_ 111 List.[]))))))))))))))))))))))))))))) (Syntax.tcons (Syntax.tyStruct
+                  (List._∷_ 116 (List._∷_ 121 (List._∷_ 112 (List._∷_ 101 (List._∷_ 115 (List._∷_ 58 (List._∷_ 58 (List._∷_ 67 (List._∷_ 111 (List._∷_ 100 (List._∷_ 101 (List._∷_ 115
+                  (List._∷_ 116 (List._∷_ 114 (List._∷_ 101 (List._∷_ 97 (List._∷_ 109 (List._∷_ 79 (List._∷_ 102 (List._∷_ 102 (List._∷_ 115 (List._∷_ 101 (List._∷_ 116
+                  List.[]))))))))))))))))))))))) (Syntax.tcons (Syntax.tyInt Syntax.w64) Syntax.tnil)) (Syntax.tcons (Syntax.tyInt Syntax.w64) (Syntax.tcons (Syntax.tyInt Syntax.w64)
+                  (Syntax.tcons (Syntax.tyInt Syntax.w64) Syntax.tnil))))) Syntax.tnil) (Syntax.ttcons (Syntax.tcons (Syntax.tyStruct (List._∷_ 116 (List._∷_ 121 (List._∷_ 112 (List._∷_
+                  101 (List._∷_ 115 (List._∷_ 58 (List._∷_ 58 (List._∷_ 82 (List._∷_ 101 (List._∷_ 102 (List._∷_ 117 (List._∷_ 115 (List._∷_ 97 (List._∷_ 108 List.[]))))))))))))))
+                  (Syntax.tcons (Syntax.tyInt Syntax.w32) (Syntax.tcons (Syntax.tyInt Syntax.w64) Syntax.tnil))) Syntax.tnil) Syntax.ttnil))),
+            ) (List._∷_ (
+              9,
+              Rows.any-gone (Syntax.tyRef
+                  Syntax.erased Syntax.mut LentTilePartEntry.pointee),
+            ) (List._∷_ (
+              10,
+              Mut.mslice LentTilePartEntry.row (Syntax.tyRef Syntax.erased Syntax.mut LentTilePartEntry.pointee)
+                  7,
+            ) (List._∷_ (11, Rows.any-gone (Syntax.tyRef Syntax.erased Syntax.mut (Syntax.tyInt Syntax.w8))) (List._∷_ (
+              12,
+              Rows.any-gone (Syntax.tyStruct (List._∷_ 38 (List._∷_
+                  91 (List._∷_ 93 List.[]))) (Syntax.tcons (Syntax.tyRef Syntax.erased Syntax.mut (Syntax.tyInt Syntax.w8)) (Syntax.tcons (Syntax.tyInt Syntax.w64) Syntax.tnil))),
+            )
             (List._∷_ (13, Rows.any-gone (Syntax.tyRef Syntax.erased Syntax.mut (Syntax.tyInt Syntax.w64))) (List._∷_ (
               14,
               Rows.any-gone (Syntax.tyRef Syntax.erased Syntax.mut
                   (Syntax.tyInt Syntax.w64)),
-            ) List.[]))))))))))))))
+            ) (List._∷_ (15, Rows.any-gone (Syntax.tyRef Syntax.erased Syntax.mut (Syntax.tyInt Syntax.w64))) List.[])))))))))))))))
 
         abbrev g5 : List.List Row.Entry
         g5 = List._∷_ (0, Rows.any-gone (Syntax.tyInt Syntax.w32)) (List._∷_ (
@@ -1473,12 +1613,12 @@ module _ (claims· : Claims) where
               (Syntax.tyInt Syntax.w8)) 0,
         ) (List._∷_ (
           2,
-          Relend.mslice-owed LentTilePartEntry.row (Syntax.tyRef (Syntax.named 1) Syntax.mut LentTilePartEntry.pointee) 1 6 (Row.lease
+          Relend.mslice-owed LentTilePartEntry.row (Syntax.tyRef (Syntax.named 1) Syntax.mut LentTilePartEntry.pointee) 1 7 (Row.lease
               (κs .1 .0) (qs .1 .0)),
         ) (List._∷_ (
           3,
           Relend.mslice-owed (Referent.rtF (Referent.fInt Syntax.w8)) (Syntax.tyRef (Syntax.named 2) Syntax.mut (Syntax.tyInt Syntax.w8)) 2
-              7 (Row.lease (κs .1 .1 .0) (qs .1 .1 .0)),
+              8 (Row.lease (κs .1 .1 .0) (qs .1 .1 .0)),
         ) (List._∷_ (
           4,
           Rows.mref (Referent.rtF (Referent.fInt Syntax.w64)) (Syntax.tyRef (Syntax.named 3) Syntax.mut (Syntax.tyInt
@@ -1488,38 +1628,44 @@ module _ (claims· : Claims) where
           Rows.mref (Referent.rtF (Referent.fInt Syntax.w64)) (Syntax.tyRef (Syntax.named 5) Syntax.mut (Syntax.tyInt Syntax.w64)) 5,
         ) (List._∷_ (
           7,
-          Rows.any-gone (Syntax.tyEnum
-              (List._∷_ 104 (List._∷_ 101 (List._∷_ 97 (List._∷_ 100 (List._∷_ 101 (List._∷_ 114 (List._∷_ 58 (List._∷_ 58 (List._∷_ 112 (List._∷_ 97 (List._∷_ 114 (List._∷_ 115
-              (List._∷_ 101 (List._∷_ 58 (List._∷_ 58 (List._∷_ 77 (List._∷_ 97 (List._∷_ 105 (List._∷_ 110 (List._∷_ 72 (List._∷_ 101 (List._∷_ 97 (List._∷_ 100 (List._∷_ 101
-              (List._∷_ 114 List.[]))))))))))))))))))))))))) (Syntax.ttcons (Syntax.tcons (Syntax.tyStruct (List._∷_ 104 (List._∷_ 101 (List._∷_ 97 (List._∷_ 100 (List._∷_ 101
-              (List._∷_ 114 (List._∷_ 58 (List._∷_ 58 (List._∷_ 112 (List._∷_ 97 (List._∷_ 114 (List._∷_ 115 (List._∷_ 101 (List._∷_ 58 (List._∷_ 58 (List._∷_ 77 (List._∷_ 97
-              (List._∷_ 105 (List._∷_ 110 (List._∷_ 72 (List._∷_ 101 (List._∷_ 97 (List._∷_ 100 (List._∷_ 101 (List._∷_ 114 (List._∷_ 73 (List._∷_ 110 (List._∷_ 102 (List._∷_ 111
+          Rows.mref (Referent.rtF
+              (Referent.fInt Syntax.w64)) (Syntax.tyRef (Syntax.named 6) Syntax.mut (Syntax.tyInt Syntax.w64)) 6,
+        ) (List._∷_ (
+          8,
+          Rows.any-gone (Syntax.tyEnum (List._∷_ 104 (List._∷_
+              101 (List._∷_ 97 (List._∷_ 100 (List._∷_ 101 (List._∷_ 114 (List._∷_ 58 (List._∷_ 58 (List._∷_ 112 (List._∷_ 97 (List._∷_ 114 (List._∷_ 115 (List._∷_ 101 (List._∷_ 58
+              (List._∷_ 58 (List._∷_ 77 (List._∷_ 97 (List._∷_ 105 (List._∷_ 110 (List._∷_ 72 (List._∷_ 101 (List._∷_ 97 (List._∷_ 100 (List._∷_ 101 (List._∷_ 114
+              List.[]))))))))))))))))))))))))) (Syntax.ttcons (Syntax.tcons (Syntax.tyStruct (List._∷_ 104 (List._∷_ 101 (List._∷_ 97 (List._∷_ 100 (List._∷_ 101 (List._∷_ 114
+              (List._∷_ 58 (List._∷_ 58 (List._∷_ 112 (List._∷_ 97 (List._∷_ 114 (List._∷_ 115 (List._∷_ 101 (List._∷_ 58 (List._∷_ 58 (List._∷_ 77 (List._∷_ 97 (List._∷_ 105
+              (List._∷_ 110 (List._∷_ 72 (List._∷_ 101 (List._∷_ 97 (List._∷_ 100 (List._∷_ 101 (List._∷_ 114 (List._∷_ 73 (List._∷_ 110 (List._∷_ 102 (List._∷_ 111
               List.[]))))))))))))))))))))))))))))) (Syntax.tcons (Syntax.tyStruct (List._∷_ 116 (List._∷_ 121 (List._∷_ 112 (List._∷_ 101 (List._∷_ 115 (List._∷_ 58 (List._∷_ 58
               (List._∷_ 67 (List._∷_ 111 (List._∷_ 100 (List._∷_ 101 (List._∷_ 115 (List._∷_ 116 (List._∷_ 114 (List._∷_ 101 (List._∷_ 97 (List._∷_ 109 (List._∷_ 79 (List._∷_ 102
               (List._∷_ 102 (List._∷_ 115 (List._∷_ 101 (List._∷_ 116 List.[]))))))))))))))))))))))) (Syntax.tcons (Syntax.tyInt Syntax.w64) Syntax.tnil)) (Syntax.tcons (Syntax.tyInt
-              Syntax.w64) (Syntax.tcons (Syntax.tyInt Syntax.w64) Syntax.tnil)))) Syntax.tnil) (Syntax.ttcons (Syntax.tcons (Syntax.tyStruct (List._∷_ 116 (List._∷_ 121 (List._∷_ 112
-              (List._∷_ 101 (List._∷_ 115 (List._∷_ 58 (List._∷_ 58 (List._∷_ 82 (List._∷_ 101 (List._∷_ 102 (List._∷_ 117 (List._∷_ 115 (List._∷_ 97 (List._∷_ 108
-              List.[])))))))))))))) (Syntax.tcons (Syntax.tyInt Syntax.w32) (Syntax.tcons (Syntax.tyInt Syntax.w64) Syntax.tnil))) Syntax.tnil) Syntax.ttnil))),
+              Syntax.w64) (Syntax.tcons (Syntax.tyInt Syntax.w64) (Syntax.tcons (Syntax.tyInt Syntax.w64) Syntax.tnil))))) Syntax.tnil) (Syntax.ttcons (Syntax.tcons (Syntax.tyStruct
+              (List._∷_ 116 (List._∷_ 121 (List._∷_ 112 (List._∷_ 101 (List._∷_ 115 (List._∷_ 58 (List._∷_ 58 (List._∷_ 82 (List._∷_ 101 (List._∷_ 102 (List._∷_ 117 (List._∷_ 115
+              (List._∷_ 97 (List._∷_ 108 List.[])))))))))))))) (Syntax.tcons (Syntax.tyInt Syntax.w32) (Syntax.tcons (Syntax.tyInt Syntax.w64) Syntax.tnil))) Syntax.tnil)
+              Syntax.ttnil))),
+        ) (List._∷_ (9, Rows.any-gone (Syntax.tyRef Syntax.erased Syntax.mut LentTilePartEntry.pointee)) (List._∷_ (
+          10,
+          Mut.mslice LentTilePartEntry.row
+              (Syntax.tyRef Syntax.erased Syntax.mut LentTilePartEntry.pointee) 7,
         ) (List._∷_ (
-          8,
-          Rows.any-gone (Syntax.tyRef Syntax.erased Syntax.mut LentTilePartEntry.pointee),
-        ) (List._∷_ (
-          9,
-          Mut.mslice LentTilePartEntry.row (Syntax.tyRef Syntax.erased Syntax.mut
-              LentTilePartEntry.pointee) 6,
-        ) (List._∷_ (10, Rows.any-gone (Syntax.tyRef Syntax.erased Syntax.mut (Syntax.tyInt Syntax.w8))) (List._∷_ (
           11,
-          Mut.mslice (Referent.rtF
-              (Referent.fInt Syntax.w8)) (Syntax.tyRef Syntax.erased Syntax.mut (Syntax.tyInt Syntax.w8)) 7,
+          Relend.msptr (Referent.rtF (Referent.fInt Syntax.w8)) (Syntax.tyRef Syntax.erased
+              Syntax.mut (Syntax.tyInt Syntax.w8)) 8,
         ) (List._∷_ (
           12,
-          Rows.any-gone (Syntax.tyRef Syntax.erased Syntax.mut
-              (Syntax.tyInt Syntax.w64)),
-        ) (List._∷_ (13, Rows.any-gone (Syntax.tyRef Syntax.erased Syntax.mut (Syntax.tyInt Syntax.w64))) (List._∷_ (
-          14,
-          Rows.any-gone (Syntax.tyRef
-              Syntax.erased Syntax.mut (Syntax.tyInt Syntax.w64)),
-        ) List.[]))))))))))))))
+          Rows.any-gone (Syntax.tyStruct (List._∷_ 38 (List._∷_ 91 (List._∷_ 93 List.[]))) (Syntax.tcons (Syntax.tyRef
+              Syntax.erased Syntax.mut (Syntax.tyInt Syntax.w8)) (Syntax.tcons (Syntax.tyInt Syntax.w64) Syntax.tnil))),
+        ) (List._∷_ (
+          13,
+          Rows.any-gone (Syntax.tyRef Syntax.erased
+              Syntax.mut (Syntax.tyInt Syntax.w64)),
+        ) (List._∷_ (14, Rows.any-gone (Syntax.tyRef Syntax.erased Syntax.mut (Syntax.tyInt Syntax.w64))) (List._∷_ (
+          15,
+          Rows.any-gone
+              (Syntax.tyRef Syntax.erased Syntax.mut (Syntax.tyInt Syntax.w64)),
+        ) List.[])))))))))))))))
 
         abbrev g6 : List.List Row.Entry
         g6 = List._∷_ (0, Rows.any-gone (Syntax.tyInt Syntax.w32)) (List._∷_ (
@@ -1528,12 +1674,12 @@ module _ (claims· : Claims) where
               (Syntax.tyInt Syntax.w8)) 0,
         ) (List._∷_ (
           2,
-          Relend.mslice-owed LentTilePartEntry.row (Syntax.tyRef (Syntax.named 1) Syntax.mut LentTilePartEntry.pointee) 1 6 (Row.lease
+          Relend.mslice-owed LentTilePartEntry.row (Syntax.tyRef (Syntax.named 1) Syntax.mut LentTilePartEntry.pointee) 1 7 (Row.lease
               (κs .1 .0) (qs .1 .0)),
         ) (List._∷_ (
           3,
           Relend.mslice-owed (Referent.rtF (Referent.fInt Syntax.w8)) (Syntax.tyRef (Syntax.named 2) Syntax.mut (Syntax.tyInt Syntax.w8)) 2
-              7 (Row.lease (κs .1 .1 .0) (qs .1 .1 .0)),
+              8 (Row.lease (κs .1 .1 .0) (qs .1 .1 .0)),
         ) (List._∷_ (
           4,
           Rows.mref (Referent.rtF (Referent.fInt Syntax.w64)) (Syntax.tyRef (Syntax.named 3) Syntax.mut (Syntax.tyInt
@@ -1543,28 +1689,84 @@ module _ (claims· : Claims) where
           Rows.mref (Referent.rtF (Referent.fInt Syntax.w64)) (Syntax.tyRef (Syntax.named 5) Syntax.mut (Syntax.tyInt Syntax.w64)) 5,
         ) (List._∷_ (
           7,
-          Rows.whole (Declared.row
-              MainHeader.the-type),
-        ) (List._∷_ (8, Rows.any-gone (Syntax.tyRef Syntax.erased Syntax.mut LentTilePartEntry.pointee)) (List._∷_ (
-          9,
-          Mut.msleft LentTilePartEntry.row
-              (Syntax.tyRef Syntax.erased Syntax.mut LentTilePartEntry.pointee),
-        ) (List._∷_ (10, Rows.any-gone (Syntax.tyRef Syntax.erased Syntax.mut (Syntax.tyInt Syntax.w8)))
-            (List._∷_ (11, Mut.msleft (Referent.rtF (Referent.fInt Syntax.w8)) (Syntax.tyRef Syntax.erased Syntax.mut (Syntax.tyInt Syntax.w8))) (List._∷_ (
-              12,
+          Rows.mref (Referent.rtF
+              (Referent.fInt Syntax.w64)) (Syntax.tyRef (Syntax.named 6) Syntax.mut (Syntax.tyInt Syntax.w64)) 6,
+        ) (List._∷_ (
+          8,
+          Rows.any-gone (Syntax.tyEnum (List._∷_ 104 (List._∷_
+              101 (List._∷_ 97 (List._∷_ 100 (List._∷_ 101 (List._∷_ 114 (List._∷_ 58 (List._∷_ 58 (List._∷_ 112 (List._∷_ 97 (List._∷_ 114 (List._∷_ 115 (List._∷_ 101 (List._∷_ 58
+              (List._∷_ 58 (List._∷_ 77 (List._∷_ 97 (List._∷_ 105 (List._∷_ 110 (List._∷_ 72 (List._∷_ 101 (List._∷_ 97 (List._∷_ 100 (List._∷_ 101 (List._∷_ 114
+              List.[]))))))))))))))))))))))))) (Syntax.ttcons (Syntax.tcons (Syntax.tyStruct (List._∷_ 104 (List._∷_ 101 (List._∷_ 97 (List._∷_ 100 (List._∷_ 101 (List._∷_ 114
+              (List._∷_ 58 (List._∷_ 58 (List._∷_ 112 (List._∷_ 97 (List._∷_ 114 (List._∷_ 115 (List._∷_ 101 (List._∷_ 58 (List._∷_ 58 (List._∷_ 77 (List._∷_ 97 (List._∷_ 105
+              (List._∷_ 110 (List._∷_ 72 (List._∷_ 101 (List._∷_ 97 (List._∷_ 100 (List._∷_ 101 (List._∷_ 114 (List._∷_ 73 (List._∷_ 110 (List._∷_ 102 (List._∷_ 111
+              List.[]))))))))))))))))))))))))))))) (Syntax.tcons (Syntax.tyStruct (List._∷_ 116 (List._∷_ 121 (List._∷_ 112 (List._∷_ 101 (List._∷_ 115 (List._∷_ 58 (List._∷_ 58
+              (List._∷_ 67 (List._∷_ 111 (List._∷_ 100 (List._∷_ 101 (List._∷_ 115 (List._∷_ 116 (List._∷_ 114 (List._∷_ 101 (List._∷_ 97 (List._∷_ 109 (List._∷_ 79 (List._∷_ 102
+              (List._∷_ 102 (List._∷_ 115 (List._∷_ 101 (List._∷_ 116 List.[]))))))))))))))))))))))) (Syntax.tcons (Syntax.tyInt Syntax.w64) Syntax.tnil)) (Syntax.tcons (Syntax.tyInt
+              Syntax.w64) (Syntax.tcons (Syntax.tyInt Syntax.w64) (Syntax.tcons (Syntax.tyInt Syntax.w64) Syntax.tnil))))) Syntax.tnil) (Syntax.ttcons (Syntax.tcons (Syntax.tyStruct
+              (List._∷_ 116 (List._∷_ 121 (List._∷_ 112 (List._∷_ 101 (List._∷_ 115 (List._∷_ 58 (List._∷_ 58 (List._∷_ 82 (List._∷_ 101 (List._∷_ 102 (List._∷_ 117 (List._∷_ 115
+              (List._∷_ 97 (List._∷_ 108 List.[])))))))))))))) (Syntax.tcons (Syntax.tyInt Syntax.w32) (Syntax.tcons (Syntax.tyInt Syntax.w64) Syntax.tnil))) Syntax.tnil)
+              Syntax.ttnil))),
+        ) (List._∷_ (9, Rows.any-gone (Syntax.tyRef Syntax.erased Syntax.mut LentTilePartEntry.pointee)) (List._∷_ (
+          10,
+          Mut.mslice LentTilePartEntry.row
+              (Syntax.tyRef Syntax.erased Syntax.mut LentTilePartEntry.pointee) 7,
+        ) (List._∷_ (11, Rows.any-gone (Syntax.tyRef Syntax.erased Syntax.mut (Syntax.tyInt Syntax.w8)))
+            (List._∷_ (12, Mut.mslice (Referent.rtF (Referent.fInt Syntax.w8)) (Syntax.tyRef Syntax.erased Syntax.mut (Syntax.tyInt Syntax.w8)) 8) (List._∷_ (
+              13,
               Rows.any-gone
                   (Syntax.tyRef Syntax.erased Syntax.mut (Syntax.tyInt Syntax.w64)),
-            ) (List._∷_ (13, Rows.any-gone (Syntax.tyRef Syntax.erased Syntax.mut (Syntax.tyInt Syntax.w64)))
-            (List._∷_ (14, Rows.any-gone (Syntax.tyRef Syntax.erased Syntax.mut (Syntax.tyInt Syntax.w64))) List.[]))))))))))))))
+            ) (List._∷_ (14, Rows.any-gone (Syntax.tyRef Syntax.erased Syntax.mut (Syntax.tyInt Syntax.w64)))
+            (List._∷_ (15, Rows.any-gone (Syntax.tyRef Syntax.erased Syntax.mut (Syntax.tyInt Syntax.w64))) List.[])))))))))))))))
 
         abbrev g7 : List.List Row.Entry
         g7 = List._∷_ (0, Rows.any-gone (Syntax.tyInt Syntax.w32)) (List._∷_ (
           1,
           Rows.sslice (Referent.rtF (Referent.fInt Syntax.w8)) (Syntax.tyRef (Syntax.named 0) Syntax.imm
               (Syntax.tyInt Syntax.w8)) 0,
+        ) (List._∷_ (
+          2,
+          Relend.mslice-owed LentTilePartEntry.row (Syntax.tyRef (Syntax.named 1) Syntax.mut LentTilePartEntry.pointee) 1 7 (Row.lease
+              (κs .1 .0) (qs .1 .0)),
+        ) (List._∷_ (
+          3,
+          Relend.mslice-owed (Referent.rtF (Referent.fInt Syntax.w8)) (Syntax.tyRef (Syntax.named 2) Syntax.mut (Syntax.tyInt Syntax.w8)) 2
+              8 (Row.lease (κs .1 .1 .0) (qs .1 .1 .0)),
+        ) (List._∷_ (
+          4,
+          Rows.mref (Referent.rtF (Referent.fInt Syntax.w64)) (Syntax.tyRef (Syntax.named 3) Syntax.mut (Syntax.tyInt
+              Syntax.w64)) 3,
+        ) (List._∷_ (5, Rows.mref (Referent.rtF (Referent.fInt Syntax.w64)) (Syntax.tyRef (Syntax.named 4) Syntax.mut (Syntax.tyInt Syntax.w64)) 4) (List._∷_ (
+          6,
+          Rows.mref (Referent.rtF (Referent.fInt Syntax.w64)) (Syntax.tyRef (Syntax.named 5) Syntax.mut (Syntax.tyInt Syntax.w64)) 5,
+        ) (List._∷_ (
+          7,
+          Rows.mref (Referent.rtF
+              (Referent.fInt Syntax.w64)) (Syntax.tyRef (Syntax.named 6) Syntax.mut (Syntax.tyInt Syntax.w64)) 6,
+        ) (List._∷_ (8, Rows.whole (Declared.row MainHeader.the-type))
+            (List._∷_ (9, Rows.any-gone (Syntax.tyRef Syntax.erased Syntax.mut LentTilePartEntry.pointee)) (List._∷_ (
+              10,
+              Mut.msleft LentTilePartEntry.row (Syntax.tyRef
+                  Syntax.erased Syntax.mut LentTilePartEntry.pointee),
+            ) (List._∷_ (11, Rows.any-gone (Syntax.tyRef Syntax.erased Syntax.mut (Syntax.tyInt Syntax.w8))) (List._∷_ (
+              12,
+              Mut.msleft (Referent.rtF (Referent.fInt Syntax.w8)) (Syntax.tyRef Syntax.erased Syntax.mut (Syntax.tyInt Syntax.w8)),
+            ) (List._∷_ (
+              13,
+              Rows.any-gone (Syntax.tyRef
+                  Syntax.erased Syntax.mut (Syntax.tyInt Syntax.w64)),
+            ) (List._∷_ (14, Rows.any-gone (Syntax.tyRef Syntax.erased Syntax.mut (Syntax.tyInt Syntax.w64))) (List._∷_ (
+              15,
+              Rows.any-gone (Syntax.tyRef Syntax.erased Syntax.mut (Syntax.tyInt Syntax.w64)),
+            ) List.[])))))))))))))))
+
+        abbrev g8 : List.List Row.Entry
+        g8 = List._∷_ (0, Rows.any-gone (Syntax.tyInt Syntax.w32)) (List._∷_ (
+          1,
+          Rows.sslice (Referent.rtF (Referent.fInt Syntax.w8)) (Syntax.tyRef (Syntax.named 0) Syntax.imm
+              (Syntax.tyInt Syntax.w8)) 0,
         ) (List._∷_ (2, Mut.mslice LentTilePartEntry.row (Syntax.tyRef (Syntax.named 1) Syntax.mut LentTilePartEntry.pointee) 1) (List._∷_ (
           3,
-          Relend.mslice-owed (Referent.rtF (Referent.fInt Syntax.w8)) (Syntax.tyRef (Syntax.named 2) Syntax.mut (Syntax.tyInt Syntax.w8)) 2 7 (Row.lease (κs .1 .1 .0) (qs .1 .1
+          Relend.mslice-owed (Referent.rtF (Referent.fInt Syntax.w8)) (Syntax.tyRef (Syntax.named 2) Syntax.mut (Syntax.tyInt Syntax.w8)) 2 8 (Row.lease (κs .1 .1 .0) (qs .1 .1
               .0)),
         ) (List._∷_ (4, Rows.mref (Referent.rtF (Referent.fInt Syntax.w64)) (Syntax.tyRef (Syntax.named 3) Syntax.mut (Syntax.tyInt Syntax.w64)) 3) (List._∷_ (
           5,
@@ -1574,65 +1776,32 @@ module _ (claims· : Claims) where
           6,
           Rows.mref (Referent.rtF (Referent.fInt
               Syntax.w64)) (Syntax.tyRef (Syntax.named 5) Syntax.mut (Syntax.tyInt Syntax.w64)) 5,
-        ) (List._∷_ (7, Rows.whole (Declared.row MainHeader.the-type)) (List._∷_ (
-          8,
-          Rows.any-gone (Syntax.tyRef Syntax.erased Syntax.mut LentTilePartEntry.pointee),
         ) (List._∷_ (
+          7,
+          Rows.mref (Referent.rtF (Referent.fInt Syntax.w64)) (Syntax.tyRef
+              (Syntax.named 6) Syntax.mut (Syntax.tyInt Syntax.w64)) 6,
+        ) (List._∷_ (8, Rows.whole (Declared.row MainHeader.the-type)) (List._∷_ (
           9,
-          Rows.any-gone (Syntax.tyStruct (List._∷_ 38 (List._∷_ 91 (List._∷_ 93
-              List.[]))) (Syntax.tcons (Syntax.tyRef Syntax.erased Syntax.mut LentTilePartEntry.pointee) (Syntax.tcons (Syntax.tyInt Syntax.w64) Syntax.tnil))),
+          Rows.any-gone (Syntax.tyRef
+              Syntax.erased Syntax.mut LentTilePartEntry.pointee),
         ) (List._∷_ (
           10,
-          Rows.any-gone (Syntax.tyRef Syntax.erased Syntax.mut (Syntax.tyInt Syntax.w8)),
+          Rows.any-gone (Syntax.tyStruct (List._∷_ 38 (List._∷_ 91 (List._∷_ 93 List.[]))) (Syntax.tcons
+              (Syntax.tyRef Syntax.erased Syntax.mut LentTilePartEntry.pointee) (Syntax.tcons (Syntax.tyInt Syntax.w64) Syntax.tnil))),
         ) (List._∷_ (
           11,
-          Mut.msleft (Referent.rtF (Referent.fInt Syntax.w8)) (Syntax.tyRef
+          Rows.any-gone (Syntax.tyRef
               Syntax.erased Syntax.mut (Syntax.tyInt Syntax.w8)),
-        ) (List._∷_ (12, Rows.any-gone (Syntax.tyRef Syntax.erased Syntax.mut (Syntax.tyInt Syntax.w64))) (List._∷_ (
-          13,
-          Rows.any-gone (Syntax.tyRef Syntax.erased Syntax.mut (Syntax.tyInt Syntax.w64)),
         ) (List._∷_ (
+          12,
+          Mut.msleft (Referent.rtF (Referent.fInt Syntax.w8)) (Syntax.tyRef Syntax.erased Syntax.mut
+              (Syntax.tyInt Syntax.w8)),
+        ) (List._∷_ (13, Rows.any-gone (Syntax.tyRef Syntax.erased Syntax.mut (Syntax.tyInt Syntax.w64))) (List._∷_ (
           14,
-          Rows.any-gone (Syntax.tyRef Syntax.erased Syntax.mut (Syntax.tyInt
-              Syntax.w64)),
-        ) List.[]))))))))))))))
-
-        abbrev g9 : List.List Row.Entry
-        g9 = List._∷_ (0, Rows.any-gone (Syntax.tyInt Syntax.w32)) (List._∷_ (
-          1,
-          Rows.sslice (Referent.rtF (Referent.fInt Syntax.w8)) (Syntax.tyRef (Syntax.named 0) Syntax.imm
-              (Syntax.tyInt Syntax.w8)) 0,
-        ) (List._∷_ (2, Mut.mslice LentTilePartEntry.row (Syntax.tyRef (Syntax.named 1) Syntax.mut LentTilePartEntry.pointee) 1) (List._∷_ (
-          3,
-          Mut.mslice (Referent.rtF (Referent.fInt Syntax.w8)) (Syntax.tyRef (Syntax.named 2) Syntax.mut (Syntax.tyInt Syntax.w8)) 2,
-        ) (List._∷_ (
-          4,
-          Rows.mref-owed (Referent.rtF
-              (Referent.fInt Syntax.w64)) (Syntax.tyRef (Syntax.named 3) Syntax.mut (Syntax.tyInt Syntax.w64)) 3 8 (Row.lease (κs .1 .1 .1 .0) (qs .1 .1 .1 .0)),
-        ) (List._∷_ (
-          5,
-          Rows.mref (Referent.rtF (Referent.fInt Syntax.w64)) (Syntax.tyRef (Syntax.named 4) Syntax.mut (Syntax.tyInt Syntax.w64)) 4,
-        ) (List._∷_ (
-          6,
-          Rows.mref (Referent.rtF
-              (Referent.fInt Syntax.w64)) (Syntax.tyRef (Syntax.named 5) Syntax.mut (Syntax.tyInt Syntax.w64)) 5,
-        ) (List._∷_ (7, Rows.whole (Declared.row MainHeader.the-type))
-            (List._∷_ (8, Rows.any-gone (Syntax.tyRef Syntax.erased Syntax.mut LentTilePartEntry.pointee)) (List._∷_ (
-              9,
-              Rows.any-gone (Syntax.tyStruct (List._∷_ 38 (List._∷_ 91
-                  (List._∷_ 93 List.[]))) (Syntax.tcons (Syntax.tyRef Syntax.erased Syntax.mut LentTilePartEntry.pointee) (Syntax.tcons (Syntax.tyInt Syntax.w64) Syntax.tnil))),
-            )
-            (List._∷_ (10, Rows.any-gone (Syntax.tyRef Syntax.erased Syntax.mut (Syntax.tyInt Syntax.w8))) (List._∷_ (
-              11,
-              Rows.any-gone (Syntax.tyStruct (List._∷_ 38 (List._∷_ 91
-                  (List._∷_ 93 List.[]))) (Syntax.tcons (Syntax.tyRef Syntax.erased Syntax.mut (Syntax.tyInt Syntax.w8)) (Syntax.tcons (Syntax.tyInt Syntax.w64) Syntax.tnil))),
-            ) (List._∷_
-            (12, Rows.mref (Referent.rtF (Referent.fInt Syntax.w64)) (Syntax.tyRef Syntax.erased Syntax.mut (Syntax.tyInt Syntax.w64)) 8) (List._∷_ (
-              13,
-              Rows.any-gone (Syntax.tyRef
-                  Syntax.erased Syntax.mut (Syntax.tyInt Syntax.w64)),
-            ) (List._∷_ (14, Rows.any-gone (Syntax.tyRef Syntax.erased Syntax.mut (Syntax.tyInt Syntax.w64)))
-            List.[]))))))))))))))
+          Rows.any-gone (Syntax.tyRef
+              Syntax.erased Syntax.mut (Syntax.tyInt Syntax.w64)),
+        ) (List._∷_ (15, Rows.any-gone (Syntax.tyRef Syntax.erased Syntax.mut (Syntax.tyInt Syntax.w64)))
+            List.[])))))))))))))))
 
         abbrev g10 : List.List Row.Entry
         g10 = List._∷_ (0, Rows.any-gone (Syntax.tyInt Syntax.w32)) (List._∷_ (
@@ -1645,28 +1814,43 @@ module _ (claims· : Claims) where
         ) (List._∷_ (
           4,
           Rows.mref-owed (Referent.rtF
-              (Referent.fInt Syntax.w64)) (Syntax.tyRef (Syntax.named 3) Syntax.mut (Syntax.tyInt Syntax.w64)) 3 8 (Row.lease (κs .1 .1 .1 .0) (qs .1 .1 .1 .0)),
+              (Referent.fInt Syntax.w64)) (Syntax.tyRef (Syntax.named 3) Syntax.mut (Syntax.tyInt Syntax.w64)) 3 9 (Row.lease (κs .1 .1 .1 .0) (qs .1 .1 .1 .0)),
         ) (List._∷_ (
           5,
-          Rows.mref-owed (Referent.rtF (Referent.fInt Syntax.w64)) (Syntax.tyRef (Syntax.named 4) Syntax.mut (Syntax.tyInt Syntax.w64)) 4 9 (Row.lease (κs .1 .1 .1 .1 .0) (qs .1
-              .1 .1 .1 .0)),
-        ) (List._∷_ (6, Rows.mref (Referent.rtF (Referent.fInt Syntax.w64)) (Syntax.tyRef (Syntax.named 5) Syntax.mut (Syntax.tyInt Syntax.w64)) 5) (List._∷_ (
+          Rows.mref (Referent.rtF (Referent.fInt Syntax.w64)) (Syntax.tyRef (Syntax.named 4) Syntax.mut (Syntax.tyInt Syntax.w64)) 4,
+        ) (List._∷_ (
+          6,
+          Rows.mref (Referent.rtF
+              (Referent.fInt Syntax.w64)) (Syntax.tyRef (Syntax.named 5) Syntax.mut (Syntax.tyInt Syntax.w64)) 5,
+        ) (List._∷_ (
           7,
-          Rows.whole (Declared.row MainHeader.the-type),
-        ) (List._∷_ (8, Rows.any-gone (Syntax.tyRef Syntax.erased Syntax.mut LentTilePartEntry.pointee)) (List._∷_ (
+          Rows.mref (Referent.rtF (Referent.fInt Syntax.w64))
+              (Syntax.tyRef (Syntax.named 6) Syntax.mut (Syntax.tyInt Syntax.w64)) 6,
+        ) (List._∷_ (8, Rows.whole (Declared.row MainHeader.the-type)) (List._∷_ (
           9,
-          Rows.any-gone (Syntax.tyStruct (List._∷_ 38 (List._∷_ 91 (List._∷_ 93 List.[]))) (Syntax.tcons (Syntax.tyRef Syntax.erased Syntax.mut LentTilePartEntry.pointee)
-              (Syntax.tcons (Syntax.tyInt Syntax.w64) Syntax.tnil))),
-        ) (List._∷_ (10, Rows.any-gone (Syntax.tyRef Syntax.erased Syntax.mut (Syntax.tyInt Syntax.w8))) (List._∷_ (
+          Rows.any-gone
+              (Syntax.tyRef Syntax.erased Syntax.mut LentTilePartEntry.pointee),
+        ) (List._∷_ (
+          10,
+          Rows.any-gone (Syntax.tyStruct (List._∷_ 38 (List._∷_ 91 (List._∷_ 93 List.[])))
+              (Syntax.tcons (Syntax.tyRef Syntax.erased Syntax.mut LentTilePartEntry.pointee) (Syntax.tcons (Syntax.tyInt Syntax.w64) Syntax.tnil))),
+        ) (List._∷_ (
           11,
-          Rows.any-gone (Syntax.tyStruct (List._∷_ 38 (List._∷_ 91 (List._∷_ 93 List.[]))) (Syntax.tcons (Syntax.tyRef Syntax.erased Syntax.mut (Syntax.tyInt Syntax.w8))
-              (Syntax.tcons (Syntax.tyInt Syntax.w64) Syntax.tnil))),
+          Rows.any-gone
+              (Syntax.tyRef Syntax.erased Syntax.mut (Syntax.tyInt Syntax.w8)),
         ) (List._∷_ (
           12,
-          Rows.mref (Referent.rtF (Referent.fInt Syntax.w64)) (Syntax.tyRef Syntax.erased Syntax.mut
-              (Syntax.tyInt Syntax.w64)) 8,
-        ) (List._∷_ (13, Rows.mref (Referent.rtF (Referent.fInt Syntax.w64)) (Syntax.tyRef Syntax.erased Syntax.mut (Syntax.tyInt Syntax.w64)) 9)
-            (List._∷_ (14, Rows.any-gone (Syntax.tyRef Syntax.erased Syntax.mut (Syntax.tyInt Syntax.w64))) List.[]))))))))))))))
+          Rows.any-gone (Syntax.tyStruct (List._∷_ 38 (List._∷_ 91 (List._∷_ 93 List.[])))
+              (Syntax.tcons (Syntax.tyRef Syntax.erased Syntax.mut (Syntax.tyInt Syntax.w8)) (Syntax.tcons (Syntax.tyInt Syntax.w64) Syntax.tnil))),
+        ) (List._∷_ (
+          13,
+          Rows.mref
+              (Referent.rtF (Referent.fInt Syntax.w64)) (Syntax.tyRef Syntax.erased Syntax.mut (Syntax.tyInt Syntax.w64)) 9,
+        ) (List._∷_ (
+          14,
+          Rows.any-gone (Syntax.tyRef Syntax.erased
+              Syntax.mut (Syntax.tyInt Syntax.w64)),
+        ) (List._∷_ (15, Rows.any-gone (Syntax.tyRef Syntax.erased Syntax.mut (Syntax.tyInt Syntax.w64))) List.[])))))))))))))))
 
         abbrev g11 : List.List Row.Entry
         g11 = List._∷_ (0, Rows.any-gone (Syntax.tyInt Syntax.w32)) (List._∷_ (
@@ -1679,35 +1863,77 @@ module _ (claims· : Claims) where
         ) (List._∷_ (
           4,
           Rows.mref-owed (Referent.rtF
-              (Referent.fInt Syntax.w64)) (Syntax.tyRef (Syntax.named 3) Syntax.mut (Syntax.tyInt Syntax.w64)) 3 8 (Row.lease (κs .1 .1 .1 .0) (qs .1 .1 .1 .0)),
+              (Referent.fInt Syntax.w64)) (Syntax.tyRef (Syntax.named 3) Syntax.mut (Syntax.tyInt Syntax.w64)) 3 9 (Row.lease (κs .1 .1 .1 .0) (qs .1 .1 .1 .0)),
         ) (List._∷_ (
           5,
-          Rows.mref-owed (Referent.rtF (Referent.fInt Syntax.w64)) (Syntax.tyRef (Syntax.named 4) Syntax.mut (Syntax.tyInt Syntax.w64)) 4 9 (Row.lease (κs .1 .1 .1 .1 .0) (qs .1
+          Rows.mref-owed (Referent.rtF (Referent.fInt Syntax.w64)) (Syntax.tyRef (Syntax.named 4) Syntax.mut (Syntax.tyInt Syntax.w64)) 4 10 (Row.lease (κs .1 .1 .1 .1 .0) (qs .1
+              .1 .1 .1 .0)),
+        ) (List._∷_ (6, Rows.mref (Referent.rtF (Referent.fInt Syntax.w64)) (Syntax.tyRef (Syntax.named 5) Syntax.mut (Syntax.tyInt Syntax.w64)) 5) (List._∷_ (
+          7,
+          Rows.mref (Referent.rtF (Referent.fInt Syntax.w64)) (Syntax.tyRef (Syntax.named 6) Syntax.mut (Syntax.tyInt Syntax.w64)) 6,
+        ) (List._∷_ (
+          8,
+          Rows.whole (Declared.row
+              MainHeader.the-type),
+        ) (List._∷_ (9, Rows.any-gone (Syntax.tyRef Syntax.erased Syntax.mut LentTilePartEntry.pointee)) (List._∷_ (
+          10,
+          Rows.any-gone (Syntax.tyStruct
+              (List._∷_ 38 (List._∷_ 91 (List._∷_ 93 List.[]))) (Syntax.tcons (Syntax.tyRef Syntax.erased Syntax.mut LentTilePartEntry.pointee) (Syntax.tcons (Syntax.tyInt
+              Syntax.w64) Syntax.tnil))),
+        ) (List._∷_ (11, Rows.any-gone (Syntax.tyRef Syntax.erased Syntax.mut (Syntax.tyInt Syntax.w8))) (List._∷_ (
+          12,
+          Rows.any-gone (Syntax.tyStruct
+              (List._∷_ 38 (List._∷_ 91 (List._∷_ 93 List.[]))) (Syntax.tcons (Syntax.tyRef Syntax.erased Syntax.mut (Syntax.tyInt Syntax.w8)) (Syntax.tcons (Syntax.tyInt Syntax.w64)
+              Syntax.tnil))),
+        ) (List._∷_ (13, Rows.mref (Referent.rtF (Referent.fInt Syntax.w64)) (Syntax.tyRef Syntax.erased Syntax.mut (Syntax.tyInt Syntax.w64)) 9) (List._∷_ (
+          14,
+          Rows.mref (Referent.rtF (Referent.fInt Syntax.w64)) (Syntax.tyRef Syntax.erased Syntax.mut (Syntax.tyInt Syntax.w64)) 10,
+        ) (List._∷_ (
+          15,
+          Rows.any-gone (Syntax.tyRef
+              Syntax.erased Syntax.mut (Syntax.tyInt Syntax.w64)),
+        ) List.[])))))))))))))))
+
+        abbrev g12 : List.List Row.Entry
+        g12 = List._∷_ (0, Rows.any-gone (Syntax.tyInt Syntax.w32)) (List._∷_ (
+          1,
+          Rows.sslice (Referent.rtF (Referent.fInt Syntax.w8)) (Syntax.tyRef (Syntax.named 0) Syntax.imm
+              (Syntax.tyInt Syntax.w8)) 0,
+        ) (List._∷_ (2, Mut.mslice LentTilePartEntry.row (Syntax.tyRef (Syntax.named 1) Syntax.mut LentTilePartEntry.pointee) 1) (List._∷_ (
+          3,
+          Mut.mslice (Referent.rtF (Referent.fInt Syntax.w8)) (Syntax.tyRef (Syntax.named 2) Syntax.mut (Syntax.tyInt Syntax.w8)) 2,
+        ) (List._∷_ (
+          4,
+          Rows.mref-owed (Referent.rtF
+              (Referent.fInt Syntax.w64)) (Syntax.tyRef (Syntax.named 3) Syntax.mut (Syntax.tyInt Syntax.w64)) 3 9 (Row.lease (κs .1 .1 .1 .0) (qs .1 .1 .1 .0)),
+        ) (List._∷_ (
+          5,
+          Rows.mref-owed (Referent.rtF (Referent.fInt Syntax.w64)) (Syntax.tyRef (Syntax.named 4) Syntax.mut (Syntax.tyInt Syntax.w64)) 4 10 (Row.lease (κs .1 .1 .1 .1 .0) (qs .1
               .1 .1 .1 .0)),
         ) (List._∷_ (
           6,
-          Rows.mref-owed (Referent.rtF (Referent.fInt Syntax.w64)) (Syntax.tyRef (Syntax.named 5) Syntax.mut (Syntax.tyInt Syntax.w64)) 5 10
+          Rows.mref-owed (Referent.rtF (Referent.fInt Syntax.w64)) (Syntax.tyRef (Syntax.named 5) Syntax.mut (Syntax.tyInt Syntax.w64)) 5 11
               (Row.lease (κs .1 .1 .1 .1 .1 .0) (qs .1 .1 .1 .1 .1 .0)),
-        ) (List._∷_ (7, Rows.whole (Declared.row MainHeader.the-type)) (List._∷_ (
-          8,
-          Rows.any-gone (Syntax.tyRef
-              Syntax.erased Syntax.mut LentTilePartEntry.pointee),
         ) (List._∷_ (
+          7,
+          Rows.mref (Referent.rtF (Referent.fInt Syntax.w64)) (Syntax.tyRef (Syntax.named 6) Syntax.mut
+              (Syntax.tyInt Syntax.w64)) 6,
+        ) (List._∷_ (8, Rows.whole (Declared.row MainHeader.the-type)) (List._∷_ (
           9,
-          Rows.any-gone (Syntax.tyStruct (List._∷_ 38 (List._∷_ 91 (List._∷_ 93 List.[]))) (Syntax.tcons
-              (Syntax.tyRef Syntax.erased Syntax.mut LentTilePartEntry.pointee) (Syntax.tcons (Syntax.tyInt Syntax.w64) Syntax.tnil))),
+          Rows.any-gone (Syntax.tyRef Syntax.erased Syntax.mut
+              LentTilePartEntry.pointee),
         ) (List._∷_ (
           10,
-          Rows.any-gone (Syntax.tyRef
-              Syntax.erased Syntax.mut (Syntax.tyInt Syntax.w8)),
+          Rows.any-gone (Syntax.tyStruct (List._∷_ 38 (List._∷_ 91 (List._∷_ 93 List.[]))) (Syntax.tcons (Syntax.tyRef Syntax.erased
+              Syntax.mut LentTilePartEntry.pointee) (Syntax.tcons (Syntax.tyInt Syntax.w64) Syntax.tnil))),
         ) (List._∷_ (
           11,
-          Rows.any-gone (Syntax.tyStruct (List._∷_ 38 (List._∷_ 91 (List._∷_ 93 List.[]))) (Syntax.tcons
-              (Syntax.tyRef Syntax.erased Syntax.mut (Syntax.tyInt Syntax.w8)) (Syntax.tcons (Syntax.tyInt Syntax.w64) Syntax.tnil))),
+          Rows.any-gone (Syntax.tyRef Syntax.erased Syntax.mut
+              (Syntax.tyInt Syntax.w8)),
         ) (List._∷_ (
           12,
-          Rows.mref (Referent.rtF
-              (Referent.fInt Syntax.w64)) (Syntax.tyRef Syntax.erased Syntax.mut (Syntax.tyInt Syntax.w64)) 8,
+          Rows.any-gone (Syntax.tyStruct (List._∷_ 38 (List._∷_ 91 (List._∷_ 93 List.[]))) (Syntax.tcons (Syntax.tyRef Syntax.erased
+              Syntax.mut (Syntax.tyInt Syntax.w8)) (Syntax.tcons (Syntax.tyInt Syntax.w64) Syntax.tnil))),
         ) (List._∷_ (
           13,
           Rows.mref (Referent.rtF (Referent.fInt Syntax.w64))
@@ -1716,60 +1942,14 @@ module _ (claims· : Claims) where
           14,
           Rows.mref (Referent.rtF (Referent.fInt Syntax.w64)) (Syntax.tyRef Syntax.erased
               Syntax.mut (Syntax.tyInt Syntax.w64)) 10,
-        ) List.[]))))))))))))))
-
-        abbrev g12 : List.List Row.Entry
-        g12 = List._∷_ (0, Rows.sc-here (Row.sInt Syntax.w32)) (List._∷_ (
-          1,
-          Rows.sslice (Referent.rtF (Referent.fInt Syntax.w8)) (Syntax.tyRef (Syntax.named 0) Syntax.imm
-              (Syntax.tyInt Syntax.w8)) 0,
-        ) (List._∷_ (2, Mut.mslice LentTilePartEntry.row (Syntax.tyRef (Syntax.named 1) Syntax.mut LentTilePartEntry.pointee) 1) (List._∷_ (
-          3,
-          Mut.mslice (Referent.rtF (Referent.fInt Syntax.w8)) (Syntax.tyRef (Syntax.named 2) Syntax.mut (Syntax.tyInt Syntax.w8)) 2,
         ) (List._∷_ (
-          4,
-          Rows.mref-owed (Referent.rtF
-              (Referent.fInt Syntax.w64)) (Syntax.tyRef (Syntax.named 3) Syntax.mut (Syntax.tyInt Syntax.w64)) 3 8 (Row.lease (κs .1 .1 .1 .0) (qs .1 .1 .1 .0)),
-        ) (List._∷_ (
-          5,
-          Rows.mref-owed (Referent.rtF (Referent.fInt Syntax.w64)) (Syntax.tyRef (Syntax.named 4) Syntax.mut (Syntax.tyInt Syntax.w64)) 4 9 (Row.lease (κs .1 .1 .1 .1 .0) (qs .1
-              .1 .1 .1 .0)),
-        ) (List._∷_ (
-          6,
-          Rows.mref-owed (Referent.rtF (Referent.fInt Syntax.w64)) (Syntax.tyRef (Syntax.named 5) Syntax.mut (Syntax.tyInt Syntax.w64)) 5 10
-              (Row.lease (κs .1 .1 .1 .1 .1 .0) (qs .1 .1 .1 .1 .1 .0)),
-        ) (List._∷_ (7, Rows.whole (Declared.row MainHeader.the-type)) (List._∷_ (
-          8,
-          Rows.any-gone (Syntax.tyRef
-              Syntax.erased Syntax.mut LentTilePartEntry.pointee),
-        ) (List._∷_ (
-          9,
-          Rows.any-gone (Syntax.tyStruct (List._∷_ 38 (List._∷_ 91 (List._∷_ 93 List.[]))) (Syntax.tcons
-              (Syntax.tyRef Syntax.erased Syntax.mut LentTilePartEntry.pointee) (Syntax.tcons (Syntax.tyInt Syntax.w64) Syntax.tnil))),
-        ) (List._∷_ (
-          10,
-          Rows.any-gone (Syntax.tyRef
-              Syntax.erased Syntax.mut (Syntax.tyInt Syntax.w8)),
-        ) (List._∷_ (
-          11,
-          Rows.any-gone (Syntax.tyStruct (List._∷_ 38 (List._∷_ 91 (List._∷_ 93 List.[]))) (Syntax.tcons
-              (Syntax.tyRef Syntax.erased Syntax.mut (Syntax.tyInt Syntax.w8)) (Syntax.tcons (Syntax.tyInt Syntax.w64) Syntax.tnil))),
-        ) (List._∷_ (
-          12,
-          Rows.mleft (Referent.rtF
-              (Referent.fInt Syntax.w64)) (Syntax.tyRef Syntax.erased Syntax.mut (Syntax.tyInt Syntax.w64)),
-        ) (List._∷_ (
-          13,
-          Rows.mleft (Referent.rtF (Referent.fInt Syntax.w64))
-              (Syntax.tyRef Syntax.erased Syntax.mut (Syntax.tyInt Syntax.w64)),
-        ) (List._∷_ (
-          14,
-          Rows.mleft (Referent.rtF (Referent.fInt Syntax.w64)) (Syntax.tyRef Syntax.erased
-              Syntax.mut (Syntax.tyInt Syntax.w64)),
-        ) List.[]))))))))))))))
+          15,
+          Rows.mref (Referent.rtF (Referent.fInt Syntax.w64)) (Syntax.tyRef Syntax.erased Syntax.mut (Syntax.tyInt
+              Syntax.w64)) 11,
+        ) List.[])))))))))))))))
 
         abbrev g13 : List.List Row.Entry
-        g13 = List._∷_ (0, Rows.sc-here (Row.sInt Syntax.w32)) (List._∷_ (
+        g13 = List._∷_ (0, Rows.any-gone (Syntax.tyInt Syntax.w32)) (List._∷_ (
           1,
           Rows.sslice (Referent.rtF (Referent.fInt Syntax.w8)) (Syntax.tyRef (Syntax.named 0) Syntax.imm
               (Syntax.tyInt Syntax.w8)) 0,
@@ -1779,61 +1959,145 @@ module _ (claims· : Claims) where
         ) (List._∷_ (
           4,
           Rows.mref-owed (Referent.rtF
-              (Referent.fInt Syntax.w64)) (Syntax.tyRef (Syntax.named 3) Syntax.mut (Syntax.tyInt Syntax.w64)) 3 8 (Row.lease (κs .1 .1 .1 .0) (qs .1 .1 .1 .0)),
+              (Referent.fInt Syntax.w64)) (Syntax.tyRef (Syntax.named 3) Syntax.mut (Syntax.tyInt Syntax.w64)) 3 9 (Row.lease (κs .1 .1 .1 .0) (qs .1 .1 .1 .0)),
         ) (List._∷_ (
           5,
-          Rows.mref-owed (Referent.rtF (Referent.fInt Syntax.w64)) (Syntax.tyRef (Syntax.named 4) Syntax.mut (Syntax.tyInt Syntax.w64)) 4 9 (Row.lease (κs .1 .1 .1 .1 .0) (qs .1
+          Rows.mref-owed (Referent.rtF (Referent.fInt Syntax.w64)) (Syntax.tyRef (Syntax.named 4) Syntax.mut (Syntax.tyInt Syntax.w64)) 4 10 (Row.lease (κs .1 .1 .1 .1 .0) (qs .1
               .1 .1 .1 .0)),
         ) (List._∷_ (
           6,
-          Rows.mref-owed (Referent.rtF (Referent.fInt Syntax.w64)) (Syntax.tyRef (Syntax.named 5) Syntax.mut (Syntax.tyInt Syntax.w64)) 5 10
+          Rows.mref-owed (Referent.rtF (Referent.fInt Syntax.w64)) (Syntax.tyRef (Syntax.named 5) Syntax.mut (Syntax.tyInt Syntax.w64)) 5 11
               (Row.lease (κs .1 .1 .1 .1 .1 .0) (qs .1 .1 .1 .1 .1 .0)),
         ) (List._∷_ (
           7,
-          Rows.any-gone (Syntax.tyEnum (List._∷_ 104 (List._∷_ 101 (List._∷_ 97 (List._∷_ 100 (List._∷_
-              101 (List._∷_ 114 (List._∷_ 58 (List._∷_ 58 (List._∷_ 112 (List._∷_ 97 (List._∷_ 114 (List._∷_ 115 (List._∷_ 101 (List._∷_ 58 (List._∷_ 58 (List._∷_ 77 (List._∷_ 97
-              (List._∷_ 105 (List._∷_ 110 (List._∷_ 72 (List._∷_ 101 (List._∷_ 97 (List._∷_ 100 (List._∷_ 101 (List._∷_ 114 List.[]))))))))))))))))))))))))) (Syntax.ttcons
-              (Syntax.tcons (Syntax.tyStruct (List._∷_ 104 (List._∷_ 101 (List._∷_ 97 (List._∷_ 100 (List._∷_ 101 (List._∷_ 114 (List._∷_ 58 (List._∷_ 58 (List._∷_ 112 (List._∷_ 97
-              (List._∷_ 114 (List._∷_ 115 (List._∷_ 101 (List._∷_ 58 (List._∷_ 58 (List._∷_ 77 (List._∷_ 97 (List._∷_ 105 (List._∷_ 110 (List._∷_ 72 (List._∷_ 101 (List._∷_ 97
-              (List._∷_ 100 (List._∷_ 101 (List._∷_ 114 (List._∷_ 73 (List._∷_ 110 (List._∷_ 102 (List._∷_ 111 List.[]))))))))))))))))))))))))))))) (Syntax.tcons (Syntax.tyStruct
-              (List._∷_ 116 (List._∷_ 121 (List._∷_ 112 (List._∷_ 101 (List._∷_ 115 (List._∷_ 58 (List._∷_ 58 (List._∷_ 67 (List._∷_ 111 (List._∷_ 100 (List._∷_ 101 (List._∷_ 115
-              (List._∷_ 116 (List._∷_ 114 (List._∷_ 101 (List._∷_ 97 (List._∷_ 109 (List._∷_ 79 (List._∷_ 102 (List._∷_ 102 (List._∷_ 115 (List._∷_ 101 (List._∷_ 116
-              List.[]))))))))))))))))))))))) (Syntax.tcons (Syntax.tyInt Syntax.w64) Syntax.tnil)) (Syntax.tcons (Syntax.tyInt Syntax.w64) (Syntax.tcons (Syntax.tyInt Syntax.w64)
-              Syntax.tnil)))) Syntax.tnil) (Syntax.ttcons (Syntax.tcons (Syntax.tyStruct (List._∷_ 116 (List._∷_ 121 (List._∷_ 112 (List._∷_ 101 (List._∷_ 115 (List._∷_ 58 (List._∷_
-              58 (List._∷_ 82 (List._∷_ 101 (List._∷_ 102 (List._∷_ 117 (List._∷_ 115 (List._∷_ 97 (List._∷_ 108 List.[])))))))))))))) (Syntax.tcons (Syntax.tyInt Syntax.w32)
-              (Syntax.tcons (Syntax.tyInt Syntax.w64) Syntax.tnil))) Syntax.tnil) Syntax.ttnil))),
+          Rows.mref-owed (Referent.rtF (Referent.fInt Syntax.w64)) (Syntax.tyRef (Syntax.named 6)
+              Syntax.mut (Syntax.tyInt Syntax.w64)) 6 12 (Row.lease (κs .1 .1 .1 .1 .1 .1 .0) (qs .1 .1 .1 .1 .1 .1 .0)),
+        ) (List._∷_ (8, Rows.whole (Declared.row MainHeader.the-type))
+            (List._∷_ (9, Rows.any-gone (Syntax.tyRef Syntax.erased Syntax.mut LentTilePartEntry.pointee)) (List._∷_ (
+              10,
+              Rows.any-gone (Syntax.tyStruct (List._∷_ 38 (List._∷_ 91
+                  (List._∷_ 93 List.[]))) (Syntax.tcons (Syntax.tyRef Syntax.erased Syntax.mut LentTilePartEntry.pointee) (Syntax.tcons (Syntax.tyInt Syntax.w64) Syntax.tnil))),
+            )
+            (List._∷_ (11, Rows.any-gone (Syntax.tyRef Syntax.erased Syntax.mut (Syntax.tyInt Syntax.w8))) (List._∷_ (
+              12,
+              Rows.any-gone (Syntax.tyStruct (List._∷_ 38 (List._∷_ 91
+                  (List._∷_ 93 List.[]))) (Syntax.tcons (Syntax.tyRef Syntax.erased Syntax.mut (Syntax.tyInt Syntax.w8)) (Syntax.tcons (Syntax.tyInt Syntax.w64) Syntax.tnil))),
+            ) (List._∷_
+            (13, Rows.mref (Referent.rtF (Referent.fInt Syntax.w64)) (Syntax.tyRef Syntax.erased Syntax.mut (Syntax.tyInt Syntax.w64)) 9) (List._∷_ (
+              14,
+              Rows.mref (Referent.rtF
+                  (Referent.fInt Syntax.w64)) (Syntax.tyRef Syntax.erased Syntax.mut (Syntax.tyInt Syntax.w64)) 10,
+            ) (List._∷_ (
+              15,
+              Rows.mref (Referent.rtF (Referent.fInt Syntax.w64))
+                  (Syntax.tyRef Syntax.erased Syntax.mut (Syntax.tyInt Syntax.w64)) 11,
+            ) List.[])))))))))))))))
+
+        abbrev g15 : List.List Row.Entry
+        g15 = List._∷_ (0, Rows.sc-here (Row.sInt Syntax.w32)) (List._∷_ (
+          1,
+          Rows.sslice (Referent.rtF (Referent.fInt Syntax.w8)) (Syntax.tyRef (Syntax.named 0) Syntax.imm
+              (Syntax.tyInt Syntax.w8)) 0,
+        ) (List._∷_ (2, Mut.mslice LentTilePartEntry.row (Syntax.tyRef (Syntax.named 1) Syntax.mut LentTilePartEntry.pointee) 1) (List._∷_ (
+          3,
+          Mut.mslice (Referent.rtF (Referent.fInt Syntax.w8)) (Syntax.tyRef (Syntax.named 2) Syntax.mut (Syntax.tyInt Syntax.w8)) 2,
+        ) (List._∷_ (
+          4,
+          Rows.mref-owed (Referent.rtF
+              (Referent.fInt Syntax.w64)) (Syntax.tyRef (Syntax.named 3) Syntax.mut (Syntax.tyInt Syntax.w64)) 3 9 (Row.lease (κs .1 .1 .1 .0) (qs .1 .1 .1 .0)),
+        ) (List._∷_ (
+          5,
+          Rows.mref-owed (Referent.rtF (Referent.fInt Syntax.w64)) (Syntax.tyRef (Syntax.named 4) Syntax.mut (Syntax.tyInt Syntax.w64)) 4 10 (Row.lease (κs .1 .1 .1 .1 .0) (qs .1
+              .1 .1 .1 .0)),
+        ) (List._∷_ (
+          6,
+          Rows.mref-owed (Referent.rtF (Referent.fInt Syntax.w64)) (Syntax.tyRef (Syntax.named 5) Syntax.mut (Syntax.tyInt Syntax.w64)) 5 11
+              (Row.lease (κs .1 .1 .1 .1 .1 .0) (qs .1 .1 .1 .1 .1 .0)),
+        ) (List._∷_ (
+          7,
+          Rows.mref-owed (Referent.rtF (Referent.fInt Syntax.w64)) (Syntax.tyRef (Syntax.named 6)
+              Syntax.mut (Syntax.tyInt Syntax.w64)) 6 12 (Row.lease (κs .1 .1 .1 .1 .1 .1 .0) (qs .1 .1 .1 .1 .1 .1 .0)),
+        ) (List._∷_ (8, Rows.whole (Declared.row MainHeader.the-type))
+            (List._∷_ (9, Rows.any-gone (Syntax.tyRef Syntax.erased Syntax.mut LentTilePartEntry.pointee)) (List._∷_ (
+              10,
+              Rows.any-gone (Syntax.tyStruct (List._∷_ 38 (List._∷_ 91
+                  (List._∷_ 93 List.[]))) (Syntax.tcons (Syntax.tyRef Syntax.erased Syntax.mut LentTilePartEntry.pointee) (Syntax.tcons (Syntax.tyInt Syntax.w64) Syntax.tnil))),
+            )
+            (List._∷_ (11, Rows.any-gone (Syntax.tyRef Syntax.erased Syntax.mut (Syntax.tyInt Syntax.w8))) (List._∷_ (
+              12,
+              Rows.any-gone (Syntax.tyStruct (List._∷_ 38 (List._∷_ 91
+                  (List._∷_ 93 List.[]))) (Syntax.tcons (Syntax.tyRef Syntax.erased Syntax.mut (Syntax.tyInt Syntax.w8)) (Syntax.tcons (Syntax.tyInt Syntax.w64) Syntax.tnil))),
+            ) (List._∷_
+            (13, Rows.mleft (Referent.rtF (Referent.fInt Syntax.w64)) (Syntax.tyRef Syntax.erased Syntax.mut (Syntax.tyInt Syntax.w64))) (List._∷_ (
+              14,
+              Rows.mleft (Referent.rtF
+                  (Referent.fInt Syntax.w64)) (Syntax.tyRef Syntax.erased Syntax.mut (Syntax.tyInt Syntax.w64)),
+            ) (List._∷_ (
+              15,
+              Rows.mleft (Referent.rtF (Referent.fInt Syntax.w64))
+                  (Syntax.tyRef Syntax.erased Syntax.mut (Syntax.tyInt Syntax.w64)),
+            ) List.[])))))))))))))))
+
+        abbrev g17 : List.List Row.Entry
+        g17 = List._∷_ (0, Rows.sc-here (Row.sInt Syntax.w32)) (List._∷_ (
+          1,
+          Rows.sslice (Referent.rtF (Referent.fInt Syntax.w8)) (Syntax.tyRef (Syntax.named 0) Syntax.imm
+              (Syntax.tyInt Syntax.w8)) 0,
+        ) (List._∷_ (2, Mut.mslice LentTilePartEntry.row (Syntax.tyRef (Syntax.named 1) Syntax.mut LentTilePartEntry.pointee) 1) (List._∷_ (
+          3,
+          Mut.mslice (Referent.rtF (Referent.fInt Syntax.w8)) (Syntax.tyRef (Syntax.named 2) Syntax.mut (Syntax.tyInt Syntax.w8)) 2,
+        ) (List._∷_ (
+          4,
+          Rows.mref-owed (Referent.rtF
+              (Referent.fInt Syntax.w64)) (Syntax.tyRef (Syntax.named 3) Syntax.mut (Syntax.tyInt Syntax.w64)) 3 9 (Row.lease (κs .1 .1 .1 .0) (qs .1 .1 .1 .0)),
+        ) (List._∷_ (
+          5,
+          Rows.mref-owed (Referent.rtF (Referent.fInt Syntax.w64)) (Syntax.tyRef (Syntax.named 4) Syntax.mut (Syntax.tyInt Syntax.w64)) 4 10 (Row.lease (κs .1 .1 .1 .1 .0) (qs .1
+              .1 .1 .1 .0)),
+        ) (List._∷_ (
+          6,
+          Rows.mref-owed (Referent.rtF (Referent.fInt Syntax.w64)) (Syntax.tyRef (Syntax.named 5) Syntax.mut (Syntax.tyInt Syntax.w64)) 5 11
+              (Row.lease (κs .1 .1 .1 .1 .1 .0) (qs .1 .1 .1 .1 .1 .0)),
+        ) (List._∷_ (
+          7,
+          Rows.mref-owed (Referent.rtF (Referent.fInt Syntax.w64)) (Syntax.tyRef (Syntax.named 6)
+              Syntax.mut (Syntax.tyInt Syntax.w64)) 6 12 (Row.lease (κs .1 .1 .1 .1 .1 .1 .0) (qs .1 .1 .1 .1 .1 .1 .0)),
         ) (List._∷_ (
           8,
-          Rows.any-gone (Syntax.tyRef Syntax.erased Syntax.mut
-              LentTilePartEntry.pointee),
-        ) (List._∷_ (
-          9,
-          Rows.any-gone (Syntax.tyStruct (List._∷_ 38 (List._∷_ 91 (List._∷_ 93 List.[]))) (Syntax.tcons (Syntax.tyRef Syntax.erased
-              Syntax.mut LentTilePartEntry.pointee) (Syntax.tcons (Syntax.tyInt Syntax.w64) Syntax.tnil))),
-        ) (List._∷_ (
+          Rows.any-gone (Syntax.tyEnum (List._∷_ 104
+              (List._∷_ 101 (List._∷_ 97 (List._∷_ 100 (List._∷_ 101 (List._∷_ 114 (List._∷_ 58 (List._∷_ 58 (List._∷_ 112 (List._∷_ 97 (List._∷_ 114 (List._∷_ 115 (List._∷_ 101
+              (List._∷_ 58 (List._∷_ 58 (List._∷_ 77 (List._∷_ 97 (List._∷_ 105 (List._∷_ 110 (List._∷_ 72 (List._∷_ 101 (List._∷_ 97 (List._∷_ 100 (List._∷_ 101 (List._∷_ 114
+              List.[]))))))))))))))))))))))))) (Syntax.ttcons (Syntax.tcons (Syntax.tyStruct (List._∷_ 104 (List._∷_ 101 (List._∷_ 97 (List._∷_ 100 (List._∷_ 101 (List._∷_ 114
+              (List._∷_ 58 (List._∷_ 58 (List._∷_ 112 (List._∷_ 97 (List._∷_ 114 (List._∷_ 115 (List._∷_ 101 (List._∷_ 58 (List._∷_ 58 (List._∷_ 77 (List._∷_ 97 (List._∷_ 105
+              (List._∷_ 110 (List._∷_ 72 (List._∷_ 101 (List._∷_ 97 (List._∷_ 100 (List._∷_ 101 (List._∷_ 114 (List._∷_ 73 (List._∷_ 110 (List._∷_ 102 (List._∷_ 111
+              List.[]))))))))))))))))))))))))))))) (Syntax.tcons (Syntax.tyStruct (List._∷_ 116 (List._∷_ 121 (List._∷_ 112 (List._∷_ 101 (List._∷_ 115 (List._∷_ 58 (List._∷_ 58
+              (List._∷_ 67 (List._∷_ 111 (List._∷_ 100 (List._∷_ 101 (List._∷_ 115 (List._∷_ 116 (List._∷_ 114 (List._∷_ 101 (List._∷_ 97 (List._∷_ 109 (List._∷_ 79 (List._∷_ 102
+              (List._∷_ 102 (List._∷_ 115 (List._∷_ 101 (List._∷_ 116 List.[]))))))))))))))))))))))) (Syntax.tcons (Syntax.tyInt Syntax.w64) Syntax.tnil)) (Syntax.tcons (Syntax.tyInt
+              Syntax.w64) (Syntax.tcons (Syntax.tyInt Syntax.w64) (Syntax.tcons (Syntax.tyInt Syntax.w64) Syntax.tnil))))) Syntax.tnil) (Syntax.ttcons (Syntax.tcons (Syntax.tyStruct
+              (List._∷_ 116 (List._∷_ 121 (List._∷_ 112 (List._∷_ 101 (List._∷_ 115 (List._∷_ 58 (List._∷_ 58 (List._∷_ 82 (List._∷_ 101 (List._∷_ 102 (List._∷_ 117 (List._∷_ 115
+              (List._∷_ 97 (List._∷_ 108 List.[])))))))))))))) (Syntax.tcons (Syntax.tyInt Syntax.w32) (Syntax.tcons (Syntax.tyInt Syntax.w64) Syntax.tnil))) Syntax.tnil)
+              Syntax.ttnil))),
+        ) (List._∷_ (9, Rows.any-gone (Syntax.tyRef Syntax.erased Syntax.mut LentTilePartEntry.pointee)) (List._∷_ (
           10,
-          Rows.any-gone (Syntax.tyRef Syntax.erased Syntax.mut
-              (Syntax.tyInt Syntax.w8)),
-        ) (List._∷_ (
-          11,
-          Rows.any-gone (Syntax.tyStruct (List._∷_ 38 (List._∷_ 91 (List._∷_ 93 List.[]))) (Syntax.tcons (Syntax.tyRef Syntax.erased
-              Syntax.mut (Syntax.tyInt Syntax.w8)) (Syntax.tcons (Syntax.tyInt Syntax.w64) Syntax.tnil))),
-        ) (List._∷_ (
+          Rows.any-gone (Syntax.tyStruct (List._∷_
+              38 (List._∷_ 91 (List._∷_ 93 List.[]))) (Syntax.tcons (Syntax.tyRef Syntax.erased Syntax.mut LentTilePartEntry.pointee) (Syntax.tcons (Syntax.tyInt Syntax.w64)
+              Syntax.tnil))),
+        ) (List._∷_ (11, Rows.any-gone (Syntax.tyRef Syntax.erased Syntax.mut (Syntax.tyInt Syntax.w8))) (List._∷_ (
           12,
-          Rows.mleft (Referent.rtF (Referent.fInt Syntax.w64))
-              (Syntax.tyRef Syntax.erased Syntax.mut (Syntax.tyInt Syntax.w64)),
-        ) (List._∷_ (
-          13,
-          Rows.mleft (Referent.rtF (Referent.fInt Syntax.w64)) (Syntax.tyRef Syntax.erased
-              Syntax.mut (Syntax.tyInt Syntax.w64)),
-        ) (List._∷_ (
+          Rows.any-gone (Syntax.tyStruct (List._∷_
+              38 (List._∷_ 91 (List._∷_ 93 List.[]))) (Syntax.tcons (Syntax.tyRef Syntax.erased Syntax.mut (Syntax.tyInt Syntax.w8)) (Syntax.tcons (Syntax.tyInt Syntax.w64)
+              Syntax.tnil))),
+        ) (List._∷_ (13, Rows.mleft (Referent.rtF (Referent.fInt Syntax.w64)) (Syntax.tyRef Syntax.erased Syntax.mut (Syntax.tyInt Syntax.w64))) (List._∷_ (
           14,
-          Rows.mleft (Referent.rtF (Referent.fInt Syntax.w64)) (Syntax.tyRef Syntax.erased Syntax.mut (Syntax.tyInt
-              Syntax.w64)),
-        ) List.[]))))))))))))))
+          Rows.mleft (Referent.rtF (Referent.fInt Syntax.w64)) (Syntax.tyRef Syntax.erased Syntax.mut (Syntax.tyInt Syntax.w64)),
+        ) (List._∷_ (
+          15,
+          Rows.mleft (Referent.rtF
+              (Referent.fInt Syntax.w64)) (Syntax.tyRef Syntax.erased Syntax.mut (Syntax.tyInt Syntax.w64)),
+        ) List.[])))))))))))))))
 
-        abbrev g14 : List.List Row.Entry
-        g14 = List._∷_ (0, Rows.sc-here (Row.sInt Syntax.w32)) (List._∷_ (
+        abbrev g18 : List.List Row.Entry
+        g18 = List._∷_ (0, Rows.sc-here (Row.sInt Syntax.w32)) (List._∷_ (
           1,
           Rows.sslice (Referent.rtF (Referent.fInt Syntax.w8)) (Syntax.tyRef (Syntax.named 0) Syntax.imm
               (Syntax.tyInt Syntax.w8)) 0,
@@ -1847,48 +2111,55 @@ module _ (claims· : Claims) where
         ) (List._∷_ (
           5,
           Rows.mref-owed (Referent.rtF (Referent.fInt
-              Syntax.w64)) (Syntax.tyRef (Syntax.named 4) Syntax.mut (Syntax.tyInt Syntax.w64)) 4 9 (Row.lease (κs .1 .1 .1 .1 .0) (qs .1 .1 .1 .1 .0)),
+              Syntax.w64)) (Syntax.tyRef (Syntax.named 4) Syntax.mut (Syntax.tyInt Syntax.w64)) 4 10 (Row.lease (κs .1 .1 .1 .1 .0) (qs .1 .1 .1 .1 .0)),
         ) (List._∷_ (
           6,
           Rows.mref-owed
-              (Referent.rtF (Referent.fInt Syntax.w64)) (Syntax.tyRef (Syntax.named 5) Syntax.mut (Syntax.tyInt Syntax.w64)) 5 10 (Row.lease (κs .1 .1 .1 .1 .1 .0) (qs .1 .1 .1 .1 .1
+              (Referent.rtF (Referent.fInt Syntax.w64)) (Syntax.tyRef (Syntax.named 5) Syntax.mut (Syntax.tyInt Syntax.w64)) 5 11 (Row.lease (κs .1 .1 .1 .1 .1 .0) (qs .1 .1 .1 .1 .1
               .0)),
         ) (List._∷_ (
           7,
-          Rows.any-gone (Syntax.tyEnum (List._∷_ 104 (List._∷_ 101 (List._∷_ 97 (List._∷_ 100 (List._∷_ 101 (List._∷_ 114 (List._∷_ 58 (List._∷_ 58 (List._∷_
-              112 (List._∷_ 97 (List._∷_ 114 (List._∷_ 115 (List._∷_ 101 (List._∷_ 58 (List._∷_ 58 (List._∷_ 77 (List._∷_ 97 (List._∷_ 105 (List._∷_ 110 (List._∷_ 72 (List._∷_ 101
-              (List._∷_ 97 (List._∷_ 100 (List._∷_ 101 (List._∷_ 114 List.[]))))))))))))))))))))))))) (Syntax.ttcons (Syntax.tcons (Syntax.tyStruct (List._∷_ 104 (List._∷_ 101
-              (List._∷_ 97 (List._∷_ 100 (List._∷_ 101 (List._∷_ 114 (List._∷_ 58 (List._∷_ 58 (List._∷_ 112 (List._∷_ 97 (List._∷_ 114 (List._∷_ 115 (List._∷_ 101 (List._∷_ 58
-              (List._∷_ 58 (List._∷_ 77 (List._∷_ 97 (List._∷_ 105 (List._∷_ 110 (List._∷_ 72 (List._∷_ 101 (List._∷_ 97 (List._∷_ 100 (List._∷_ 101 (List._∷_ 114 (List._∷_ 73
-              (List._∷_ 110 (List._∷_ 102 (List._∷_ 111 List.[]))))))))))))))))))))))))))))) (Syntax.tcons (Syntax.tyStruct (List._∷_ 116 (List._∷_ 121 (List._∷_ 112 (List._∷_ 101
-              (List._∷_ 115 (List._∷_ 58 (List._∷_ 58 (List._∷_ 67 (List._∷_ 111 (List._∷_ 100 (List._∷_ 101 (List._∷_ 115 (List._∷_ 116 (List._∷_ 114 (List._∷_ 101 (List._∷_ 97
-              (List._∷_ 109 (List._∷_ 79 (List._∷_ 102 (List._∷_ 102 (List._∷_ 115 (List._∷_ 101 (List._∷_ 116 List.[]))))))))))))))))))))))) (Syntax.tcons (Syntax.tyInt Syntax.w64)
-              Syntax.tnil)) (Syntax.tcons (Syntax.tyInt Syntax.w64) (Syntax.tcons (Syntax.tyInt Syntax.w64) Syntax.tnil)))) Syntax.tnil) (Syntax.ttcons (Syntax.tcons (Syntax.tyStruct
-              (List._∷_ 116 (List._∷_ 121 (List._∷_ 112 (List._∷_ 101 (List._∷_ 115 (List._∷_ 58 (List._∷_ 58 (List._∷_ 82 (List._∷_ 101 (List._∷_ 102 (List._∷_ 117 (List._∷_ 115
-              (List._∷_ 97 (List._∷_ 108 List.[])))))))))))))) (Syntax.tcons (Syntax.tyInt Syntax.w32) (Syntax.tcons (Syntax.tyInt Syntax.w64) Syntax.tnil))) Syntax.tnil)
-              Syntax.ttnil))),
-        ) (List._∷_ (8, Rows.any-gone (Syntax.tyRef Syntax.erased Syntax.mut LentTilePartEntry.pointee)) (List._∷_ (
-          9,
-          Rows.any-gone (Syntax.tyStruct (List._∷_
-              38 (List._∷_ 91 (List._∷_ 93 List.[]))) (Syntax.tcons (Syntax.tyRef Syntax.erased Syntax.mut LentTilePartEntry.pointee) (Syntax.tcons (Syntax.tyInt Syntax.w64)
-              Syntax.tnil))),
-        ) (List._∷_ (10, Rows.any-gone (Syntax.tyRef Syntax.erased Syntax.mut (Syntax.tyInt Syntax.w8))) (List._∷_ (
-          11,
-          Rows.any-gone (Syntax.tyStruct (List._∷_
-              38 (List._∷_ 91 (List._∷_ 93 List.[]))) (Syntax.tcons (Syntax.tyRef Syntax.erased Syntax.mut (Syntax.tyInt Syntax.w8)) (Syntax.tcons (Syntax.tyInt Syntax.w64)
-              Syntax.tnil))),
-        ) (List._∷_ (12, Rows.any-gone (Syntax.tyRef Syntax.erased Syntax.mut (Syntax.tyInt Syntax.w64))) (List._∷_ (
-          13,
-          Rows.mleft (Referent.rtF (Referent.fInt
-              Syntax.w64)) (Syntax.tyRef Syntax.erased Syntax.mut (Syntax.tyInt Syntax.w64)),
+          Rows.mref-owed (Referent.rtF (Referent.fInt Syntax.w64)) (Syntax.tyRef (Syntax.named 6) Syntax.mut (Syntax.tyInt Syntax.w64)) 6 12 (Row.lease (κs .1
+              .1 .1 .1 .1 .1 .0) (qs .1 .1 .1 .1 .1 .1 .0)),
         ) (List._∷_ (
-          14,
-          Rows.mleft (Referent.rtF (Referent.fInt Syntax.w64)) (Syntax.tyRef
-              Syntax.erased Syntax.mut (Syntax.tyInt Syntax.w64)),
-        ) List.[]))))))))))))))
+          8,
+          Rows.any-gone (Syntax.tyEnum (List._∷_ 104 (List._∷_ 101 (List._∷_ 97 (List._∷_ 100 (List._∷_ 101 (List._∷_
+              114 (List._∷_ 58 (List._∷_ 58 (List._∷_ 112 (List._∷_ 97 (List._∷_ 114 (List._∷_ 115 (List._∷_ 101 (List._∷_ 58 (List._∷_ 58 (List._∷_ 77 (List._∷_ 97 (List._∷_ 105
+              (List._∷_ 110 (List._∷_ 72 (List._∷_ 101 (List._∷_ 97 (List._∷_ 100 (List._∷_ 101 (List._∷_ 114 List.[]))))))))))))))))))))))))) (Syntax.ttcons (Syntax.tcons
+              (Syntax.tyStruct (List._∷_ 104 (List._∷_ 101 (List._∷_ 97 (List._∷_ 100 (List._∷_ 101 (List._∷_ 114 (List._∷_ 58 (List._∷_ 58 (List._∷_ 112 (List._∷_ 97 (List._∷_ 114
+              (List._∷_ 115 (List._∷_ 101 (List._∷_ 58 (List._∷_ 58 (List._∷_ 77 (List._∷_ 97 (List._∷_ 105 (List._∷_ 110 (List._∷_ 72 (List._∷_ 101 (List._∷_ 97 (List._∷_ 100
+              (List._∷_ 101 (List._∷_ 114 (List._∷_ 73 (List._∷_ 110 (List._∷_ 102 (List._∷_ 111 List.[]))))))))))))))))))))))))))))) (Syntax.tcons (Syntax.tyStruct (List._∷_ 116
+              (List._∷_ 121 (List._∷_ 112 (List._∷_ 101 (List._∷_ 115 (List._∷_ 58 (List._∷_ 58 (List._∷_ 67 (List._∷_ 111 (List._∷_ 100 (List._∷_ 101 (List._∷_ 115 (List._∷_ 116
+              (List._∷_ 114 (List._∷_ 101 (List._∷_ 97 (List._∷_ 109 (List._∷_ 79 (List._∷_ 102 (List._∷_ 102 (List._∷_ 115 (List._∷_ 101 (List._∷_ 116 List.[])))))))))))))))))))))))
+              (Syntax.tcons (Syntax.tyInt Syntax.w64) Syntax.tnil)) (Syntax.tcons (Syntax.tyInt Syntax.w64) (Syntax.tcons (Syntax.tyInt Syntax.w64) (Syntax.tcons (Syntax.tyInt
+              Syntax.w64) Syntax.tnil))))) Syntax.tnil) (Syntax.ttcons (Syntax.tcons (Syntax.tyStruct (List._∷_ 116 (List._∷_ 121 (List._∷_ 112 (List._∷_ 101 (List._∷_ 115 (List._∷_
+              58 (List._∷_ 58 (List._∷_ 82 (List._∷_ 101 (List._∷_ 102 (List._∷_ 117 (List._∷_ 115 (List._∷_ 97 (List._∷_ 108 List.[])))))))))))))) (Syntax.tcons (Syntax.tyInt
+              Syntax.w32) (Syntax.tcons (Syntax.tyInt Syntax.w64) Syntax.tnil))) Syntax.tnil) Syntax.ttnil))),
+        ) (List._∷_ (
+          9,
+          Rows.any-gone (Syntax.tyRef Syntax.erased Syntax.mut
+              LentTilePartEntry.pointee),
+        ) (List._∷_ (
+          10,
+          Rows.any-gone (Syntax.tyStruct (List._∷_ 38 (List._∷_ 91 (List._∷_ 93 List.[]))) (Syntax.tcons (Syntax.tyRef Syntax.erased
+              Syntax.mut LentTilePartEntry.pointee) (Syntax.tcons (Syntax.tyInt Syntax.w64) Syntax.tnil))),
+        ) (List._∷_ (
+          11,
+          Rows.any-gone (Syntax.tyRef Syntax.erased Syntax.mut
+              (Syntax.tyInt Syntax.w8)),
+        ) (List._∷_ (
+          12,
+          Rows.any-gone (Syntax.tyStruct (List._∷_ 38 (List._∷_ 91 (List._∷_ 93 List.[]))) (Syntax.tcons (Syntax.tyRef Syntax.erased
+              Syntax.mut (Syntax.tyInt Syntax.w8)) (Syntax.tcons (Syntax.tyInt Syntax.w64) Syntax.tnil))),
+        ) (List._∷_ (
+          13,
+          Rows.any-gone (Syntax.tyRef Syntax.erased Syntax.mut
+              (Syntax.tyInt Syntax.w64)),
+        ) (List._∷_ (14, Rows.mleft (Referent.rtF (Referent.fInt Syntax.w64)) (Syntax.tyRef Syntax.erased Syntax.mut (Syntax.tyInt Syntax.w64)))
+            (List._∷_ (15, Rows.mleft (Referent.rtF (Referent.fInt Syntax.w64)) (Syntax.tyRef Syntax.erased Syntax.mut (Syntax.tyInt Syntax.w64))) List.[])))))))))))))))
 
-        abbrev g15 : List.List Row.Entry
-        g15 = List._∷_ (0, Rows.sc-here (Row.sInt Syntax.w32)) (List._∷_ (
+        abbrev g19 : List.List Row.Entry
+        g19 = List._∷_ (0, Rows.sc-here (Row.sInt Syntax.w32)) (List._∷_ (
           1,
           Rows.sslice (Referent.rtF (Referent.fInt Syntax.w8)) (Syntax.tyRef (Syntax.named 0) Syntax.imm
               (Syntax.tyInt Syntax.w8)) 0,
@@ -1906,374 +2177,530 @@ module _ (claims· : Claims) where
         ) (List._∷_ (
           6,
           Rows.mref-owed (Referent.rtF (Referent.fInt Syntax.w64)) (Syntax.tyRef
-              (Syntax.named 5) Syntax.mut (Syntax.tyInt Syntax.w64)) 5 10 (Row.lease (κs .1 .1 .1 .1 .1 .0) (qs .1 .1 .1 .1 .1 .0)),
+              (Syntax.named 5) Syntax.mut (Syntax.tyInt Syntax.w64)) 5 11 (Row.lease (κs .1 .1 .1 .1 .1 .0) (qs .1 .1 .1 .1 .1 .0)),
         ) (List._∷_ (
           7,
-          Rows.any-gone (Syntax.tyEnum
-              (List._∷_ 104 (List._∷_ 101 (List._∷_ 97 (List._∷_ 100 (List._∷_ 101 (List._∷_ 114 (List._∷_ 58 (List._∷_ 58 (List._∷_ 112 (List._∷_ 97 (List._∷_ 114 (List._∷_ 115
-              (List._∷_ 101 (List._∷_ 58 (List._∷_ 58 (List._∷_ 77 (List._∷_ 97 (List._∷_ 105 (List._∷_ 110 (List._∷_ 72 (List._∷_ 101 (List._∷_ 97 (List._∷_ 100 (List._∷_ 101
-              (List._∷_ 114 List.[]))))))))))))))))))))))))) (Syntax.ttcons (Syntax.tcons (Syntax.tyStruct (List._∷_ 104 (List._∷_ 101 (List._∷_ 97 (List._∷_ 100 (List._∷_ 101
-              (List._∷_ 114 (List._∷_ 58 (List._∷_ 58 (List._∷_ 112 (List._∷_ 97 (List._∷_ 114 (List._∷_ 115 (List._∷_ 101 (List._∷_ 58 (List._∷_ 58 (List._∷_ 77 (List._∷_ 97
-              (List._∷_ 105 (List._∷_ 110 (List._∷_ 72 (List._∷_ 101 (List._∷_ 97 (List._∷_ 100 (List._∷_ 101 (List._∷_ 114 (List._∷_ 73 (List._∷_ 110 (List._∷_ 102 (List._∷_ 111
-              List.[]))))))))))))))))))))))))))))) (Syntax.tcons (Syntax.tyStruct (List._∷_ 116 (List._∷_ 121 (List._∷_ 112 (List._∷_ 101 (List._∷_ 115 (List._∷_ 58 (List._∷_ 58
-              (List._∷_ 67 (List._∷_ 111 (List._∷_ 100 (List._∷_ 101 (List._∷_ 115 (List._∷_ 116 (List._∷_ 114 (List._∷_ 101 (List._∷_ 97 (List._∷_ 109 (List._∷_ 79 (List._∷_ 102
-              (List._∷_ 102 (List._∷_ 115 (List._∷_ 101 (List._∷_ 116 List.[]))))))))))))))))))))))) (Syntax.tcons (Syntax.tyInt Syntax.w64) Syntax.tnil)) (Syntax.tcons (Syntax.tyInt
-              Syntax.w64) (Syntax.tcons (Syntax.tyInt Syntax.w64) Syntax.tnil)))) Syntax.tnil) (Syntax.ttcons (Syntax.tcons (Syntax.tyStruct (List._∷_ 116 (List._∷_ 121 (List._∷_ 112
-              (List._∷_ 101 (List._∷_ 115 (List._∷_ 58 (List._∷_ 58 (List._∷_ 82 (List._∷_ 101 (List._∷_ 102 (List._∷_ 117 (List._∷_ 115 (List._∷_ 97 (List._∷_ 108
-              List.[])))))))))))))) (Syntax.tcons (Syntax.tyInt Syntax.w32) (Syntax.tcons (Syntax.tyInt Syntax.w64) Syntax.tnil))) Syntax.tnil) Syntax.ttnil))),
+          Rows.mref-owed (Referent.rtF
+              (Referent.fInt Syntax.w64)) (Syntax.tyRef (Syntax.named 6) Syntax.mut (Syntax.tyInt Syntax.w64)) 6 12 (Row.lease (κs .1 .1 .1 .1 .1 .1 .0) (qs .1 .1 .1 .1 .1 .1 .0)),
+        )
+            (List._∷_ (
+              8,
+              Rows.any-gone (Syntax.tyEnum (List._∷_ 104 (List._∷_ 101 (List._∷_ 97 (List._∷_ 100 (List._∷_ 101 (List._∷_ 114 (List._∷_ 58 (List._∷_ 58 (List._∷_ 112
+                  (List._∷_ 97 (List._∷_ 114 (List._∷_ 115 (List._∷_ 101 (List._∷_ 58 (List._∷_ 58 (List._∷_ 77 (List._∷_ 97 (List._∷_ 105 (List._∷_ 110 (List._∷_ 72 (List._∷_ 101
+                  (List._∷_ 97 (List._∷_ 100 (List._∷_ 101 (List._∷_ 114 List.[]))))))))))))))))))))))))) (Syntax.ttcons (Syntax.tcons (Syntax.tyStruct (List._∷_ 104 (List._∷_ 101
+                  (List._∷_ 97 (List._∷_ 100 (List._∷_ 101 (List._∷_ 114 (List._∷_ 58 (List._∷_ 58 (List._∷_ 112 (List._∷_ 97 (List._∷_ 114 (List._∷_ 115 (List._∷_ 101 (List._∷_ 58
+                  (List._∷_ 58 (List._∷_ 77 (List._∷_ 97 (List._∷_ 105 (List._∷_ 110 (List._∷_ 72 (List._∷_ 101 (List._∷_ 97 (List._∷_ 100 (List._∷_ 101 (List._∷_ 114 (List._∷_ 73
+                  (List._∷_ 110 (List._∷_ 102 (List._∷_ 111 List.[]))))))))))))))))))))))))))))) (Syntax.tcons (Syntax.tyStruct (List._∷_ 116 (List._∷_ 121 (List._∷_ 112 (List._∷_ 101
+                  (List._∷_ 115 (List._∷_ 58 (List._∷_ 58 (List._∷_ 67 (List._∷_ 111 (List._∷_ 100 (List._∷_ 101 (List._∷_ 115 (List._∷_ 116 (List._∷_ 114 (List._∷_ 101 (List._∷_ 97
+                  (List._∷_ 109 (List._∷_ 79 (List._∷_ 102 (List._∷_ 102 (List._∷_ 115 (List._∷_ 101 (List._∷_ 116 List.[]))))))))))))))))))))))) (Syntax.tcons (Syntax.tyInt Syntax.w64)
+                  Syntax.tnil)) (Syntax.tcons (Syntax.tyInt Syntax.w64) (Syntax.tcons (Syntax.tyInt Syntax.w64) (Syntax.tcons (Syntax.tyInt Syntax.w64) Syntax.tnil))))) Syntax.tnil)
+                  (Syntax.ttcons (Syntax.tcons (Syntax.tyStruct (List._∷_ 116 (List._∷_ 121 (List._∷_ 112 (List._∷_ 101 (List._∷_ 115 (List._∷_ 58 (List._∷_ 58 (List._∷_ 82 (List._∷_ 101
+                  (List._∷_ 102 (List._∷_ 117 (List._∷_ 115 (List._∷_ 97 (List._∷_ 108 List.[])))))))))))))) (Syntax.tcons (Syntax.tyInt Syntax.w32) (Syntax.tcons (Syntax.tyInt
+                  Syntax.w64) Syntax.tnil))) Syntax.tnil) Syntax.ttnil))),
+            ) (List._∷_ (9, Rows.any-gone (Syntax.tyRef Syntax.erased Syntax.mut LentTilePartEntry.pointee)) (List._∷_ (
+              10,
+              Rows.any-gone (Syntax.tyStruct (List._∷_ 38 (List._∷_ 91 (List._∷_ 93 List.[]))) (Syntax.tcons (Syntax.tyRef Syntax.erased Syntax.mut LentTilePartEntry.pointee)
+                  (Syntax.tcons (Syntax.tyInt Syntax.w64) Syntax.tnil))),
+            ) (List._∷_ (11, Rows.any-gone (Syntax.tyRef Syntax.erased Syntax.mut (Syntax.tyInt Syntax.w8))) (List._∷_ (
+              12,
+              Rows.any-gone (Syntax.tyStruct (List._∷_ 38 (List._∷_ 91 (List._∷_ 93 List.[]))) (Syntax.tcons (Syntax.tyRef Syntax.erased Syntax.mut (Syntax.tyInt Syntax.w8))
+                  (Syntax.tcons (Syntax.tyInt Syntax.w64) Syntax.tnil))),
+            ) (List._∷_ (13, Rows.any-gone (Syntax.tyRef Syntax.erased Syntax.mut (Syntax.tyInt Syntax.w64))) (List._∷_ (
+              14,
+              Rows.any-gone (Syntax.tyRef Syntax.erased Syntax.mut (Syntax.tyInt Syntax.w64)),
+            ) (List._∷_ (
+              15,
+              Rows.mleft (Referent.rtF (Referent.fInt Syntax.w64)) (Syntax.tyRef
+                  Syntax.erased Syntax.mut (Syntax.tyInt Syntax.w64)),
+            ) List.[])))))))))))))))
+
+        abbrev g20 : List.List Row.Entry
+        g20 = List._∷_ (0, Rows.sc-here (Row.sInt Syntax.w32)) (List._∷_ (
+          1,
+          Rows.sslice (Referent.rtF (Referent.fInt Syntax.w8)) (Syntax.tyRef (Syntax.named 0) Syntax.imm
+              (Syntax.tyInt Syntax.w8)) 0,
+        ) (List._∷_ (2, Mut.mslice LentTilePartEntry.row (Syntax.tyRef (Syntax.named 1) Syntax.mut LentTilePartEntry.pointee) 1) (List._∷_ (
+          3,
+          Mut.mslice (Referent.rtF (Referent.fInt Syntax.w8)) (Syntax.tyRef (Syntax.named 2) Syntax.mut (Syntax.tyInt Syntax.w8)) 2,
+        ) (List._∷_ (
+          4,
+          Rows.mref (Referent.rtF
+              (Referent.fInt Syntax.w64)) (Syntax.tyRef (Syntax.named 3) Syntax.mut (Syntax.tyInt Syntax.w64)) 3,
+        ) (List._∷_ (
+          5,
+          Rows.mref (Referent.rtF (Referent.fInt Syntax.w64))
+              (Syntax.tyRef (Syntax.named 4) Syntax.mut (Syntax.tyInt Syntax.w64)) 4,
+        ) (List._∷_ (
+          6,
+          Rows.mref (Referent.rtF (Referent.fInt Syntax.w64)) (Syntax.tyRef (Syntax.named 5)
+              Syntax.mut (Syntax.tyInt Syntax.w64)) 5,
+        ) (List._∷_ (
+          7,
+          Rows.mref-owed (Referent.rtF (Referent.fInt Syntax.w64)) (Syntax.tyRef (Syntax.named 6) Syntax.mut (Syntax.tyInt
+              Syntax.w64)) 6 12 (Row.lease (κs .1 .1 .1 .1 .1 .1 .0) (qs .1 .1 .1 .1 .1 .1 .0)),
         ) (List._∷_ (
           8,
-          Rows.any-gone (Syntax.tyRef Syntax.erased Syntax.mut LentTilePartEntry.pointee),
+          Rows.any-gone (Syntax.tyEnum (List._∷_ 104 (List._∷_ 101 (List._∷_ 97
+              (List._∷_ 100 (List._∷_ 101 (List._∷_ 114 (List._∷_ 58 (List._∷_ 58 (List._∷_ 112 (List._∷_ 97 (List._∷_ 114 (List._∷_ 115 (List._∷_ 101 (List._∷_ 58 (List._∷_ 58
+              (List._∷_ 77 (List._∷_ 97 (List._∷_ 105 (List._∷_ 110 (List._∷_ 72 (List._∷_ 101 (List._∷_ 97 (List._∷_ 100 (List._∷_ 101 (List._∷_ 114 List.[])))))))))))))))))))))))))
+              (Syntax.ttcons (Syntax.tcons (Syntax.tyStruct (List._∷_ 104 (List._∷_ 101 (List._∷_ 97 (List._∷_ 100 (List._∷_ 101 (List._∷_ 114 (List._∷_ 58 (List._∷_ 58 (List._∷_ 112
+              (List._∷_ 97 (List._∷_ 114 (List._∷_ 115 (List._∷_ 101 (List._∷_ 58 (List._∷_ 58 (List._∷_ 77 (List._∷_ 97 (List._∷_ 105 (List._∷_ 110 (List._∷_ 72 (List._∷_ 101
+              (List._∷_ 97 (List._∷_ 100 (List._∷_ 101 (List._∷_ 114 (List._∷_ 73 (List._∷_ 110 (List._∷_ 102 (List._∷_ 111 List.[]))))))))))))))))))))))))))))) (Syntax.tcons
+              (Syntax.tyStruct (List._∷_ 116 (List._∷_ 121 (List._∷_ 112 (List._∷_ 101 (List._∷_ 115 (List._∷_ 58 (List._∷_ 58 (List._∷_ 67 (List._∷_ 111 (List._∷_ 100 (List._∷_ 101
+              (List._∷_ 115 (List._∷_ 116 (List._∷_ 114 (List._∷_ 101 (List._∷_ 97 (List._∷_ 109 (List._∷_ 79 (List._∷_ 102 (List._∷_ 102 (List._∷_ 115 (List._∷_ 101 (List._∷_ 116
+              List.[]))))))))))))))))))))))) (Syntax.tcons (Syntax.tyInt Syntax.w64) Syntax.tnil)) (Syntax.tcons (Syntax.tyInt Syntax.w64) (Syntax.tcons (Syntax.tyInt Syntax.w64)
+              (Syntax.tcons (Syntax.tyInt Syntax.w64) Syntax.tnil))))) Syntax.tnil) (Syntax.ttcons (Syntax.tcons (Syntax.tyStruct (List._∷_ 116 (List._∷_ 121 (List._∷_ 112 (List._∷_
+              101 (List._∷_ 115 (List._∷_ 58 (List._∷_ 58 (List._∷_ 82 (List._∷_ 101 (List._∷_ 102 (List._∷_ 117 (List._∷_ 115 (List._∷_ 97 (List._∷_ 108 List.[]))))))))))))))
+              (Syntax.tcons (Syntax.tyInt Syntax.w32) (Syntax.tcons (Syntax.tyInt Syntax.w64) Syntax.tnil))) Syntax.tnil) Syntax.ttnil))),
         ) (List._∷_ (
           9,
-          Rows.any-gone (Syntax.tyStruct (List._∷_ 38 (List._∷_ 91 (List._∷_ 93
-              List.[]))) (Syntax.tcons (Syntax.tyRef Syntax.erased Syntax.mut LentTilePartEntry.pointee) (Syntax.tcons (Syntax.tyInt Syntax.w64) Syntax.tnil))),
+          Rows.any-gone (Syntax.tyRef
+              Syntax.erased Syntax.mut LentTilePartEntry.pointee),
         ) (List._∷_ (
           10,
-          Rows.any-gone (Syntax.tyRef Syntax.erased Syntax.mut (Syntax.tyInt Syntax.w8)),
+          Rows.any-gone (Syntax.tyStruct (List._∷_ 38 (List._∷_ 91 (List._∷_ 93 List.[]))) (Syntax.tcons
+              (Syntax.tyRef Syntax.erased Syntax.mut LentTilePartEntry.pointee) (Syntax.tcons (Syntax.tyInt Syntax.w64) Syntax.tnil))),
         ) (List._∷_ (
           11,
-          Rows.any-gone (Syntax.tyStruct (List._∷_ 38 (List._∷_ 91 (List._∷_ 93
-              List.[]))) (Syntax.tcons (Syntax.tyRef Syntax.erased Syntax.mut (Syntax.tyInt Syntax.w8)) (Syntax.tcons (Syntax.tyInt Syntax.w64) Syntax.tnil))),
+          Rows.any-gone (Syntax.tyRef
+              Syntax.erased Syntax.mut (Syntax.tyInt Syntax.w8)),
         ) (List._∷_ (
           12,
-          Rows.any-gone (Syntax.tyRef Syntax.erased Syntax.mut (Syntax.tyInt Syntax.w64)),
+          Rows.any-gone (Syntax.tyStruct (List._∷_ 38 (List._∷_ 91 (List._∷_ 93 List.[]))) (Syntax.tcons
+              (Syntax.tyRef Syntax.erased Syntax.mut (Syntax.tyInt Syntax.w8)) (Syntax.tcons (Syntax.tyInt Syntax.w64) Syntax.tnil))),
         ) (List._∷_ (
           13,
-          Rows.any-gone (Syntax.tyRef Syntax.erased Syntax.mut (Syntax.tyInt
-              Syntax.w64)),
-        ) (List._∷_ (14, Rows.mleft (Referent.rtF (Referent.fInt Syntax.w64)) (Syntax.tyRef Syntax.erased Syntax.mut (Syntax.tyInt Syntax.w64)))
-            List.[]))))))))))))))
+          Rows.any-gone (Syntax.tyRef
+              Syntax.erased Syntax.mut (Syntax.tyInt Syntax.w64)),
+        ) (List._∷_ (14, Rows.any-gone (Syntax.tyRef Syntax.erased Syntax.mut (Syntax.tyInt Syntax.w64))) (List._∷_ (
+          15,
+          Rows.any-gone (Syntax.tyRef Syntax.erased Syntax.mut (Syntax.tyInt Syntax.w64)),
+        ) List.[])))))))))))))))
 
         abbrev G0 : Row.Cx
         G0 = record {
-          locals = t0;
-          slots = List._∷_ (Row.lease (κs .0) (qs .0)) (List._∷_ (Row.lease (κs .1 .0) (qs .1 .0)) (List._∷_ (Row.lease (κs .1 .1 .0) (qs .1 .1 .0))
-              (List._∷_ (Row.lease (κs .1 .1 .1 .0) (qs .1 .1 .1 .0)) (List._∷_ (Row.lease (κs .1 .1 .1 .1 .0) (qs .1 .1 .1 .1 .0)) (List._∷_ (Row.lease (κs .1 .1 .1 .1 .1 .0) (qs .1
-              .1 .1 .1 .1 .0)) (List._∷_ Row.off (List._∷_ Row.off (List._∷_ Row.off (List._∷_ Row.off (List._∷_ Row.off List.[]))))))))));
+          locals = List._++_ t0 t1;
+          slots = List._∷_ (Row.lease (κs .0) (qs .0)) (List._∷_ (Row.lease (κs .1 .0) (qs .1 .0)) (List._∷_ (Row.lease (κs .1 .1 .0) (qs .1
+              .1 .0)) (List._∷_ (Row.lease (κs .1 .1 .1 .0) (qs .1 .1 .1 .0)) (List._∷_ (Row.lease (κs .1 .1 .1 .1 .0) (qs .1 .1 .1 .1 .0)) (List._∷_ (Row.lease (κs .1 .1 .1 .1 .1
+              .0) (qs .1 .1 .1 .1 .1 .0)) (List._∷_ (Row.lease (κs .1 .1 .1 .1 .1 .1 .0) (qs .1 .1 .1 .1 .1 .1 .0)) (List._∷_ Row.off (List._∷_ Row.off (List._∷_ Row.off (List._∷_
+              Row.off (List._∷_ Row.off (List._∷_ Row.off List.[]))))))))))));
         }
 
         abbrev G1 : Row.Cx
         G1 = record {
-          locals = t1;
-          slots = List._∷_ (Row.lease (κs .0) (qs .0)) (List._∷_ (Row.lease (κs .1 .0) (qs .1 .0)) (List._∷_ (Row.lease (κs .1 .1 .0) (qs .1 .1 .0))
-              (List._∷_ (Row.lease (κs .1 .1 .1 .0) (qs .1 .1 .1 .0)) (List._∷_ (Row.lease (κs .1 .1 .1 .1 .0) (qs .1 .1 .1 .1 .0)) (List._∷_ (Row.lease (κs .1 .1 .1 .1 .1 .0) (qs .1
-              .1 .1 .1 .1 .0)) (List._∷_ Row.off (List._∷_ Row.off (List._∷_ Row.off (List._∷_ Row.off (List._∷_ Row.off List.[]))))))))));
+          locals = List._++_ t2 t1;
+          slots = List._∷_ (Row.lease (κs .0) (qs .0)) (List._∷_ (Row.lease (κs .1 .0) (qs .1 .0)) (List._∷_ (Row.lease (κs .1 .1 .0) (qs .1
+              .1 .0)) (List._∷_ (Row.lease (κs .1 .1 .1 .0) (qs .1 .1 .1 .0)) (List._∷_ (Row.lease (κs .1 .1 .1 .1 .0) (qs .1 .1 .1 .1 .0)) (List._∷_ (Row.lease (κs .1 .1 .1 .1 .1
+              .0) (qs .1 .1 .1 .1 .1 .0)) (List._∷_ (Row.lease (κs .1 .1 .1 .1 .1 .1 .0) (qs .1 .1 .1 .1 .1 .1 .0)) (List._∷_ Row.off (List._∷_ Row.off (List._∷_ Row.off (List._∷_
+              Row.off (List._∷_ Row.off (List._∷_ Row.off List.[]))))))))))));
         }
 
         abbrev G2 : Row.Cx
         G2 = record {
-          locals = t0;
-          slots = List._∷_ (Row.lease (κs .0) (qs .0)) (List._∷_ (Row.lease (κs .1 .0) (qs .1 .0)) (List._∷_ (Row.lease (κs .1 .1 .0) (qs .1 .1 .0))
-              (List._∷_ (Row.lease (κs .1 .1 .1 .0) (qs .1 .1 .1 .0)) (List._∷_ (Row.lease (κs .1 .1 .1 .1 .0) (qs .1 .1 .1 .1 .0)) (List._∷_ (Row.lease (κs .1 .1 .1 .1 .1 .0) (qs .1
-              .1 .1 .1 .1 .0)) (List._∷_ Row.off (List._∷_ Row.off (List._∷_ Row.off (List._∷_ Row.off (List._∷_ Row.off List.[]))))))))));
+          locals = List._++_ t0 t1;
+          slots = List._∷_ (Row.lease (κs .0) (qs .0)) (List._∷_ (Row.lease (κs .1 .0) (qs .1 .0)) (List._∷_ (Row.lease (κs .1 .1 .0) (qs .1
+              .1 .0)) (List._∷_ (Row.lease (κs .1 .1 .1 .0) (qs .1 .1 .1 .0)) (List._∷_ (Row.lease (κs .1 .1 .1 .1 .0) (qs .1 .1 .1 .1 .0)) (List._∷_ (Row.lease (κs .1 .1 .1 .1 .1
+              .0) (qs .1 .1 .1 .1 .1 .0)) (List._∷_ (Row.lease (κs .1 .1 .1 .1 .1 .1 .0) (qs .1 .1 .1 .1 .1 .1 .0)) (List._∷_ Row.off (List._∷_ Row.off (List._∷_ Row.off (List._∷_
+              Row.off (List._∷_ Row.off (List._∷_ Row.off List.[]))))))))))));
         }
 
         abbrev G3 : Row.Cx
         G3 = record {
-          locals = t0;
-          slots = List._∷_ (Row.lease (κs .0) (qs .0)) (List._∷_ (Row.lease (κs .1 .0) (qs .1 .0)) (List._∷_ (Row.lease (κs .1 .1 .0) (qs .1 .1 .0))
-              (List._∷_ (Row.lease (κs .1 .1 .1 .0) (qs .1 .1 .1 .0)) (List._∷_ (Row.lease (κs .1 .1 .1 .1 .0) (qs .1 .1 .1 .1 .0)) (List._∷_ (Row.lease (κs .1 .1 .1 .1 .1 .0) (qs .1
-              .1 .1 .1 .1 .0)) (List._∷_ Row.off (List._∷_ Row.off (List._∷_ Row.off (List._∷_ Row.off (List._∷_ Row.off List.[]))))))))));
+          locals = List._++_ t0 t1;
+          slots = List._∷_ (Row.lease (κs .0) (qs .0)) (List._∷_ (Row.lease (κs .1 .0) (qs .1 .0)) (List._∷_ (Row.lease (κs .1 .1 .0) (qs .1
+              .1 .0)) (List._∷_ (Row.lease (κs .1 .1 .1 .0) (qs .1 .1 .1 .0)) (List._∷_ (Row.lease (κs .1 .1 .1 .1 .0) (qs .1 .1 .1 .1 .0)) (List._∷_ (Row.lease (κs .1 .1 .1 .1 .1
+              .0) (qs .1 .1 .1 .1 .1 .0)) (List._∷_ (Row.lease (κs .1 .1 .1 .1 .1 .1 .0) (qs .1 .1 .1 .1 .1 .1 .0)) (List._∷_ Row.off (List._∷_ Row.off (List._∷_ Row.off (List._∷_
+              Row.off (List._∷_ Row.off (List._∷_ Row.off List.[]))))))))))));
         }
 
         abbrev G4 : Row.Cx
         G4 = record {
-          locals = t0;
-          slots = List._∷_ (Row.lease (κs .0) (qs .0)) (List._∷_ (Row.lease (κs .1 .0) (qs .1 .0)) (List._∷_ (Row.lease (κs .1 .1 .0) (qs .1 .1 .0))
-              (List._∷_ (Row.lease (κs .1 .1 .1 .0) (qs .1 .1 .1 .0)) (List._∷_ (Row.lease (κs .1 .1 .1 .1 .0) (qs .1 .1 .1 .1 .0)) (List._∷_ (Row.lease (κs .1 .1 .1 .1 .1 .0) (qs .1
-              .1 .1 .1 .1 .0)) (List._∷_ Row.alive (List._∷_ Row.off (List._∷_ Row.off (List._∷_ Row.off (List._∷_ Row.off List.[]))))))))));
+          locals = List._++_ t0 t1;
+          slots = List._∷_ (Row.lease (κs .0) (qs .0)) (List._∷_ (Row.lease (κs .1 .0) (qs .1 .0)) (List._∷_ (Row.lease (κs .1 .1 .0) (qs .1
+              .1 .0)) (List._∷_ (Row.lease (κs .1 .1 .1 .0) (qs .1 .1 .1 .0)) (List._∷_ (Row.lease (κs .1 .1 .1 .1 .0) (qs .1 .1 .1 .1 .0)) (List._∷_ (Row.lease (κs .1 .1 .1 .1 .1
+              .0) (qs .1 .1 .1 .1 .1 .0)) (List._∷_ (Row.lease (κs .1 .1 .1 .1 .1 .1 .0) (qs .1 .1 .1 .1 .1 .1 .0)) (List._∷_ Row.alive (List._∷_ Row.off (List._∷_ Row.off (List._∷_
+              Row.off (List._∷_ Row.off (List._∷_ Row.off List.[]))))))))))));
         }
 
         abbrev G5 : Row.Cx
         G5 = record {
-          locals = g2;
-          slots = List._∷_ (Row.lease (κs .0) (qs .0)) (List._∷_ Row.off (List._∷_ (Row.lease (κs .1 .1 .0) (qs .1 .1 .0)) (List._∷_ (Row.lease (κs .1 .1
-              .1 .0) (qs .1 .1 .1 .0)) (List._∷_ (Row.lease (κs .1 .1 .1 .1 .0) (qs .1 .1 .1 .1 .0)) (List._∷_ (Row.lease (κs .1 .1 .1 .1 .1 .0) (qs .1 .1 .1 .1 .1 .0)) (List._∷_
-              Row.alive (List._∷_ Row.off (List._∷_ Row.off (List._∷_ Row.off (List._∷_ Row.off List.[]))))))))));
+          locals = List._++_ g3 t1;
+          slots = List._∷_ (Row.lease (κs .0) (qs .0)) (List._∷_ Row.off (List._∷_ (Row.lease (κs .1 .1 .0) (qs .1 .1 .0)) (List._∷_
+              (Row.lease (κs .1 .1 .1 .0) (qs .1 .1 .1 .0)) (List._∷_ (Row.lease (κs .1 .1 .1 .1 .0) (qs .1 .1 .1 .1 .0)) (List._∷_ (Row.lease (κs .1 .1 .1 .1 .1 .0) (qs .1 .1 .1 .1
+              .1 .0)) (List._∷_ (Row.lease (κs .1 .1 .1 .1 .1 .1 .0) (qs .1 .1 .1 .1 .1 .1 .0)) (List._∷_ Row.alive (List._∷_ Row.off (List._∷_ Row.off (List._∷_ Row.off (List._∷_
+              Row.off (List._∷_ Row.off List.[]))))))))))));
         }
 
         abbrev G6 : Row.Cx
         G6 = record {
-          locals = g3;
-          slots = List._∷_ (Row.lease (κs .0) (qs .0)) (List._∷_ Row.off (List._∷_ (Row.lease (κs .1 .1 .0) (qs .1 .1 .0)) (List._∷_ (Row.lease (κs .1 .1
-              .1 .0) (qs .1 .1 .1 .0)) (List._∷_ (Row.lease (κs .1 .1 .1 .1 .0) (qs .1 .1 .1 .1 .0)) (List._∷_ (Row.lease (κs .1 .1 .1 .1 .1 .0) (qs .1 .1 .1 .1 .1 .0)) (List._∷_
-              Row.alive (List._∷_ Row.off (List._∷_ Row.off (List._∷_ Row.off (List._∷_ Row.off List.[]))))))))));
+          locals = List._++_ g4 t1;
+          slots = List._∷_ (Row.lease (κs .0) (qs .0)) (List._∷_ Row.off (List._∷_ (Row.lease (κs .1 .1 .0) (qs .1 .1 .0)) (List._∷_
+              (Row.lease (κs .1 .1 .1 .0) (qs .1 .1 .1 .0)) (List._∷_ (Row.lease (κs .1 .1 .1 .1 .0) (qs .1 .1 .1 .1 .0)) (List._∷_ (Row.lease (κs .1 .1 .1 .1 .1 .0) (qs .1 .1 .1 .1
+              .1 .0)) (List._∷_ (Row.lease (κs .1 .1 .1 .1 .1 .1 .0) (qs .1 .1 .1 .1 .1 .1 .0)) (List._∷_ Row.alive (List._∷_ Row.off (List._∷_ Row.off (List._∷_ Row.off (List._∷_
+              Row.off (List._∷_ Row.off List.[]))))))))))));
         }
 
         abbrev G7 : Row.Cx
         G7 = record {
-          locals = g3;
-          slots = List._∷_ (Row.lease (κs .0) (qs .0)) (List._∷_ Row.off (List._∷_ (Row.lease (κs .1 .1 .0) (qs .1 .1 .0)) (List._∷_ (Row.lease (κs .1 .1
-              .1 .0) (qs .1 .1 .1 .0)) (List._∷_ (Row.lease (κs .1 .1 .1 .1 .0) (qs .1 .1 .1 .1 .0)) (List._∷_ (Row.lease (κs .1 .1 .1 .1 .1 .0) (qs .1 .1 .1 .1 .1 .0)) (List._∷_
-              Row.alive (List._∷_ Row.alive (List._∷_ Row.off (List._∷_ Row.off (List._∷_ Row.off List.[]))))))))));
+          locals = List._++_ g4 t1;
+          slots = List._∷_ (Row.lease (κs .0) (qs .0)) (List._∷_ Row.off (List._∷_ (Row.lease (κs .1 .1 .0) (qs .1 .1 .0)) (List._∷_
+              (Row.lease (κs .1 .1 .1 .0) (qs .1 .1 .1 .0)) (List._∷_ (Row.lease (κs .1 .1 .1 .1 .0) (qs .1 .1 .1 .1 .0)) (List._∷_ (Row.lease (κs .1 .1 .1 .1 .1 .0) (qs .1 .1 .1 .1
+              .1 .0)) (List._∷_ (Row.lease (κs .1 .1 .1 .1 .1 .1 .0) (qs .1 .1 .1 .1 .1 .1 .0)) (List._∷_ Row.alive (List._∷_ Row.alive (List._∷_ Row.off (List._∷_ Row.off (List._∷_
+              Row.off (List._∷_ Row.off List.[]))))))))))));
         }
 
         abbrev G8 : Row.Cx
         G8 = record {
-          locals = g4;
-          slots = List._∷_ (Row.lease (κs .0) (qs .0)) (List._∷_ Row.off (List._∷_ Row.off (List._∷_ (Row.lease (κs .1 .1 .1 .0) (qs .1 .1 .1 .0))
-              (List._∷_ (Row.lease (κs .1 .1 .1 .1 .0) (qs .1 .1 .1 .1 .0)) (List._∷_ (Row.lease (κs .1 .1 .1 .1 .1 .0) (qs .1 .1 .1 .1 .1 .0)) (List._∷_ Row.alive (List._∷_
-              Row.alive (List._∷_ Row.off (List._∷_ Row.off (List._∷_ Row.off List.[]))))))))));
+          locals = List._++_ g5 t1;
+          slots = List._∷_ (Row.lease (κs .0) (qs .0)) (List._∷_ Row.off (List._∷_ Row.off (List._∷_ (Row.lease (κs .1 .1 .1 .0) (qs .1 .1 .1
+              .0)) (List._∷_ (Row.lease (κs .1 .1 .1 .1 .0) (qs .1 .1 .1 .1 .0)) (List._∷_ (Row.lease (κs .1 .1 .1 .1 .1 .0) (qs .1 .1 .1 .1 .1 .0)) (List._∷_ (Row.lease (κs .1 .1 .1
+              .1 .1 .1 .0) (qs .1 .1 .1 .1 .1 .1 .0)) (List._∷_ Row.alive (List._∷_ Row.alive (List._∷_ Row.off (List._∷_ Row.off (List._∷_ Row.off (List._∷_ Row.off
+              List.[]))))))))))));
         }
 
         abbrev G9 : Row.Cx
         G9 = record {
-          locals = g5;
-          slots = List._∷_ (Row.lease (κs .0) (qs .0)) (List._∷_ Row.off (List._∷_ Row.off (List._∷_ (Row.lease (κs .1 .1 .1 .0) (qs .1 .1 .1 .0))
-              (List._∷_ (Row.lease (κs .1 .1 .1 .1 .0) (qs .1 .1 .1 .1 .0)) (List._∷_ (Row.lease (κs .1 .1 .1 .1 .1 .0) (qs .1 .1 .1 .1 .1 .0)) (List._∷_ Row.alive (List._∷_
-              Row.alive (List._∷_ Row.off (List._∷_ Row.off (List._∷_ Row.off List.[]))))))))));
+          locals = List._++_ g6 t1;
+          slots = List._∷_ (Row.lease (κs .0) (qs .0)) (List._∷_ Row.off (List._∷_ Row.off (List._∷_ (Row.lease (κs .1 .1 .1 .0) (qs .1 .1 .1
+              .0)) (List._∷_ (Row.lease (κs .1 .1 .1 .1 .0) (qs .1 .1 .1 .1 .0)) (List._∷_ (Row.lease (κs .1 .1 .1 .1 .1 .0) (qs .1 .1 .1 .1 .1 .0)) (List._∷_ (Row.lease (κs .1 .1 .1
+              .1 .1 .1 .0) (qs .1 .1 .1 .1 .1 .1 .0)) (List._∷_ Row.alive (List._∷_ Row.alive (List._∷_ Row.off (List._∷_ Row.off (List._∷_ Row.off (List._∷_ Row.off
+              List.[]))))))))))));
         }
 
         abbrev G10 : Row.Cx
         G10 = record {
-          locals = g6;
-          slots = List._∷_ (Row.lease (κs .0) (qs .0)) (List._∷_ Row.off (List._∷_ Row.off (List._∷_ (Row.lease (κs .1 .1 .1 .0) (qs .1 .1 .1 .0))
-              (List._∷_ (Row.lease (κs .1 .1 .1 .1 .0) (qs .1 .1 .1 .1 .0)) (List._∷_ (Row.lease (κs .1 .1 .1 .1 .1 .0) (qs .1 .1 .1 .1 .1 .0)) (List._∷_ Row.alive (List._∷_
-              Row.alive (List._∷_ Row.off (List._∷_ Row.off (List._∷_ Row.off List.[]))))))))));
+          locals = List._++_ g7 t1;
+          slots = List._∷_ (Row.lease (κs .0) (qs .0)) (List._∷_ Row.off (List._∷_ Row.off (List._∷_ (Row.lease (κs .1 .1 .1 .0) (qs .1 .1 .1
+              .0)) (List._∷_ (Row.lease (κs .1 .1 .1 .1 .0) (qs .1 .1 .1 .1 .0)) (List._∷_ (Row.lease (κs .1 .1 .1 .1 .1 .0) (qs .1 .1 .1 .1 .1 .0)) (List._∷_ (Row.lease (κs .1 .1 .1
+              .1 .1 .1 .0) (qs .1 .1 .1 .1 .1 .1 .0)) (List._∷_ Row.alive (List._∷_ Row.alive (List._∷_ Row.off (List._∷_ Row.off (List._∷_ Row.off (List._∷_ Row.off
+              List.[]))))))))))));
         }
 
         abbrev G11 : Row.Cx
         G11 = record {
-          locals = g6;
-          slots = List._∷_ (Row.lease (κs .0) (qs .0)) (List._∷_ Row.off (List._∷_ Row.off (List._∷_ (Row.lease (κs .1 .1 .1 .0) (qs .1 .1 .1 .0))
-              (List._∷_ (Row.lease (κs .1 .1 .1 .1 .0) (qs .1 .1 .1 .1 .0)) (List._∷_ (Row.lease (κs .1 .1 .1 .1 .1 .0) (qs .1 .1 .1 .1 .1 .0)) (List._∷_ Row.dead (List._∷_ Row.alive
-              (List._∷_ Row.off (List._∷_ Row.off (List._∷_ Row.off List.[]))))))))));
+          locals = List._++_ g7 t1;
+          slots = List._∷_ (Row.lease (κs .0) (qs .0)) (List._∷_ Row.off (List._∷_ Row.off (List._∷_ (Row.lease (κs .1 .1 .1 .0) (qs .1 .1 .1
+              .0)) (List._∷_ (Row.lease (κs .1 .1 .1 .1 .0) (qs .1 .1 .1 .1 .0)) (List._∷_ (Row.lease (κs .1 .1 .1 .1 .1 .0) (qs .1 .1 .1 .1 .1 .0)) (List._∷_ (Row.lease (κs .1 .1 .1
+              .1 .1 .1 .0) (qs .1 .1 .1 .1 .1 .1 .0)) (List._∷_ Row.dead (List._∷_ Row.alive (List._∷_ Row.off (List._∷_ Row.off (List._∷_ Row.off (List._∷_ Row.off
+              List.[]))))))))))));
         }
 
         abbrev G12 : Row.Cx
         G12 = record {
-          locals = g7;
-          slots = List._∷_ (Row.lease (κs .0) (qs .0)) (List._∷_ (Row.lease (κs .1 .0) (qs .1 .0)) (List._∷_ Row.off (List._∷_ (Row.lease (κs .1 .1 .1 .0)
-              (qs .1 .1 .1 .0)) (List._∷_ (Row.lease (κs .1 .1 .1 .1 .0) (qs .1 .1 .1 .1 .0)) (List._∷_ (Row.lease (κs .1 .1 .1 .1 .1 .0) (qs .1 .1 .1 .1 .1 .0)) (List._∷_ Row.dead
-              (List._∷_ Row.alive (List._∷_ Row.off (List._∷_ Row.off (List._∷_ Row.off List.[]))))))))));
+          locals = List._++_ g8 t1;
+          slots = List._∷_ (Row.lease (κs .0) (qs .0)) (List._∷_ (Row.lease (κs .1 .0) (qs .1 .0)) (List._∷_ Row.off (List._∷_ (Row.lease (κs
+              .1 .1 .1 .0) (qs .1 .1 .1 .0)) (List._∷_ (Row.lease (κs .1 .1 .1 .1 .0) (qs .1 .1 .1 .1 .0)) (List._∷_ (Row.lease (κs .1 .1 .1 .1 .1 .0) (qs .1 .1 .1 .1 .1 .0))
+              (List._∷_ (Row.lease (κs .1 .1 .1 .1 .1 .1 .0) (qs .1 .1 .1 .1 .1 .1 .0)) (List._∷_ Row.dead (List._∷_ Row.alive (List._∷_ Row.off (List._∷_ Row.off (List._∷_ Row.off
+              (List._∷_ Row.off List.[]))))))))))));
         }
 
         abbrev G13 : Row.Cx
         G13 = record {
-          locals = g7;
-          slots = List._∷_ (Row.lease (κs .0) (qs .0)) (List._∷_ (Row.lease (κs .1 .0) (qs .1 .0)) (List._∷_ Row.off (List._∷_ (Row.lease (κs .1 .1 .1 .0)
-              (qs .1 .1 .1 .0)) (List._∷_ (Row.lease (κs .1 .1 .1 .1 .0) (qs .1 .1 .1 .1 .0)) (List._∷_ (Row.lease (κs .1 .1 .1 .1 .1 .0) (qs .1 .1 .1 .1 .1 .0)) (List._∷_ Row.off
-              (List._∷_ Row.alive (List._∷_ Row.off (List._∷_ Row.off (List._∷_ Row.off List.[]))))))))));
+          locals = List._++_ g8 t1;
+          slots = List._∷_ (Row.lease (κs .0) (qs .0)) (List._∷_ (Row.lease (κs .1 .0) (qs .1 .0)) (List._∷_ Row.off (List._∷_ (Row.lease (κs
+              .1 .1 .1 .0) (qs .1 .1 .1 .0)) (List._∷_ (Row.lease (κs .1 .1 .1 .1 .0) (qs .1 .1 .1 .1 .0)) (List._∷_ (Row.lease (κs .1 .1 .1 .1 .1 .0) (qs .1 .1 .1 .1 .1 .0))
+              (List._∷_ (Row.lease (κs .1 .1 .1 .1 .1 .1 .0) (qs .1 .1 .1 .1 .1 .1 .0)) (List._∷_ Row.off (List._∷_ Row.alive (List._∷_ Row.off (List._∷_ Row.off (List._∷_ Row.off
+              (List._∷_ Row.off List.[]))))))))))));
         }
 
         abbrev G14 : Row.Cx
         G14 = record {
-          locals = g7;
-          slots = List._∷_ (Row.lease (κs .0) (qs .0)) (List._∷_ (Row.lease (κs .1 .0) (qs .1 .0)) (List._∷_ Row.off (List._∷_ (Row.lease (κs .1 .1 .1 .0)
-              (qs .1 .1 .1 .0)) (List._∷_ (Row.lease (κs .1 .1 .1 .1 .0) (qs .1 .1 .1 .1 .0)) (List._∷_ (Row.lease (κs .1 .1 .1 .1 .1 .0) (qs .1 .1 .1 .1 .1 .0)) (List._∷_ Row.off
-              (List._∷_ Row.dead (List._∷_ Row.off (List._∷_ Row.off (List._∷_ Row.off List.[]))))))))));
+          locals = List._++_ g8 t1;
+          slots = List._∷_ (Row.lease (κs .0) (qs .0)) (List._∷_ (Row.lease (κs .1 .0) (qs .1 .0)) (List._∷_ Row.off (List._∷_ (Row.lease (κs
+              .1 .1 .1 .0) (qs .1 .1 .1 .0)) (List._∷_ (Row.lease (κs .1 .1 .1 .1 .0) (qs .1 .1 .1 .1 .0)) (List._∷_ (Row.lease (κs .1 .1 .1 .1 .1 .0) (qs .1 .1 .1 .1 .1 .0))
+              (List._∷_ (Row.lease (κs .1 .1 .1 .1 .1 .1 .0) (qs .1 .1 .1 .1 .1 .1 .0)) (List._∷_ Row.off (List._∷_ Row.dead (List._∷_ Row.off (List._∷_ Row.off (List._∷_ Row.off
+              (List._∷_ Row.off List.[]))))))))))));
         }
 
         abbrev G15 : Row.Cx
         G15 = record {
-          locals = t8;
-          slots = List._∷_ (Row.lease (κs .0) (qs .0)) (List._∷_ (Row.lease (κs .1 .0) (qs .1 .0)) (List._∷_ (Row.lease (κs .1 .1 .0) (qs .1 .1 .0))
-              (List._∷_ (Row.lease (κs .1 .1 .1 .0) (qs .1 .1 .1 .0)) (List._∷_ (Row.lease (κs .1 .1 .1 .1 .0) (qs .1 .1 .1 .1 .0)) (List._∷_ (Row.lease (κs .1 .1 .1 .1 .1 .0) (qs .1
-              .1 .1 .1 .1 .0)) (List._∷_ Row.off (List._∷_ Row.dead (List._∷_ Row.off (List._∷_ Row.off (List._∷_ Row.off List.[]))))))))));
+          locals = List._++_ t9 t1;
+          slots = List._∷_ (Row.lease (κs .0) (qs .0)) (List._∷_ (Row.lease (κs .1 .0) (qs .1 .0)) (List._∷_ (Row.lease (κs .1 .1 .0) (qs .1
+              .1 .0)) (List._∷_ (Row.lease (κs .1 .1 .1 .0) (qs .1 .1 .1 .0)) (List._∷_ (Row.lease (κs .1 .1 .1 .1 .0) (qs .1 .1 .1 .1 .0)) (List._∷_ (Row.lease (κs .1 .1 .1 .1 .1
+              .0) (qs .1 .1 .1 .1 .1 .0)) (List._∷_ (Row.lease (κs .1 .1 .1 .1 .1 .1 .0) (qs .1 .1 .1 .1 .1 .1 .0)) (List._∷_ Row.off (List._∷_ Row.dead (List._∷_ Row.off (List._∷_
+              Row.off (List._∷_ Row.off (List._∷_ Row.off List.[]))))))))))));
         }
 
         abbrev G16 : Row.Cx
         G16 = record {
-          locals = t8;
-          slots = List._∷_ (Row.lease (κs .0) (qs .0)) (List._∷_ (Row.lease (κs .1 .0) (qs .1 .0)) (List._∷_ (Row.lease (κs .1 .1 .0) (qs .1 .1 .0))
-              (List._∷_ (Row.lease (κs .1 .1 .1 .0) (qs .1 .1 .1 .0)) (List._∷_ (Row.lease (κs .1 .1 .1 .1 .0) (qs .1 .1 .1 .1 .0)) (List._∷_ (Row.lease (κs .1 .1 .1 .1 .1 .0) (qs .1
-              .1 .1 .1 .1 .0)) (List._∷_ Row.off (List._∷_ Row.dead (List._∷_ Row.off (List._∷_ Row.off (List._∷_ Row.off List.[]))))))))));
+          locals = List._++_ t9 t1;
+          slots = List._∷_ (Row.lease (κs .0) (qs .0)) (List._∷_ (Row.lease (κs .1 .0) (qs .1 .0)) (List._∷_ (Row.lease (κs .1 .1 .0) (qs .1
+              .1 .0)) (List._∷_ (Row.lease (κs .1 .1 .1 .0) (qs .1 .1 .1 .0)) (List._∷_ (Row.lease (κs .1 .1 .1 .1 .0) (qs .1 .1 .1 .1 .0)) (List._∷_ (Row.lease (κs .1 .1 .1 .1 .1
+              .0) (qs .1 .1 .1 .1 .1 .0)) (List._∷_ (Row.lease (κs .1 .1 .1 .1 .1 .1 .0) (qs .1 .1 .1 .1 .1 .1 .0)) (List._∷_ Row.off (List._∷_ Row.dead (List._∷_ Row.off (List._∷_
+              Row.off (List._∷_ Row.off (List._∷_ Row.off List.[]))))))))))));
         }
 
         abbrev G17 : Row.Cx
         G17 = record {
-          locals = t8;
-          slots = List._∷_ (Row.lease (κs .0) (qs .0)) (List._∷_ (Row.lease (κs .1 .0) (qs .1 .0)) (List._∷_ (Row.lease (κs .1 .1 .0) (qs .1 .1 .0))
-              (List._∷_ (Row.lease (κs .1 .1 .1 .0) (qs .1 .1 .1 .0)) (List._∷_ (Row.lease (κs .1 .1 .1 .1 .0) (qs .1 .1 .1 .1 .0)) (List._∷_ (Row.lease (κs .1 .1 .1 .1 .1 .0) (qs .1
-              .1 .1 .1 .1 .0)) (List._∷_ Row.off (List._∷_ Row.off (List._∷_ Row.off (List._∷_ Row.off (List._∷_ Row.off List.[]))))))))));
+          locals = List._++_ t9 t1;
+          slots = List._∷_ (Row.lease (κs .0) (qs .0)) (List._∷_ (Row.lease (κs .1 .0) (qs .1 .0)) (List._∷_ (Row.lease (κs .1 .1 .0) (qs .1
+              .1 .0)) (List._∷_ (Row.lease (κs .1 .1 .1 .0) (qs .1 .1 .1 .0)) (List._∷_ (Row.lease (κs .1 .1 .1 .1 .0) (qs .1 .1 .1 .1 .0)) (List._∷_ (Row.lease (κs .1 .1 .1 .1 .1
+              .0) (qs .1 .1 .1 .1 .1 .0)) (List._∷_ (Row.lease (κs .1 .1 .1 .1 .1 .1 .0) (qs .1 .1 .1 .1 .1 .1 .0)) (List._∷_ Row.off (List._∷_ Row.off (List._∷_ Row.off (List._∷_
+              Row.off (List._∷_ Row.off (List._∷_ Row.off List.[]))))))))))));
         }
 
         abbrev G18 : Row.Cx
         G18 = record {
-          locals = t8;
-          slots = List._∷_ (Row.lease (κs .0) (qs .0)) (List._∷_ (Row.lease (κs .1 .0) (qs .1 .0)) (List._∷_ (Row.lease (κs .1 .1 .0) (qs .1 .1 .0))
-              (List._∷_ (Row.lease (κs .1 .1 .1 .0) (qs .1 .1 .1 .0)) (List._∷_ (Row.lease (κs .1 .1 .1 .1 .0) (qs .1 .1 .1 .1 .0)) (List._∷_ (Row.lease (κs .1 .1 .1 .1 .1 .0) (qs .1
-              .1 .1 .1 .1 .0)) (List._∷_ Row.off (List._∷_ Row.off (List._∷_ Row.alive (List._∷_ Row.off (List._∷_ Row.off List.[]))))))))));
+          locals = List._++_ t9 t1;
+          slots = List._∷_ (Row.lease (κs .0) (qs .0)) (List._∷_ (Row.lease (κs .1 .0) (qs .1 .0)) (List._∷_ (Row.lease (κs .1 .1 .0) (qs .1
+              .1 .0)) (List._∷_ (Row.lease (κs .1 .1 .1 .0) (qs .1 .1 .1 .0)) (List._∷_ (Row.lease (κs .1 .1 .1 .1 .0) (qs .1 .1 .1 .1 .0)) (List._∷_ (Row.lease (κs .1 .1 .1 .1 .1
+              .0) (qs .1 .1 .1 .1 .1 .0)) (List._∷_ (Row.lease (κs .1 .1 .1 .1 .1 .1 .0) (qs .1 .1 .1 .1 .1 .1 .0)) (List._∷_ Row.off (List._∷_ Row.off (List._∷_ Row.alive (List._∷_
+              Row.off (List._∷_ Row.off (List._∷_ Row.off List.[]))))))))))));
         }
 
         abbrev G19 : Row.Cx
         G19 = record {
-          locals = g9;
-          slots = List._∷_ (Row.lease (κs .0) (qs .0)) (List._∷_ (Row.lease (κs .1 .0) (qs .1 .0)) (List._∷_ (Row.lease (κs .1 .1 .0) (qs .1 .1 .0))
-              (List._∷_ Row.off (List._∷_ (Row.lease (κs .1 .1 .1 .1 .0) (qs .1 .1 .1 .1 .0)) (List._∷_ (Row.lease (κs .1 .1 .1 .1 .1 .0) (qs .1 .1 .1 .1 .1 .0)) (List._∷_ Row.off
-              (List._∷_ Row.off (List._∷_ Row.alive (List._∷_ Row.off (List._∷_ Row.off List.[]))))))))));
+          locals = List._++_ g10 t1;
+          slots = List._∷_ (Row.lease (κs .0) (qs .0)) (List._∷_ (Row.lease (κs .1 .0) (qs .1 .0)) (List._∷_ (Row.lease (κs .1 .1 .0) (qs .1
+              .1 .0)) (List._∷_ Row.off (List._∷_ (Row.lease (κs .1 .1 .1 .1 .0) (qs .1 .1 .1 .1 .0)) (List._∷_ (Row.lease (κs .1 .1 .1 .1 .1 .0) (qs .1 .1 .1 .1 .1 .0)) (List._∷_
+              (Row.lease (κs .1 .1 .1 .1 .1 .1 .0) (qs .1 .1 .1 .1 .1 .1 .0)) (List._∷_ Row.off (List._∷_ Row.off (List._∷_ Row.alive (List._∷_ Row.off (List._∷_ Row.off (List._∷_
+              Row.off List.[]))))))))))));
         }
 
         abbrev G20 : Row.Cx
         G20 = record {
-          locals = g9;
-          slots = List._∷_ (Row.lease (κs .0) (qs .0)) (List._∷_ (Row.lease (κs .1 .0) (qs .1 .0)) (List._∷_ (Row.lease (κs .1 .1 .0) (qs .1 .1 .0))
-              (List._∷_ Row.off (List._∷_ (Row.lease (κs .1 .1 .1 .1 .0) (qs .1 .1 .1 .1 .0)) (List._∷_ (Row.lease (κs .1 .1 .1 .1 .1 .0) (qs .1 .1 .1 .1 .1 .0)) (List._∷_ Row.off
-              (List._∷_ Row.off (List._∷_ Row.alive (List._∷_ Row.alive (List._∷_ Row.off List.[]))))))))));
+          locals = List._++_ g10 t1;
+          slots = List._∷_ (Row.lease (κs .0) (qs .0)) (List._∷_ (Row.lease (κs .1 .0) (qs .1 .0)) (List._∷_ (Row.lease (κs .1 .1 .0) (qs .1
+              .1 .0)) (List._∷_ Row.off (List._∷_ (Row.lease (κs .1 .1 .1 .1 .0) (qs .1 .1 .1 .1 .0)) (List._∷_ (Row.lease (κs .1 .1 .1 .1 .1 .0) (qs .1 .1 .1 .1 .1 .0)) (List._∷_
+              (Row.lease (κs .1 .1 .1 .1 .1 .1 .0) (qs .1 .1 .1 .1 .1 .1 .0)) (List._∷_ Row.off (List._∷_ Row.off (List._∷_ Row.alive (List._∷_ Row.alive (List._∷_ Row.off (List._∷_
+              Row.off List.[]))))))))))));
         }
 
         abbrev G21 : Row.Cx
         G21 = record {
-          locals = g10;
-          slots = List._∷_ (Row.lease (κs .0) (qs .0)) (List._∷_ (Row.lease (κs .1 .0) (qs .1 .0)) (List._∷_ (Row.lease (κs .1 .1 .0) (qs .1 .1 .0))
-              (List._∷_ Row.off (List._∷_ Row.off (List._∷_ (Row.lease (κs .1 .1 .1 .1 .1 .0) (qs .1 .1 .1 .1 .1 .0)) (List._∷_ Row.off (List._∷_ Row.off (List._∷_ Row.alive
-              (List._∷_ Row.alive (List._∷_ Row.off List.[]))))))))));
+          locals = List._++_ g11 t1;
+          slots = List._∷_ (Row.lease (κs .0) (qs .0)) (List._∷_ (Row.lease (κs .1 .0) (qs .1 .0)) (List._∷_ (Row.lease (κs .1 .1 .0) (qs .1
+              .1 .0)) (List._∷_ Row.off (List._∷_ Row.off (List._∷_ (Row.lease (κs .1 .1 .1 .1 .1 .0) (qs .1 .1 .1 .1 .1 .0)) (List._∷_ (Row.lease (κs .1 .1 .1 .1 .1 .1 .0) (qs .1 .1
+              .1 .1 .1 .1 .0)) (List._∷_ Row.off (List._∷_ Row.off (List._∷_ Row.alive (List._∷_ Row.alive (List._∷_ Row.off (List._∷_ Row.off List.[]))))))))))));
         }
 
         abbrev G22 : Row.Cx
         G22 = record {
-          locals = g10;
-          slots = List._∷_ (Row.lease (κs .0) (qs .0)) (List._∷_ (Row.lease (κs .1 .0) (qs .1 .0)) (List._∷_ (Row.lease (κs .1 .1 .0) (qs .1 .1 .0))
-              (List._∷_ Row.off (List._∷_ Row.off (List._∷_ (Row.lease (κs .1 .1 .1 .1 .1 .0) (qs .1 .1 .1 .1 .1 .0)) (List._∷_ Row.off (List._∷_ Row.off (List._∷_ Row.alive
-              (List._∷_ Row.alive (List._∷_ Row.alive List.[]))))))))));
+          locals = List._++_ g11 t1;
+          slots = List._∷_ (Row.lease (κs .0) (qs .0)) (List._∷_ (Row.lease (κs .1 .0) (qs .1 .0)) (List._∷_ (Row.lease (κs .1 .1 .0) (qs .1
+              .1 .0)) (List._∷_ Row.off (List._∷_ Row.off (List._∷_ (Row.lease (κs .1 .1 .1 .1 .1 .0) (qs .1 .1 .1 .1 .1 .0)) (List._∷_ (Row.lease (κs .1 .1 .1 .1 .1 .1 .0) (qs .1 .1
+              .1 .1 .1 .1 .0)) (List._∷_ Row.off (List._∷_ Row.off (List._∷_ Row.alive (List._∷_ Row.alive (List._∷_ Row.alive (List._∷_ Row.off List.[]))))))))))));
         }
 
         abbrev G23 : Row.Cx
         G23 = record {
-          locals = g11;
-          slots = List._∷_ (Row.lease (κs .0) (qs .0)) (List._∷_ (Row.lease (κs .1 .0) (qs .1 .0)) (List._∷_ (Row.lease (κs .1 .1 .0) (qs .1 .1 .0))
-              (List._∷_ Row.off (List._∷_ Row.off (List._∷_ Row.off (List._∷_ Row.off (List._∷_ Row.off (List._∷_ Row.alive (List._∷_ Row.alive (List._∷_ Row.alive List.[]))))))))));
+          locals = List._++_ g12 t1;
+          slots = List._∷_ (Row.lease (κs .0) (qs .0)) (List._∷_ (Row.lease (κs .1 .0) (qs .1 .0)) (List._∷_ (Row.lease (κs .1 .1 .0) (qs .1
+              .1 .0)) (List._∷_ Row.off (List._∷_ Row.off (List._∷_ Row.off (List._∷_ (Row.lease (κs .1 .1 .1 .1 .1 .1 .0) (qs .1 .1 .1 .1 .1 .1 .0)) (List._∷_ Row.off (List._∷_
+              Row.off (List._∷_ Row.alive (List._∷_ Row.alive (List._∷_ Row.alive (List._∷_ Row.off List.[]))))))))))));
         }
 
         abbrev G24 : Row.Cx
         G24 = record {
-          locals = g12;
-          slots = List._∷_ (Row.lease (κs .0) (qs .0)) (List._∷_ (Row.lease (κs .1 .0) (qs .1 .0)) (List._∷_ (Row.lease (κs .1 .1 .0) (qs .1 .1 .0))
-              (List._∷_ Row.off (List._∷_ Row.off (List._∷_ Row.off (List._∷_ Row.off (List._∷_ Row.off (List._∷_ Row.alive (List._∷_ Row.alive (List._∷_ Row.alive List.[]))))))))));
+          locals = List._++_ g12 t1;
+          slots = List._∷_ (Row.lease (κs .0) (qs .0)) (List._∷_ (Row.lease (κs .1 .0) (qs .1 .0)) (List._∷_ (Row.lease (κs .1 .1 .0) (qs .1
+              .1 .0)) (List._∷_ Row.off (List._∷_ Row.off (List._∷_ Row.off (List._∷_ (Row.lease (κs .1 .1 .1 .1 .1 .1 .0) (qs .1 .1 .1 .1 .1 .1 .0)) (List._∷_ Row.off (List._∷_
+              Row.off (List._∷_ Row.alive (List._∷_ Row.alive (List._∷_ Row.alive (List._∷_ Row.alive List.[]))))))))))));
         }
 
         abbrev G25 : Row.Cx
         G25 = record {
-          locals = g13;
-          slots = List._∷_ (Row.lease (κs .0) (qs .0)) (List._∷_ (Row.lease (κs .1 .0) (qs .1 .0)) (List._∷_ (Row.lease (κs .1 .1 .0) (qs .1 .1 .0))
-              (List._∷_ Row.off (List._∷_ Row.off (List._∷_ Row.off (List._∷_ Row.off (List._∷_ Row.off (List._∷_ Row.alive (List._∷_ Row.alive (List._∷_ Row.alive List.[]))))))))));
+          locals = List._++_ g13 t14;
+          slots = List._∷_ (Row.lease (κs .0) (qs .0)) (List._∷_ (Row.lease (κs .1 .0) (qs .1 .0)) (List._∷_ (Row.lease (κs .1 .1 .0) (qs
+              .1 .1 .0)) (List._∷_ Row.off (List._∷_ Row.off (List._∷_ Row.off (List._∷_ Row.off (List._∷_ Row.off (List._∷_ Row.off (List._∷_ Row.alive (List._∷_ Row.alive (List._∷_
+              Row.alive (List._∷_ Row.alive List.[]))))))))))));
         }
 
         abbrev G26 : Row.Cx
         G26 = record {
-          locals = g13;
-          slots = List._∷_ (Row.lease (κs .0) (qs .0)) (List._∷_ (Row.lease (κs .1 .0) (qs .1 .0)) (List._∷_ (Row.lease (κs .1 .1 .0) (qs .1 .1 .0))
-              (List._∷_ Row.off (List._∷_ Row.off (List._∷_ Row.off (List._∷_ Row.off (List._∷_ Row.off (List._∷_ Row.dead (List._∷_ Row.alive (List._∷_ Row.alive List.[]))))))))));
+          locals = List._++_ g15 t16;
+          slots = List._∷_ (Row.lease (κs .0) (qs .0)) (List._∷_ (Row.lease (κs .1 .0) (qs .1 .0)) (List._∷_ (Row.lease (κs .1 .1 .0) (qs
+              .1 .1 .0)) (List._∷_ Row.off (List._∷_ Row.off (List._∷_ Row.off (List._∷_ Row.off (List._∷_ Row.off (List._∷_ Row.off (List._∷_ Row.alive (List._∷_ Row.alive (List._∷_
+              Row.alive (List._∷_ Row.alive List.[]))))))))))));
         }
 
         abbrev G27 : Row.Cx
         G27 = record {
-          locals = g14;
-          slots = List._∷_ (Row.lease (κs .0) (qs .0)) (List._∷_ (Row.lease (κs .1 .0) (qs .1 .0)) (List._∷_ (Row.lease (κs .1 .1 .0) (qs .1 .1 .0))
-              (List._∷_ (Row.lease (κs .1 .1 .1 .0) (qs .1 .1 .1 .0)) (List._∷_ Row.off (List._∷_ Row.off (List._∷_ Row.off (List._∷_ Row.off (List._∷_ Row.dead (List._∷_ Row.alive
-              (List._∷_ Row.alive List.[]))))))))));
+          locals = List._++_ g17 t16;
+          slots = List._∷_ (Row.lease (κs .0) (qs .0)) (List._∷_ (Row.lease (κs .1 .0) (qs .1 .0)) (List._∷_ (Row.lease (κs .1 .1 .0) (qs
+              .1 .1 .0)) (List._∷_ Row.off (List._∷_ Row.off (List._∷_ Row.off (List._∷_ Row.off (List._∷_ Row.off (List._∷_ Row.off (List._∷_ Row.alive (List._∷_ Row.alive (List._∷_
+              Row.alive (List._∷_ Row.alive List.[]))))))))))));
         }
 
         abbrev G28 : Row.Cx
         G28 = record {
-          locals = g14;
-          slots = List._∷_ (Row.lease (κs .0) (qs .0)) (List._∷_ (Row.lease (κs .1 .0) (qs .1 .0)) (List._∷_ (Row.lease (κs .1 .1 .0) (qs .1 .1 .0))
-              (List._∷_ (Row.lease (κs .1 .1 .1 .0) (qs .1 .1 .1 .0)) (List._∷_ Row.off (List._∷_ Row.off (List._∷_ Row.off (List._∷_ Row.off (List._∷_ Row.off (List._∷_ Row.alive
-              (List._∷_ Row.alive List.[]))))))))));
+          locals = List._++_ g17 t16;
+          slots = List._∷_ (Row.lease (κs .0) (qs .0)) (List._∷_ (Row.lease (κs .1 .0) (qs .1 .0)) (List._∷_ (Row.lease (κs .1 .1 .0) (qs
+              .1 .1 .0)) (List._∷_ Row.off (List._∷_ Row.off (List._∷_ Row.off (List._∷_ Row.off (List._∷_ Row.off (List._∷_ Row.off (List._∷_ Row.dead (List._∷_ Row.alive (List._∷_
+              Row.alive (List._∷_ Row.alive List.[]))))))))))));
         }
 
         abbrev G29 : Row.Cx
         G29 = record {
-          locals = g14;
-          slots = List._∷_ (Row.lease (κs .0) (qs .0)) (List._∷_ (Row.lease (κs .1 .0) (qs .1 .0)) (List._∷_ (Row.lease (κs .1 .1 .0) (qs .1 .1 .0))
-              (List._∷_ (Row.lease (κs .1 .1 .1 .0) (qs .1 .1 .1 .0)) (List._∷_ Row.off (List._∷_ Row.off (List._∷_ Row.off (List._∷_ Row.off (List._∷_ Row.off (List._∷_ Row.dead
-              (List._∷_ Row.alive List.[]))))))))));
+          locals = List._++_ g18 t16;
+          slots = List._∷_ (Row.lease (κs .0) (qs .0)) (List._∷_ (Row.lease (κs .1 .0) (qs .1 .0)) (List._∷_ (Row.lease (κs .1 .1 .0) (qs
+              .1 .1 .0)) (List._∷_ (Row.lease (κs .1 .1 .1 .0) (qs .1 .1 .1 .0)) (List._∷_ Row.off (List._∷_ Row.off (List._∷_ Row.off (List._∷_ Row.off (List._∷_ Row.off (List._∷_
+              Row.dead (List._∷_ Row.alive (List._∷_ Row.alive (List._∷_ Row.alive List.[]))))))))))));
         }
 
         abbrev G30 : Row.Cx
         G30 = record {
-          locals = g15;
-          slots = List._∷_ (Row.lease (κs .0) (qs .0)) (List._∷_ (Row.lease (κs .1 .0) (qs .1 .0)) (List._∷_ (Row.lease (κs .1 .1 .0) (qs .1 .1 .0))
-              (List._∷_ (Row.lease (κs .1 .1 .1 .0) (qs .1 .1 .1 .0)) (List._∷_ (Row.lease (κs .1 .1 .1 .1 .0) (qs .1 .1 .1 .1 .0)) (List._∷_ Row.off (List._∷_ Row.off (List._∷_
-              Row.off (List._∷_ Row.off (List._∷_ Row.dead (List._∷_ Row.alive List.[]))))))))));
+          locals = List._++_ g18 t16;
+          slots = List._∷_ (Row.lease (κs .0) (qs .0)) (List._∷_ (Row.lease (κs .1 .0) (qs .1 .0)) (List._∷_ (Row.lease (κs .1 .1 .0) (qs
+              .1 .1 .0)) (List._∷_ (Row.lease (κs .1 .1 .1 .0) (qs .1 .1 .1 .0)) (List._∷_ Row.off (List._∷_ Row.off (List._∷_ Row.off (List._∷_ Row.off (List._∷_ Row.off (List._∷_
+              Row.off (List._∷_ Row.alive (List._∷_ Row.alive (List._∷_ Row.alive List.[]))))))))))));
         }
 
         abbrev G31 : Row.Cx
         G31 = record {
-          locals = g15;
-          slots = List._∷_ (Row.lease (κs .0) (qs .0)) (List._∷_ (Row.lease (κs .1 .0) (qs .1 .0)) (List._∷_ (Row.lease (κs .1 .1 .0) (qs .1 .1 .0))
-              (List._∷_ (Row.lease (κs .1 .1 .1 .0) (qs .1 .1 .1 .0)) (List._∷_ (Row.lease (κs .1 .1 .1 .1 .0) (qs .1 .1 .1 .1 .0)) (List._∷_ Row.off (List._∷_ Row.off (List._∷_
-              Row.off (List._∷_ Row.off (List._∷_ Row.off (List._∷_ Row.alive List.[]))))))))));
+          locals = List._++_ g18 t16;
+          slots = List._∷_ (Row.lease (κs .0) (qs .0)) (List._∷_ (Row.lease (κs .1 .0) (qs .1 .0)) (List._∷_ (Row.lease (κs .1 .1 .0) (qs
+              .1 .1 .0)) (List._∷_ (Row.lease (κs .1 .1 .1 .0) (qs .1 .1 .1 .0)) (List._∷_ Row.off (List._∷_ Row.off (List._∷_ Row.off (List._∷_ Row.off (List._∷_ Row.off (List._∷_
+              Row.off (List._∷_ Row.dead (List._∷_ Row.alive (List._∷_ Row.alive List.[]))))))))))));
         }
 
         abbrev G32 : Row.Cx
         G32 = record {
-          locals = g15;
-          slots = List._∷_ (Row.lease (κs .0) (qs .0)) (List._∷_ (Row.lease (κs .1 .0) (qs .1 .0)) (List._∷_ (Row.lease (κs .1 .1 .0) (qs .1 .1 .0))
-              (List._∷_ (Row.lease (κs .1 .1 .1 .0) (qs .1 .1 .1 .0)) (List._∷_ (Row.lease (κs .1 .1 .1 .1 .0) (qs .1 .1 .1 .1 .0)) (List._∷_ Row.off (List._∷_ Row.off (List._∷_
-              Row.off (List._∷_ Row.off (List._∷_ Row.off (List._∷_ Row.dead List.[]))))))))));
+          locals = List._++_ g19 t16;
+          slots = List._∷_ (Row.lease (κs .0) (qs .0)) (List._∷_ (Row.lease (κs .1 .0) (qs .1 .0)) (List._∷_ (Row.lease (κs .1 .1 .0) (qs
+              .1 .1 .0)) (List._∷_ (Row.lease (κs .1 .1 .1 .0) (qs .1 .1 .1 .0)) (List._∷_ (Row.lease (κs .1 .1 .1 .1 .0) (qs .1 .1 .1 .1 .0)) (List._∷_ Row.off (List._∷_ Row.off
+              (List._∷_ Row.off (List._∷_ Row.off (List._∷_ Row.off (List._∷_ Row.dead (List._∷_ Row.alive (List._∷_ Row.alive List.[]))))))))))));
         }
 
         abbrev G33 : Row.Cx
         G33 = record {
-          locals = t1;
-          slots = List._∷_ (Row.lease (κs .0) (qs .0)) (List._∷_ (Row.lease (κs .1 .0) (qs .1 .0)) (List._∷_ (Row.lease (κs .1 .1 .0) (qs .1 .1 .0))
-              (List._∷_ (Row.lease (κs .1 .1 .1 .0) (qs .1 .1 .1 .0)) (List._∷_ (Row.lease (κs .1 .1 .1 .1 .0) (qs .1 .1 .1 .1 .0)) (List._∷_ (Row.lease (κs .1 .1 .1 .1 .1 .0) (qs .1
-              .1 .1 .1 .1 .0)) (List._∷_ Row.off (List._∷_ Row.off (List._∷_ Row.off (List._∷_ Row.off (List._∷_ Row.dead List.[]))))))))));
+          locals = List._++_ g19 t16;
+          slots = List._∷_ (Row.lease (κs .0) (qs .0)) (List._∷_ (Row.lease (κs .1 .0) (qs .1 .0)) (List._∷_ (Row.lease (κs .1 .1 .0) (qs
+              .1 .1 .0)) (List._∷_ (Row.lease (κs .1 .1 .1 .0) (qs .1 .1 .1 .0)) (List._∷_ (Row.lease (κs .1 .1 .1 .1 .0) (qs .1 .1 .1 .1 .0)) (List._∷_ Row.off (List._∷_ Row.off
+              (List._∷_ Row.off (List._∷_ Row.off (List._∷_ Row.off (List._∷_ Row.off (List._∷_ Row.alive (List._∷_ Row.alive List.[]))))))))))));
         }
 
         abbrev G34 : Row.Cx
         G34 = record {
-          locals = t1;
-          slots = List._∷_ (Row.lease (κs .0) (qs .0)) (List._∷_ (Row.lease (κs .1 .0) (qs .1 .0)) (List._∷_ (Row.lease (κs .1 .1 .0) (qs .1 .1 .0))
-              (List._∷_ (Row.lease (κs .1 .1 .1 .0) (qs .1 .1 .1 .0)) (List._∷_ (Row.lease (κs .1 .1 .1 .1 .0) (qs .1 .1 .1 .1 .0)) (List._∷_ (Row.lease (κs .1 .1 .1 .1 .1 .0) (qs .1
-              .1 .1 .1 .1 .0)) (List._∷_ Row.off (List._∷_ Row.off (List._∷_ Row.off (List._∷_ Row.off (List._∷_ Row.off List.[]))))))))));
+          locals = List._++_ g19 t16;
+          slots = List._∷_ (Row.lease (κs .0) (qs .0)) (List._∷_ (Row.lease (κs .1 .0) (qs .1 .0)) (List._∷_ (Row.lease (κs .1 .1 .0) (qs
+              .1 .1 .0)) (List._∷_ (Row.lease (κs .1 .1 .1 .0) (qs .1 .1 .1 .0)) (List._∷_ (Row.lease (κs .1 .1 .1 .1 .0) (qs .1 .1 .1 .1 .0)) (List._∷_ Row.off (List._∷_ Row.off
+              (List._∷_ Row.off (List._∷_ Row.off (List._∷_ Row.off (List._∷_ Row.off (List._∷_ Row.dead (List._∷_ Row.alive List.[]))))))))))));
+        }
+
+        abbrev G35 : Row.Cx
+        G35 = record {
+          locals = List._++_ g20 t16;
+          slots = List._∷_ (Row.lease (κs .0) (qs .0)) (List._∷_ (Row.lease (κs .1 .0) (qs .1 .0)) (List._∷_ (Row.lease (κs .1 .1 .0) (qs
+              .1 .1 .0)) (List._∷_ (Row.lease (κs .1 .1 .1 .0) (qs .1 .1 .1 .0)) (List._∷_ (Row.lease (κs .1 .1 .1 .1 .0) (qs .1 .1 .1 .1 .0)) (List._∷_ (Row.lease (κs .1 .1 .1 .1 .1
+              .0) (qs .1 .1 .1 .1 .1 .0)) (List._∷_ Row.off (List._∷_ Row.off (List._∷_ Row.off (List._∷_ Row.off (List._∷_ Row.off (List._∷_ Row.dead (List._∷_ Row.alive
+              List.[]))))))))))));
+        }
+
+        abbrev G36 : Row.Cx
+        G36 = record {
+          locals = List._++_ g20 t16;
+          slots = List._∷_ (Row.lease (κs .0) (qs .0)) (List._∷_ (Row.lease (κs .1 .0) (qs .1 .0)) (List._∷_ (Row.lease (κs .1 .1 .0) (qs
+              .1 .1 .0)) (List._∷_ (Row.lease (κs .1 .1 .1 .0) (qs .1 .1 .1 .0)) (List._∷_ (Row.lease (κs .1 .1 .1 .1 .0) (qs .1 .1 .1 .1 .0)) (List._∷_ (Row.lease (κs .1 .1 .1 .1 .1
+              .0) (qs .1 .1 .1 .1 .1 .0)) (List._∷_ Row.off (List._∷_ Row.off (List._∷_ Row.off (List._∷_ Row.off (List._∷_ Row.off (List._∷_ Row.off (List._∷_ Row.alive
+              List.[]))))))))))));
+        }
+
+        abbrev G37 : Row.Cx
+        G37 = record {
+          locals = List._++_ g20 t16;
+          slots = List._∷_ (Row.lease (κs .0) (qs .0)) (List._∷_ (Row.lease (κs .1 .0) (qs .1 .0)) (List._∷_ (Row.lease (κs .1 .1 .0) (qs
+              .1 .1 .0)) (List._∷_ (Row.lease (κs .1 .1 .1 .0) (qs .1 .1 .1 .0)) (List._∷_ (Row.lease (κs .1 .1 .1 .1 .0) (qs .1 .1 .1 .1 .0)) (List._∷_ (Row.lease (κs .1 .1 .1 .1 .1
+              .0) (qs .1 .1 .1 .1 .1 .0)) (List._∷_ Row.off (List._∷_ Row.off (List._∷_ Row.off (List._∷_ Row.off (List._∷_ Row.off (List._∷_ Row.off (List._∷_ Row.dead
+              List.[]))))))))))));
+        }
+
+        abbrev G38 : Row.Cx
+        G38 = record {
+          locals = List._++_ t2 t1;
+          slots = List._∷_ (Row.lease (κs .0) (qs .0)) (List._∷_ (Row.lease (κs .1 .0) (qs .1 .0)) (List._∷_ (Row.lease (κs .1 .1 .0) (qs .1
+              .1 .0)) (List._∷_ (Row.lease (κs .1 .1 .1 .0) (qs .1 .1 .1 .0)) (List._∷_ (Row.lease (κs .1 .1 .1 .1 .0) (qs .1 .1 .1 .1 .0)) (List._∷_ (Row.lease (κs .1 .1 .1 .1 .1
+              .0) (qs .1 .1 .1 .1 .1 .0)) (List._∷_ (Row.lease (κs .1 .1 .1 .1 .1 .1 .0) (qs .1 .1 .1 .1 .1 .1 .0)) (List._∷_ Row.off (List._∷_ Row.off (List._∷_ Row.off (List._∷_
+              Row.off (List._∷_ Row.off (List._∷_ Row.dead List.[]))))))))))));
+        }
+
+        abbrev G39 : Row.Cx
+        G39 = record {
+          locals = List._++_ t2 t1;
+          slots = List._∷_ (Row.lease (κs .0) (qs .0)) (List._∷_ (Row.lease (κs .1 .0) (qs .1 .0)) (List._∷_ (Row.lease (κs .1 .1 .0) (qs .1
+              .1 .0)) (List._∷_ (Row.lease (κs .1 .1 .1 .0) (qs .1 .1 .1 .0)) (List._∷_ (Row.lease (κs .1 .1 .1 .1 .0) (qs .1 .1 .1 .1 .0)) (List._∷_ (Row.lease (κs .1 .1 .1 .1 .1
+              .0) (qs .1 .1 .1 .1 .1 .0)) (List._∷_ (Row.lease (κs .1 .1 .1 .1 .1 .1 .0) (qs .1 .1 .1 .1 .1 .1 .0)) (List._∷_ Row.off (List._∷_ Row.off (List._∷_ Row.off (List._∷_
+              Row.off (List._∷_ Row.off (List._∷_ Row.off List.[]))))))))))));
         }
 
         abbrev Δ0 : Typed.Outs
         Δ0 = record { next = Option.none; exits = List.[]; returns = Option.some G1 }
 
         module _ {M : Type 1} (𝓤 : URA.URA M) (H : Wp.Heap 𝓤) (A : Atoms.Atoms 𝓤) (W : Kit.Given 𝓤 H A) (𝓣 : Wp.Tables 𝓤 H) (known : Knowns 𝓤 H A W 𝓣) (bs : List.List Nat.ℕ) (bd :
-            Lifetimes.AllOutlive 6 (Kinds.osR r) κs) where
+            Lifetimes.AllOutlive 7 (Kinds.osR r) κs) where
           abbrev E : Wp.Env 𝓤 H
           E = Frame.EnvOf 𝓤 H (List._∷_ (Kinds.tyR r) (Enter.tysP ps xs)) bs
 
-          d0 : Typed.Typed 𝓤 H A 𝓣 E G34 b9 Δ0 at0
+          d0 : Typed.Typed 𝓤 H A 𝓣 E G39 b10 Δ0 at0
           d0 = Typed.t-return 𝓤 H A W 𝓣 E Δ0 tt
 
-          d1 : Typed.Typed 𝓤 H A 𝓣 E G33 b9 Δ0 at1
-          d1 = Typed.g-pre 𝓤 H A W 𝓣 E G33 G34 b9 Δ0 (λ Ψ. Ψ) at0 (Lifetime.g-forget 𝓤 H A W E G33 10 Row.dead Path'.refl) d0
+          d1 : Typed.Typed 𝓤 H A 𝓣 E G38 b10 Δ0 at1
+          d1 = Typed.g-pre 𝓤 H A W 𝓣 E G38 G39 b10 Δ0 (λ Ψ. Ψ) at0 (Lifetime.g-forget 𝓤 H A W E G38 12 Row.dead Path'.refl) d0
 
-          d2 : Typed.Typed 𝓤 H A 𝓣 E G32 b9 Δ0 at2
-          d2 = Typed.g-pre 𝓤 H A W 𝓣 E G32 G33 b9 Δ0 (Typed.ask s31) at1 (Reborrow.g-back-mref 𝓤 H A W E G32 14 6 5 10 (Referent.rtF (Referent.fInt Syntax.w64)) (Syntax.tyRef
+          d2 : Typed.Typed 𝓤 H A 𝓣 E G37 b10 Δ0 at2
+          d2 = Typed.g-pre 𝓤 H A W 𝓣 E G37 G38 b10 Δ0 (Typed.ask s36) at1 (Reborrow.g-back-mref 𝓤 H A W E G37 16 7 6 12 (Referent.rtF (Referent.fInt Syntax.w64)) (Syntax.tyRef
+              (Syntax.named 6) Syntax.mut (Syntax.tyInt Syntax.w64)) (Syntax.tyRef Syntax.erased Syntax.mut (Syntax.tyInt Syntax.w64)) (Row.lease (κs .1 .1 .1 .1 .1 .1 .0) (qs .1
+              .1 .1 .1 .1 .1 .0)) (λ x. x) (λ x. x) (Reads.as-is 𝓤 H A (Rows.mleft (Referent.rtF (Referent.fInt Syntax.w64)) (Syntax.tyRef Syntax.erased Syntax.mut (Syntax.tyInt
+              Syntax.w64)))) (Reads.as-is 𝓤 H A (Rows.mref-owed (Referent.rtF (Referent.fInt Syntax.w64)) (Syntax.tyRef (Syntax.named 6) Syntax.mut (Syntax.tyInt Syntax.w64)) 6 12
+              (Row.lease (κs .1 .1 .1 .1 .1 .1 .0) (qs .1 .1 .1 .1 .1 .1 .0)))) Path'.refl Path'.refl) d1
+
+          d3 : Typed.Typed 𝓤 H A 𝓣 E G36 b10 Δ0 at3
+          d3 = Typed.g-pre 𝓤 H A W 𝓣 E G36 G37 b10 Δ0 (λ Ψ. Ψ) at2 (Lifetime.g-end 𝓤 H A W E G36 12 Path'.refl) d2
+
+          d4 : Typed.Typed 𝓤 H A 𝓣 E G35 b10 Δ0 at4
+          d4 = Typed.g-pre 𝓤 H A W 𝓣 E G35 G36 b10 Δ0 (λ Ψ. Ψ) at3 (Lifetime.g-forget 𝓤 H A W E G35 11 Row.dead Path'.refl) d3
+
+          d5 : Typed.Typed 𝓤 H A 𝓣 E G34 b10 Δ0 at5
+          d5 = Typed.g-pre 𝓤 H A W 𝓣 E G34 G35 b10 Δ0 (Typed.ask s33) at4 (Reborrow.g-back-mref 𝓤 H A W E G34 15 6 5 11 (Referent.rtF (Referent.fInt Syntax.w64)) (Syntax.tyRef
               (Syntax.named 5) Syntax.mut (Syntax.tyInt Syntax.w64)) (Syntax.tyRef Syntax.erased Syntax.mut (Syntax.tyInt Syntax.w64)) (Row.lease (κs .1 .1 .1 .1 .1 .0) (qs .1 .1
               .1 .1 .1 .0)) (λ x. x) (λ x. x) (Reads.as-is 𝓤 H A (Rows.mleft (Referent.rtF (Referent.fInt Syntax.w64)) (Syntax.tyRef Syntax.erased Syntax.mut (Syntax.tyInt
-              Syntax.w64)))) (Reads.as-is 𝓤 H A (Rows.mref-owed (Referent.rtF (Referent.fInt Syntax.w64)) (Syntax.tyRef (Syntax.named 5) Syntax.mut (Syntax.tyInt Syntax.w64)) 5 10
-              (Row.lease (κs .1 .1 .1 .1 .1 .0) (qs .1 .1 .1 .1 .1 .0)))) Path'.refl Path'.refl) d1
+              Syntax.w64)))) (Reads.as-is 𝓤 H A (Rows.mref-owed (Referent.rtF (Referent.fInt Syntax.w64)) (Syntax.tyRef (Syntax.named 5) Syntax.mut (Syntax.tyInt Syntax.w64)) 5 11
+              (Row.lease (κs .1 .1 .1 .1 .1 .0) (qs .1 .1 .1 .1 .1 .0)))) Path'.refl Path'.refl) d4
 
-          d3 : Typed.Typed 𝓤 H A 𝓣 E G31 b9 Δ0 at3
-          d3 = Typed.g-pre 𝓤 H A W 𝓣 E G31 G32 b9 Δ0 (λ Ψ. Ψ) at2 (Lifetime.g-end 𝓤 H A W E G31 10 Path'.refl) d2
+          d6 : Typed.Typed 𝓤 H A 𝓣 E G33 b10 Δ0 at6
+          d6 = Typed.g-pre 𝓤 H A W 𝓣 E G33 G34 b10 Δ0 (λ Ψ. Ψ) at5 (Lifetime.g-end 𝓤 H A W E G33 11 Path'.refl) d5
 
-          d4 : Typed.Typed 𝓤 H A 𝓣 E G30 b9 Δ0 at4
-          d4 = Typed.g-pre 𝓤 H A W 𝓣 E G30 G31 b9 Δ0 (λ Ψ. Ψ) at3 (Lifetime.g-forget 𝓤 H A W E G30 9 Row.dead Path'.refl) d3
+          d7 : Typed.Typed 𝓤 H A 𝓣 E G32 b10 Δ0 at7
+          d7 = Typed.g-pre 𝓤 H A W 𝓣 E G32 G33 b10 Δ0 (λ Ψ. Ψ) at6 (Lifetime.g-forget 𝓤 H A W E G32 10 Row.dead Path'.refl) d6
 
-          d5 : Typed.Typed 𝓤 H A 𝓣 E G29 b9 Δ0 at5
-          d5 = Typed.g-pre 𝓤 H A W 𝓣 E G29 G30 b9 Δ0 (Typed.ask s28) at4 (Reborrow.g-back-mref 𝓤 H A W E G29 13 5 4 9 (Referent.rtF (Referent.fInt Syntax.w64)) (Syntax.tyRef
+          d8 : Typed.Typed 𝓤 H A 𝓣 E G31 b10 Δ0 at8
+          d8 = Typed.g-pre 𝓤 H A W 𝓣 E G31 G32 b10 Δ0 (Typed.ask s30) at7 (Reborrow.g-back-mref 𝓤 H A W E G31 14 5 4 10 (Referent.rtF (Referent.fInt Syntax.w64)) (Syntax.tyRef
               (Syntax.named 4) Syntax.mut (Syntax.tyInt Syntax.w64)) (Syntax.tyRef Syntax.erased Syntax.mut (Syntax.tyInt Syntax.w64)) (Row.lease (κs .1 .1 .1 .1 .0) (qs .1 .1 .1
               .1 .0)) (λ x. x) (λ x. x) (Reads.as-is 𝓤 H A (Rows.mleft (Referent.rtF (Referent.fInt Syntax.w64)) (Syntax.tyRef Syntax.erased Syntax.mut (Syntax.tyInt Syntax.w64))))
-              (Reads.as-is 𝓤 H A (Rows.mref-owed (Referent.rtF (Referent.fInt Syntax.w64)) (Syntax.tyRef (Syntax.named 4) Syntax.mut (Syntax.tyInt Syntax.w64)) 4 9 (Row.lease (κs
-              .1 .1 .1 .1 .0) (qs .1 .1 .1 .1 .0)))) Path'.refl Path'.refl) d4
+              (Reads.as-is 𝓤 H A (Rows.mref-owed (Referent.rtF (Referent.fInt Syntax.w64)) (Syntax.tyRef (Syntax.named 4) Syntax.mut (Syntax.tyInt Syntax.w64)) 4 10 (Row.lease (κs
+              .1 .1 .1 .1 .0) (qs .1 .1 .1 .1 .0)))) Path'.refl Path'.refl) d7
 
-          d6 : Typed.Typed 𝓤 H A 𝓣 E G28 b9 Δ0 at6
-          d6 = Typed.g-pre 𝓤 H A W 𝓣 E G28 G29 b9 Δ0 (λ Ψ. Ψ) at5 (Lifetime.g-end 𝓤 H A W E G28 9 Path'.refl) d5
+          d9 : Typed.Typed 𝓤 H A 𝓣 E G30 b10 Δ0 at9
+          d9 = Typed.g-pre 𝓤 H A W 𝓣 E G30 G31 b10 Δ0 (λ Ψ. Ψ) at8 (Lifetime.g-end 𝓤 H A W E G30 10 Path'.refl) d8
 
-          d7 : Typed.Typed 𝓤 H A 𝓣 E G27 b9 Δ0 at7
-          d7 = Typed.g-pre 𝓤 H A W 𝓣 E G27 G28 b9 Δ0 (λ Ψ. Ψ) at6 (Lifetime.g-forget 𝓤 H A W E G27 8 Row.dead Path'.refl) d6
+          d10 : Typed.Typed 𝓤 H A 𝓣 E G29 b10 Δ0 at10
+          d10 = Typed.g-pre 𝓤 H A W 𝓣 E G29 G30 b10 Δ0 (λ Ψ. Ψ) at9 (Lifetime.g-forget 𝓤 H A W E G29 9 Row.dead Path'.refl) d9
 
-          d8 : Typed.Typed 𝓤 H A 𝓣 E G26 b9 Δ0 at8
-          d8 = Typed.g-pre 𝓤 H A W 𝓣 E G26 G27 b9 Δ0 (Typed.ask s25) at7 (Reborrow.g-back-mref 𝓤 H A W E G26 12 4 3 8 (Referent.rtF (Referent.fInt Syntax.w64)) (Syntax.tyRef
+          d11 : Typed.Typed 𝓤 H A 𝓣 E G28 b10 Δ0 at11
+          d11 = Typed.g-pre 𝓤 H A W 𝓣 E G28 G29 b10 Δ0 (Typed.ask s27) at10 (Reborrow.g-back-mref 𝓤 H A W E G28 13 4 3 9 (Referent.rtF (Referent.fInt Syntax.w64)) (Syntax.tyRef
               (Syntax.named 3) Syntax.mut (Syntax.tyInt Syntax.w64)) (Syntax.tyRef Syntax.erased Syntax.mut (Syntax.tyInt Syntax.w64)) (Row.lease (κs .1 .1 .1 .0) (qs .1 .1 .1 .0))
               (λ x. x) (λ x. x) (Reads.as-is 𝓤 H A (Rows.mleft (Referent.rtF (Referent.fInt Syntax.w64)) (Syntax.tyRef Syntax.erased Syntax.mut (Syntax.tyInt Syntax.w64))))
-              (Reads.as-is 𝓤 H A (Rows.mref-owed (Referent.rtF (Referent.fInt Syntax.w64)) (Syntax.tyRef (Syntax.named 3) Syntax.mut (Syntax.tyInt Syntax.w64)) 3 8 (Row.lease (κs
-              .1 .1 .1 .0) (qs .1 .1 .1 .0)))) Path'.refl Path'.refl) d7
+              (Reads.as-is 𝓤 H A (Rows.mref-owed (Referent.rtF (Referent.fInt Syntax.w64)) (Syntax.tyRef (Syntax.named 3) Syntax.mut (Syntax.tyInt Syntax.w64)) 3 9 (Row.lease (κs
+              .1 .1 .1 .0) (qs .1 .1 .1 .0)))) Path'.refl Path'.refl) d10
 
-          d9 : Typed.Typed 𝓤 H A 𝓣 E G25 b9 Δ0 at9
-          d9 = Typed.g-pre 𝓤 H A W 𝓣 E G25 G26 b9 Δ0 (λ Ψ. Ψ) at8 (Lifetime.g-end 𝓤 H A W E G25 8 Path'.refl) d8
+          d12 : Typed.Typed 𝓤 H A 𝓣 E G27 b10 Δ0 at12
+          d12 = Typed.g-pre 𝓤 H A W 𝓣 E G27 G28 b10 Δ0 (λ Ψ. Ψ) at11 (Lifetime.g-end 𝓤 H A W E G27 9 Path'.refl) d11
 
-          d10 : Typed.Typed 𝓤 H A 𝓣 E G24 b9 Δ0 at10
-          d10 = Typed.g-pre 𝓤 H A W 𝓣 E G24 G25 b9 Δ0 (Typed.pass T24 T25 s23) at9 (Scalar.g-room 𝓤 H A W E G24 7 (Syntax.tyEnum (List._∷_ 104 (List._∷_ 101 (List._∷_ 97 (List._∷_
-              100 (List._∷_ 101 (List._∷_ 114 (List._∷_ 58 (List._∷_ 58 (List._∷_ 112 (List._∷_ 97 (List._∷_ 114 (List._∷_ 115 (List._∷_ 101 (List._∷_ 58 (List._∷_ 58 (List._∷_ 77
+          d13 : Typed.Typed 𝓤 H A 𝓣 E G26 b10 Δ0 at13
+          d13 = Typed.g-pre 𝓤 H A W 𝓣 E G26 G27 b10 Δ0 (Typed.pass T26 T27 s25) at12 (Scalar.g-room 𝓤 H A W E G26 8 (Syntax.tyEnum (List._∷_ 104 (List._∷_ 101 (List._∷_ 97
+              (List._∷_ 100 (List._∷_ 101 (List._∷_ 114 (List._∷_ 58 (List._∷_ 58 (List._∷_ 112 (List._∷_ 97 (List._∷_ 114 (List._∷_ 115 (List._∷_ 101 (List._∷_ 58 (List._∷_ 58
+              (List._∷_ 77 (List._∷_ 97 (List._∷_ 105 (List._∷_ 110 (List._∷_ 72 (List._∷_ 101 (List._∷_ 97 (List._∷_ 100 (List._∷_ 101 (List._∷_ 114
+              List.[]))))))))))))))))))))))))) (Syntax.ttcons (Syntax.tcons (Syntax.tyStruct (List._∷_ 104 (List._∷_ 101 (List._∷_ 97 (List._∷_ 100 (List._∷_ 101 (List._∷_ 114
+              (List._∷_ 58 (List._∷_ 58 (List._∷_ 112 (List._∷_ 97 (List._∷_ 114 (List._∷_ 115 (List._∷_ 101 (List._∷_ 58 (List._∷_ 58 (List._∷_ 77 (List._∷_ 97 (List._∷_ 105
+              (List._∷_ 110 (List._∷_ 72 (List._∷_ 101 (List._∷_ 97 (List._∷_ 100 (List._∷_ 101 (List._∷_ 114 (List._∷_ 73 (List._∷_ 110 (List._∷_ 102 (List._∷_ 111
+              List.[]))))))))))))))))))))))))))))) (Syntax.tcons (Syntax.tyStruct (List._∷_ 116 (List._∷_ 121 (List._∷_ 112 (List._∷_ 101 (List._∷_ 115 (List._∷_ 58 (List._∷_ 58
+              (List._∷_ 67 (List._∷_ 111 (List._∷_ 100 (List._∷_ 101 (List._∷_ 115 (List._∷_ 116 (List._∷_ 114 (List._∷_ 101 (List._∷_ 97 (List._∷_ 109 (List._∷_ 79 (List._∷_ 102
+              (List._∷_ 102 (List._∷_ 115 (List._∷_ 101 (List._∷_ 116 List.[]))))))))))))))))))))))) (Syntax.tcons (Syntax.tyInt Syntax.w64) Syntax.tnil)) (Syntax.tcons
+              (Syntax.tyInt Syntax.w64) (Syntax.tcons (Syntax.tyInt Syntax.w64) (Syntax.tcons (Syntax.tyInt Syntax.w64) Syntax.tnil))))) Syntax.tnil) (Syntax.ttcons (Syntax.tcons
+              (Syntax.tyStruct (List._∷_ 116 (List._∷_ 121 (List._∷_ 112 (List._∷_ 101 (List._∷_ 115 (List._∷_ 58 (List._∷_ 58 (List._∷_ 82 (List._∷_ 101 (List._∷_ 102 (List._∷_
+              117 (List._∷_ 115 (List._∷_ 97 (List._∷_ 108 List.[])))))))))))))) (Syntax.tcons (Syntax.tyInt Syntax.w32) (Syntax.tcons (Syntax.tyInt Syntax.w64) Syntax.tnil)))
+              Syntax.tnil) Syntax.ttnil))) (Local.room-whole 𝓤 H A W (Declared.row MainHeader.the-type) (Syntax.tyEnum (List._∷_ 104 (List._∷_ 101 (List._∷_ 97 (List._∷_ 100
+              (List._∷_ 101 (List._∷_ 114 (List._∷_ 58 (List._∷_ 58 (List._∷_ 112 (List._∷_ 97 (List._∷_ 114 (List._∷_ 115 (List._∷_ 101 (List._∷_ 58 (List._∷_ 58 (List._∷_ 77
               (List._∷_ 97 (List._∷_ 105 (List._∷_ 110 (List._∷_ 72 (List._∷_ 101 (List._∷_ 97 (List._∷_ 100 (List._∷_ 101 (List._∷_ 114 List.[])))))))))))))))))))))))))
               (Syntax.ttcons (Syntax.tcons (Syntax.tyStruct (List._∷_ 104 (List._∷_ 101 (List._∷_ 97 (List._∷_ 100 (List._∷_ 101 (List._∷_ 114 (List._∷_ 58 (List._∷_ 58 (List._∷_
               112 (List._∷_ 97 (List._∷_ 114 (List._∷_ 115 (List._∷_ 101 (List._∷_ 58 (List._∷_ 58 (List._∷_ 77 (List._∷_ 97 (List._∷_ 105 (List._∷_ 110 (List._∷_ 72 (List._∷_ 101
@@ -2281,86 +2708,130 @@ module _ (claims· : Claims) where
               (Syntax.tyStruct (List._∷_ 116 (List._∷_ 121 (List._∷_ 112 (List._∷_ 101 (List._∷_ 115 (List._∷_ 58 (List._∷_ 58 (List._∷_ 67 (List._∷_ 111 (List._∷_ 100 (List._∷_
               101 (List._∷_ 115 (List._∷_ 116 (List._∷_ 114 (List._∷_ 101 (List._∷_ 97 (List._∷_ 109 (List._∷_ 79 (List._∷_ 102 (List._∷_ 102 (List._∷_ 115 (List._∷_ 101 (List._∷_
               116 List.[]))))))))))))))))))))))) (Syntax.tcons (Syntax.tyInt Syntax.w64) Syntax.tnil)) (Syntax.tcons (Syntax.tyInt Syntax.w64) (Syntax.tcons (Syntax.tyInt
-              Syntax.w64) Syntax.tnil)))) Syntax.tnil) (Syntax.ttcons (Syntax.tcons (Syntax.tyStruct (List._∷_ 116 (List._∷_ 121 (List._∷_ 112 (List._∷_ 101 (List._∷_ 115 (List._∷_
-              58 (List._∷_ 58 (List._∷_ 82 (List._∷_ 101 (List._∷_ 102 (List._∷_ 117 (List._∷_ 115 (List._∷_ 97 (List._∷_ 108 List.[])))))))))))))) (Syntax.tcons (Syntax.tyInt
-              Syntax.w32) (Syntax.tcons (Syntax.tyInt Syntax.w64) Syntax.tnil))) Syntax.tnil) Syntax.ttnil))) (Local.room-whole 𝓤 H A W (Declared.row MainHeader.the-type)
-              (Syntax.tyEnum (List._∷_ 104 (List._∷_ 101 (List._∷_ 97 (List._∷_ 100 (List._∷_ 101 (List._∷_ 114 (List._∷_ 58 (List._∷_ 58 (List._∷_ 112 (List._∷_ 97 (List._∷_ 114
-              (List._∷_ 115 (List._∷_ 101 (List._∷_ 58 (List._∷_ 58 (List._∷_ 77 (List._∷_ 97 (List._∷_ 105 (List._∷_ 110 (List._∷_ 72 (List._∷_ 101 (List._∷_ 97 (List._∷_ 100
-              (List._∷_ 101 (List._∷_ 114 List.[]))))))))))))))))))))))))) (Syntax.ttcons (Syntax.tcons (Syntax.tyStruct (List._∷_ 104 (List._∷_ 101 (List._∷_ 97 (List._∷_ 100
-              (List._∷_ 101 (List._∷_ 114 (List._∷_ 58 (List._∷_ 58 (List._∷_ 112 (List._∷_ 97 (List._∷_ 114 (List._∷_ 115 (List._∷_ 101 (List._∷_ 58 (List._∷_ 58 (List._∷_ 77
-              (List._∷_ 97 (List._∷_ 105 (List._∷_ 110 (List._∷_ 72 (List._∷_ 101 (List._∷_ 97 (List._∷_ 100 (List._∷_ 101 (List._∷_ 114 (List._∷_ 73 (List._∷_ 110 (List._∷_ 102
-              (List._∷_ 111 List.[]))))))))))))))))))))))))))))) (Syntax.tcons (Syntax.tyStruct (List._∷_ 116 (List._∷_ 121 (List._∷_ 112 (List._∷_ 101 (List._∷_ 115 (List._∷_ 58
-              (List._∷_ 58 (List._∷_ 67 (List._∷_ 111 (List._∷_ 100 (List._∷_ 101 (List._∷_ 115 (List._∷_ 116 (List._∷_ 114 (List._∷_ 101 (List._∷_ 97 (List._∷_ 109 (List._∷_ 79
-              (List._∷_ 102 (List._∷_ 102 (List._∷_ 115 (List._∷_ 101 (List._∷_ 116 List.[]))))))))))))))))))))))) (Syntax.tcons (Syntax.tyInt Syntax.w64) Syntax.tnil))
-              (Syntax.tcons (Syntax.tyInt Syntax.w64) (Syntax.tcons (Syntax.tyInt Syntax.w64) Syntax.tnil)))) Syntax.tnil) (Syntax.ttcons (Syntax.tcons (Syntax.tyStruct (List._∷_
-              116 (List._∷_ 121 (List._∷_ 112 (List._∷_ 101 (List._∷_ 115 (List._∷_ 58 (List._∷_ 58 (List._∷_ 82 (List._∷_ 101 (List._∷_ 102 (List._∷_ 117 (List._∷_ 115 (List._∷_
-              97 (List._∷_ 108 List.[])))))))))))))) (Syntax.tcons (Syntax.tyInt Syntax.w32) (Syntax.tcons (Syntax.tyInt Syntax.w64) Syntax.tnil))) Syntax.tnil) Syntax.ttnil)))
-              Path'.refl)) d9
+              Syntax.w64) (Syntax.tcons (Syntax.tyInt Syntax.w64) Syntax.tnil))))) Syntax.tnil) (Syntax.ttcons (Syntax.tcons (Syntax.tyStruct (List._∷_ 116 (List._∷_ 121 (List._∷_
+              112 (List._∷_ 101 (List._∷_ 115 (List._∷_ 58 (List._∷_ 58 (List._∷_ 82 (List._∷_ 101 (List._∷_ 102 (List._∷_ 117 (List._∷_ 115 (List._∷_ 97 (List._∷_ 108
+              List.[])))))))))))))) (Syntax.tcons (Syntax.tyInt Syntax.w32) (Syntax.tcons (Syntax.tyInt Syntax.w64) Syntax.tnil))) Syntax.tnil) Syntax.ttnil))) Path'.refl)) d12
 
-          d11 : Typed.Typed 𝓤 H A 𝓣 E G23 b10 Δ0 at11
-          d11 = Typed.s-seq 𝓤 H A W 𝓣 E G23 G24 b8 b9 Δ0 (Typed.both s22) at10 (Plain.t-call-plain 𝓤 H A W 𝓣 3 ps·1 r·1 (claims· .2) (claims· .3) "header::parse::tell" (known .1) E
-              (λ pos β. β) G23 (
-                record { pos = 7; st = List.[]; d = 0; at = λ x. x },
+          d14 : Typed.Typed 𝓤 H A 𝓣 E G25 b11 Δ0 at14
+          d14 = Typed.s-seq 𝓤 H A W 𝓣 E G25 G26 b9 b10 Δ0 (Typed.both s24) at13 (Plain.t-call-plain 𝓤 H A W 𝓣 4 ps·1 r·1 (claims· .2) (claims· .3) "header::parse::tell" (known .1)
+              E (λ pos β. β) G25 (
+                record { pos = 8; st = List.[]; d = 0; at = λ x. x },
                 (
                   record {
-                    pos = 12;
+                    pos = 13;
                     ty = Syntax.tyRef Syntax.erased Syntax.mut (Syntax.tyInt Syntax.w64);
-                    ref
-                        = λ x. x;
+                    ref = λ x. x;
                   },
                   (
-                    record { pos = 13; ty = Syntax.tyRef Syntax.erased Syntax.mut (Syntax.tyInt Syntax.w64); ref = λ x. x },
+                    record { pos = 14; ty = Syntax.tyRef Syntax.erased Syntax.mut (Syntax.tyInt Syntax.w64); ref = λ x. x },
                     (
                       record {
-                        pos = 14;
+                        pos = 15;
                         ty = Syntax.tyRef
                             Syntax.erased Syntax.mut (Syntax.tyInt Syntax.w64);
                         ref = λ x. x;
                       },
-                      tt,
+                      (
+                        record {
+                          pos = 16;
+                          ty = Syntax.tyRef Syntax.erased Syntax.mut (Syntax.tyInt Syntax.w64);
+                          ref = λ
+                              x. x;
+                        },
+                        tt,
+                      ),
                     ),
                   ),
                 ),
-              ) 0 (List._∷_ 8 (List._∷_ 9 (List._∷_ 10 List.[]))) (Call.sub-id 𝓤 H A W (G23 .slots)) (
+              ) 0 (List._∷_ 9 (List._∷_ 10 (List._∷_ 11 (List._∷_ 12 List.[])))) (Call.sub-id 𝓤 H A W (G25 .slots)) (
                 (
-                  Yields.yields-copy 𝓤 H A W (λ ρ. Unit) (Declared.row MainHeader.the-type) Path'.refl (Copies.cEnum MainHeader.the-type Laws.the-laws Laws.the-copy .copy 𝓤 H A W)
-                      (Rows.whole (Declared.row MainHeader.the-type)) (λ x. x) (λ x. x) (λ ρ told. Local.mem-whole 𝓤 H A W (Declared.row MainHeader.the-type) ρ) λ ρ told. Local.whole-mem 𝓤
-                      H A W (Declared.row MainHeader.the-type) ρ,
+                  Yields.yields-copy 𝓤 H A W (λ ρ. Unit)
+                      (Declared.row MainHeader.the-type) Path'.refl (Copies.cEnum MainHeader.the-type Laws.the-laws Laws.the-copy .copy 𝓤 H A W) (Rows.whole (Declared.row
+                      MainHeader.the-type)) (λ x. x) (λ x. x) (λ ρ told. Local.mem-whole 𝓤 H A W (Declared.row MainHeader.the-type) ρ) λ ρ told. Local.whole-mem 𝓤 H A W (Declared.row
+                      MainHeader.the-type) ρ,
                   Path'.refl,
                 ),
                 (
-                  Reads.as-is 𝓤 H A (Rows.mref (Referent.rtF (Referent.fInt Syntax.w64)) (Syntax.tyRef Syntax.erased
-                      Syntax.mut (Syntax.tyInt Syntax.w64)) 8),
-                  Reads.reads-mref 𝓤 H A W (Referent.rtF (Referent.fInt Syntax.w64)) (Syntax.tyRef Syntax.erased Syntax.mut (Syntax.tyInt
-                      Syntax.w64)) 8,
+                  Reads.as-is 𝓤 H A (Rows.mref (Referent.rtF (Referent.fInt Syntax.w64)) (Syntax.tyRef Syntax.erased Syntax.mut (Syntax.tyInt
+                      Syntax.w64)) 9),
+                  Reads.reads-mref 𝓤 H A W (Referent.rtF (Referent.fInt Syntax.w64)) (Syntax.tyRef Syntax.erased Syntax.mut (Syntax.tyInt Syntax.w64)) 9,
                   Path'.refl,
                   (
-                    Reads.as-is 𝓤 H A (Rows.mref (Referent.rtF (Referent.fInt Syntax.w64)) (Syntax.tyRef Syntax.erased Syntax.mut (Syntax.tyInt Syntax.w64))
-                        9),
-                    Reads.reads-mref 𝓤 H A W (Referent.rtF (Referent.fInt Syntax.w64)) (Syntax.tyRef Syntax.erased Syntax.mut (Syntax.tyInt Syntax.w64)) 9,
+                    Reads.as-is 𝓤 H A (Rows.mref (Referent.rtF (Referent.fInt Syntax.w64)) (Syntax.tyRef Syntax.erased Syntax.mut (Syntax.tyInt Syntax.w64)) 10),
+                    Reads.reads-mref 𝓤 H A
+                        W (Referent.rtF (Referent.fInt Syntax.w64)) (Syntax.tyRef Syntax.erased Syntax.mut (Syntax.tyInt Syntax.w64)) 10,
                     Path'.refl,
                     (
-                      Reads.as-is 𝓤
-                          H A (Rows.mref (Referent.rtF (Referent.fInt Syntax.w64)) (Syntax.tyRef Syntax.erased Syntax.mut (Syntax.tyInt Syntax.w64)) 10),
-                      Reads.reads-mref 𝓤 H A W (Referent.rtF
-                          (Referent.fInt Syntax.w64)) (Syntax.tyRef Syntax.erased Syntax.mut (Syntax.tyInt Syntax.w64)) 10,
+                      Reads.as-is 𝓤 H A (Rows.mref
+                          (Referent.rtF (Referent.fInt Syntax.w64)) (Syntax.tyRef Syntax.erased Syntax.mut (Syntax.tyInt Syntax.w64)) 11),
+                      Reads.reads-mref 𝓤 H A W (Referent.rtF (Referent.fInt
+                          Syntax.w64)) (Syntax.tyRef Syntax.erased Syntax.mut (Syntax.tyInt Syntax.w64)) 11,
                       Path'.refl,
-                      tt,
+                      (
+                        Reads.as-is 𝓤 H A (Rows.mref (Referent.rtF (Referent.fInt Syntax.w64))
+                            (Syntax.tyRef Syntax.erased Syntax.mut (Syntax.tyInt Syntax.w64)) 12),
+                        Reads.reads-mref 𝓤 H A W (Referent.rtF (Referent.fInt Syntax.w64)) (Syntax.tyRef Syntax.erased
+                            Syntax.mut (Syntax.tyInt Syntax.w64)) 12,
+                        Path'.refl,
+                        tt,
+                      ),
                     ),
                   ),
                 ),
-              ) (Reads.room-gone 𝓤 H A (Syntax.tyInt Syntax.w32))
-              (tt, (tt, (tt, tt))) Path'.refl) d10
+              ) (Reads.room-gone 𝓤 H A (Syntax.tyInt Syntax.w32)) (tt, (tt, (tt, (tt, tt)))) Path'.refl) d13
 
-          d12 : Typed.Typed 𝓤 H A 𝓣 E G22 b11 Δ0 at12
-          d12 = Typed.s-seq 𝓤 H A W 𝓣 E G22 G23 b7 b10 Δ0 (Typed.give s21) at11 (Reborrow.t-mref-relend 𝓤 H A W E 𝓣 G22 6 14 5 10 (Referent.rtF (Referent.fInt Syntax.w64))
+          d15 : Typed.Typed 𝓤 H A 𝓣 E G24 b12 Δ0 at15
+          d15 = Typed.s-seq 𝓤 H A W 𝓣 E G24 G25 b8 b11 Δ0 (Typed.give s23) at14 (Reborrow.t-mref-relend 𝓤 H A W E 𝓣 G24 7 16 6 12 (Referent.rtF (Referent.fInt Syntax.w64))
+              (Syntax.tyInt Syntax.w64) (Syntax.tyRef (Syntax.named 6) Syntax.mut (Syntax.tyInt Syntax.w64)) (Syntax.tyRef Syntax.erased Syntax.mut (Syntax.tyInt Syntax.w64))
+              (Row.lease (κs .1 .1 .1 .1 .1 .1 .0) (qs .1 .1 .1 .1 .1 .1 .0)) (λ x. x) (Reads.as-is 𝓤 H A (Rows.mref (Referent.rtF (Referent.fInt Syntax.w64)) (Syntax.tyRef
+              (Syntax.named 6) Syntax.mut (Syntax.tyInt Syntax.w64)) 6)) (Reads.room-gone 𝓤 H A (Syntax.tyRef Syntax.erased Syntax.mut (Syntax.tyInt Syntax.w64))) Path'.refl tt
+              Path'.refl Path'.refl λ b o. tt) d14
+
+          d16 : Typed.Typed 𝓤 H A 𝓣 E G23 b12 Δ0 at16
+          d16 = Typed.g-pre 𝓤 H A W 𝓣 E G23 G24 b12 Δ0 (λ Ψ. Ψ) at15 (Lifetime.g-begin 𝓤 H A W E G23 12 (
+            tt,
+            (
+              tt,
+              (
+                tt,
+                (
+                  tt,
+                  (
+                    (tt, tt),
+                    (
+                      (tt, tt),
+                      (
+                        (tt, tt),
+                        (
+                          tt,
+                          (
+                            tt,
+                            (
+                              tt,
+                              (
+                                tt,
+                                (tt, (tt, (tt, (tt, (tt, (tt, tt)))))),
+                              ),
+                            ),
+                          ),
+                        ),
+                      ),
+                    ),
+                  ),
+                ),
+              ),
+            ),
+          )) d15
+
+          d17 : Typed.Typed 𝓤 H A 𝓣 E G22 b13 Δ0 at17
+          d17 = Typed.s-seq 𝓤 H A W 𝓣 E G22 G23 b7 b12 Δ0 (Typed.give s21) at16 (Reborrow.t-mref-relend 𝓤 H A W E 𝓣 G22 6 15 5 11 (Referent.rtF (Referent.fInt Syntax.w64))
               (Syntax.tyInt Syntax.w64) (Syntax.tyRef (Syntax.named 5) Syntax.mut (Syntax.tyInt Syntax.w64)) (Syntax.tyRef Syntax.erased Syntax.mut (Syntax.tyInt Syntax.w64))
               (Row.lease (κs .1 .1 .1 .1 .1 .0) (qs .1 .1 .1 .1 .1 .0)) (λ x. x) (Reads.as-is 𝓤 H A (Rows.mref (Referent.rtF (Referent.fInt Syntax.w64)) (Syntax.tyRef (Syntax.named
               5) Syntax.mut (Syntax.tyInt Syntax.w64)) 5)) (Reads.room-gone 𝓤 H A (Syntax.tyRef Syntax.erased Syntax.mut (Syntax.tyInt Syntax.w64))) Path'.refl tt Path'.refl
-              Path'.refl λ b o. tt) d11
+              Path'.refl λ b o. tt) d16
 
-          d13 : Typed.Typed 𝓤 H A 𝓣 E G21 b11 Δ0 at13
-          d13 = Typed.g-pre 𝓤 H A W 𝓣 E G21 G22 b11 Δ0 (λ Ψ. Ψ) at12 (Lifetime.g-begin 𝓤 H A W E G21 10 (
+          d18 : Typed.Typed 𝓤 H A 𝓣 E G21 b13 Δ0 at18
+          d18 = Typed.g-pre 𝓤 H A W 𝓣 E G21 G22 b13 Δ0 (λ Ψ. Ψ) at17 (Lifetime.g-begin 𝓤 H A W E G21 11 (
             tt,
             (
               tt,
@@ -2386,7 +2857,7 @@ module _ (claims· : Claims) where
                                   tt,
                                   (
                                     tt,
-                                    (tt, (tt, tt)),
+                                    (tt, (tt, (tt, (tt, tt)))),
                                   ),
                                 ),
                               ),
@@ -2399,17 +2870,17 @@ module _ (claims· : Claims) where
                 ),
               ),
             ),
-          )) d12
+          )) d17
 
-          d14 : Typed.Typed 𝓤 H A 𝓣 E G20 b12 Δ0 at14
-          d14 = Typed.s-seq 𝓤 H A W 𝓣 E G20 G21 b6 b11 Δ0 (Typed.give s19) at13 (Reborrow.t-mref-relend 𝓤 H A W E 𝓣 G20 5 13 4 9 (Referent.rtF (Referent.fInt Syntax.w64))
+          d19 : Typed.Typed 𝓤 H A 𝓣 E G20 b14 Δ0 at19
+          d19 = Typed.s-seq 𝓤 H A W 𝓣 E G20 G21 b6 b13 Δ0 (Typed.give s19) at18 (Reborrow.t-mref-relend 𝓤 H A W E 𝓣 G20 5 14 4 10 (Referent.rtF (Referent.fInt Syntax.w64))
               (Syntax.tyInt Syntax.w64) (Syntax.tyRef (Syntax.named 4) Syntax.mut (Syntax.tyInt Syntax.w64)) (Syntax.tyRef Syntax.erased Syntax.mut (Syntax.tyInt Syntax.w64))
               (Row.lease (κs .1 .1 .1 .1 .0) (qs .1 .1 .1 .1 .0)) (λ x. x) (Reads.as-is 𝓤 H A (Rows.mref (Referent.rtF (Referent.fInt Syntax.w64)) (Syntax.tyRef (Syntax.named 4)
               Syntax.mut (Syntax.tyInt Syntax.w64)) 4)) (Reads.room-gone 𝓤 H A (Syntax.tyRef Syntax.erased Syntax.mut (Syntax.tyInt Syntax.w64))) Path'.refl tt Path'.refl
-              Path'.refl λ b o. tt) d13
+              Path'.refl λ b o. tt) d18
 
-          d15 : Typed.Typed 𝓤 H A 𝓣 E G19 b12 Δ0 at15
-          d15 = Typed.g-pre 𝓤 H A W 𝓣 E G19 G20 b12 Δ0 (λ Ψ. Ψ) at14 (Lifetime.g-begin 𝓤 H A W E G19 9 (
+          d20 : Typed.Typed 𝓤 H A 𝓣 E G19 b14 Δ0 at20
+          d20 = Typed.g-pre 𝓤 H A W 𝓣 E G19 G20 b14 Δ0 (λ Ψ. Ψ) at19 (Lifetime.g-begin 𝓤 H A W E G19 10 (
             tt,
             (
               tt,
@@ -2437,7 +2908,7 @@ module _ (claims· : Claims) where
                                     tt,
                                     (
                                       tt,
-                                      (tt, tt),
+                                      (tt, (tt, (tt, tt))),
                                     ),
                                   ),
                                 ),
@@ -2451,17 +2922,17 @@ module _ (claims· : Claims) where
                 ),
               ),
             ),
-          )) d14
+          )) d19
 
-          d16 : Typed.Typed 𝓤 H A 𝓣 E G18 b13 Δ0 at16
-          d16 = Typed.s-seq 𝓤 H A W 𝓣 E G18 G19 b5 b12 Δ0 (Typed.give s17) at15 (Reborrow.t-mref-relend 𝓤 H A W E 𝓣 G18 4 12 3 8 (Referent.rtF (Referent.fInt Syntax.w64))
+          d21 : Typed.Typed 𝓤 H A 𝓣 E G18 b15 Δ0 at21
+          d21 = Typed.s-seq 𝓤 H A W 𝓣 E G18 G19 b5 b14 Δ0 (Typed.give s17) at20 (Reborrow.t-mref-relend 𝓤 H A W E 𝓣 G18 4 13 3 9 (Referent.rtF (Referent.fInt Syntax.w64))
               (Syntax.tyInt Syntax.w64) (Syntax.tyRef (Syntax.named 3) Syntax.mut (Syntax.tyInt Syntax.w64)) (Syntax.tyRef Syntax.erased Syntax.mut (Syntax.tyInt Syntax.w64))
               (Row.lease (κs .1 .1 .1 .0) (qs .1 .1 .1 .0)) (λ x. x) (Reads.as-is 𝓤 H A (Rows.mref (Referent.rtF (Referent.fInt Syntax.w64)) (Syntax.tyRef (Syntax.named 3)
               Syntax.mut (Syntax.tyInt Syntax.w64)) 3)) (Reads.room-gone 𝓤 H A (Syntax.tyRef Syntax.erased Syntax.mut (Syntax.tyInt Syntax.w64))) Path'.refl tt Path'.refl
-              Path'.refl λ b o. tt) d15
+              Path'.refl λ b o. tt) d20
 
-          d17 : Typed.Typed 𝓤 H A 𝓣 E G17 b13 Δ0 at17
-          d17 = Typed.g-pre 𝓤 H A W 𝓣 E G17 G18 b13 Δ0 (λ Ψ. Ψ) at16 (Lifetime.g-begin 𝓤 H A W E G17 8 (
+          d22 : Typed.Typed 𝓤 H A 𝓣 E G17 b15 Δ0 at22
+          d22 = Typed.g-pre 𝓤 H A W 𝓣 E G17 G18 b15 Δ0 (λ Ψ. Ψ) at21 (Lifetime.g-begin 𝓤 H A W E G17 9 (
             tt,
             (
               tt,
@@ -2491,7 +2962,7 @@ module _ (claims· : Claims) where
                                       tt,
                                       (
                                         tt,
-                                        tt,
+                                        (tt, (tt, tt)),
                                       ),
                                     ),
                                   ),
@@ -2506,40 +2977,40 @@ module _ (claims· : Claims) where
                 ),
               ),
             ),
-          )) d16
+          )) d21
 
-          d18 : Typed.Typed 𝓤 H A 𝓣 E G16 b13 Δ0 at18
-          d18 = Typed.g-pre 𝓤 H A W 𝓣 E G16 G17 b13 Δ0 (λ Ψ. Ψ) at17 (Lifetime.g-forget 𝓤 H A W E G16 7 Row.dead Path'.refl) d17
+          d23 : Typed.Typed 𝓤 H A 𝓣 E G16 b15 Δ0 at23
+          d23 = Typed.g-pre 𝓤 H A W 𝓣 E G16 G17 b15 Δ0 (λ Ψ. Ψ) at22 (Lifetime.g-forget 𝓤 H A W E G16 8 Row.dead Path'.refl) d22
 
-          d19 : Typed.Typed 𝓤 H A 𝓣 E G15 b13 Δ0 at19
-          d19 = Typed.g-pre 𝓤 H A W 𝓣 E G15 G16 b13 Δ0 (Typed.give s14) at18 (Know.g-sl-known 𝓤 H A W (Referent.fInt Syntax.w8) E G15 3 2 (Syntax.tyRef (Syntax.named 2) Syntax.mut
+          d24 : Typed.Typed 𝓤 H A 𝓣 E G15 b15 Δ0 at24
+          d24 = Typed.g-pre 𝓤 H A W 𝓣 E G15 G16 b15 Δ0 (Typed.give s14) at23 (Know.g-sl-known 𝓤 H A W (Referent.fInt Syntax.w8) E G15 3 2 (Syntax.tyRef (Syntax.named 2) Syntax.mut
               (Syntax.tyInt Syntax.w8)) (Row.lease (κs .1 .1 .0) (qs .1 .1 .0)) 0 (λ x. x) record { fits = Dec'.lit< tt } (Reads.as-is 𝓤 H A (Mut.mslice (Referent.rtF
-              (Referent.fInt Syntax.w8)) (Syntax.tyRef (Syntax.named 2) Syntax.mut (Syntax.tyInt Syntax.w8)) 2)) Path'.refl tt) d18
+              (Referent.fInt Syntax.w8)) (Syntax.tyRef (Syntax.named 2) Syntax.mut (Syntax.tyInt Syntax.w8)) 2)) Path'.refl tt) d23
 
-          d20 : Typed.Typed 𝓤 H A 𝓣 E G14 b13 Δ0 at20
-          d20 = Typed.g-pre 𝓤 H A W 𝓣 E G14 G15 b13 Δ0 (Typed.both s13) at19 (Relend.g-back-sl 𝓤 H A W E (Referent.rtF (Referent.fInt Syntax.w8)) G14 11 3 2 7 (Syntax.tyRef
+          d25 : Typed.Typed 𝓤 H A 𝓣 E G14 b15 Δ0 at25
+          d25 = Typed.g-pre 𝓤 H A W 𝓣 E G14 G15 b15 Δ0 (Typed.both s13) at24 (Relend.g-back-sl 𝓤 H A W E (Referent.rtF (Referent.fInt Syntax.w8)) G14 12 3 2 8 (Syntax.tyRef
               (Syntax.named 2) Syntax.mut (Syntax.tyInt Syntax.w8)) (Syntax.tyRef Syntax.erased Syntax.mut (Syntax.tyInt Syntax.w8)) (Row.lease (κs .1 .1 .0) (qs .1 .1 .0)) (λ x.
               x) (λ x. x) (Reads.as-is 𝓤 H A (Mut.msleft (Referent.rtF (Referent.fInt Syntax.w8)) (Syntax.tyRef Syntax.erased Syntax.mut (Syntax.tyInt Syntax.w8)))) (Reads.as-is 𝓤
-              H A (Relend.mslice-owed (Referent.rtF (Referent.fInt Syntax.w8)) (Syntax.tyRef (Syntax.named 2) Syntax.mut (Syntax.tyInt Syntax.w8)) 2 7 (Row.lease (κs .1 .1 .0) (qs
-              .1 .1 .0)))) Path'.refl Path'.refl) d19
+              H A (Relend.mslice-owed (Referent.rtF (Referent.fInt Syntax.w8)) (Syntax.tyRef (Syntax.named 2) Syntax.mut (Syntax.tyInt Syntax.w8)) 2 8 (Row.lease (κs .1 .1 .0) (qs
+              .1 .1 .0)))) Path'.refl Path'.refl) d24
 
-          d21 : Typed.Typed 𝓤 H A 𝓣 E G13 b13 Δ0 at21
-          d21 = Typed.g-pre 𝓤 H A W 𝓣 E G13 G14 b13 Δ0 (λ Ψ. Ψ) at20 (Lifetime.g-end 𝓤 H A W E G13 7 Path'.refl) d20
+          d26 : Typed.Typed 𝓤 H A 𝓣 E G13 b15 Δ0 at26
+          d26 = Typed.g-pre 𝓤 H A W 𝓣 E G13 G14 b15 Δ0 (λ Ψ. Ψ) at25 (Lifetime.g-end 𝓤 H A W E G13 8 Path'.refl) d25
 
-          d22 : Typed.Typed 𝓤 H A 𝓣 E G12 b13 Δ0 at22
-          d22 = Typed.g-pre 𝓤 H A W 𝓣 E G12 G13 b13 Δ0 (λ Ψ. Ψ) at21 (Lifetime.g-forget 𝓤 H A W E G12 6 Row.dead Path'.refl) d21
+          d27 : Typed.Typed 𝓤 H A 𝓣 E G12 b15 Δ0 at27
+          d27 = Typed.g-pre 𝓤 H A W 𝓣 E G12 G13 b15 Δ0 (λ Ψ. Ψ) at26 (Lifetime.g-forget 𝓤 H A W E G12 7 Row.dead Path'.refl) d26
 
-          d23 : Typed.Typed 𝓤 H A 𝓣 E G11 b13 Δ0 at23
-          d23 = Typed.g-pre 𝓤 H A W 𝓣 E G11 G12 b13 Δ0 (Typed.both s10) at22 (Relend.g-back-sl 𝓤 H A W E LentTilePartEntry.row G11 9 2 1 6 (Syntax.tyRef (Syntax.named 1) Syntax.mut
-              LentTilePartEntry.pointee) (Syntax.tyRef Syntax.erased Syntax.mut LentTilePartEntry.pointee) (Row.lease (κs .1 .0) (qs .1 .0)) (λ x. x) (λ x. x) (Reads.as-is 𝓤 H A
-              (Mut.msleft LentTilePartEntry.row (Syntax.tyRef Syntax.erased Syntax.mut LentTilePartEntry.pointee))) (Reads.as-is 𝓤 H A (Relend.mslice-owed LentTilePartEntry.row
-              (Syntax.tyRef (Syntax.named 1) Syntax.mut LentTilePartEntry.pointee) 1 6 (Row.lease (κs .1 .0) (qs .1 .0)))) Path'.refl Path'.refl) d22
+          d28 : Typed.Typed 𝓤 H A 𝓣 E G11 b15 Δ0 at28
+          d28 = Typed.g-pre 𝓤 H A W 𝓣 E G11 G12 b15 Δ0 (Typed.both s10) at27 (Relend.g-back-sl 𝓤 H A W E LentTilePartEntry.row G11 10 2 1 7 (Syntax.tyRef (Syntax.named 1)
+              Syntax.mut LentTilePartEntry.pointee) (Syntax.tyRef Syntax.erased Syntax.mut LentTilePartEntry.pointee) (Row.lease (κs .1 .0) (qs .1 .0)) (λ x. x) (λ x. x)
+              (Reads.as-is 𝓤 H A (Mut.msleft LentTilePartEntry.row (Syntax.tyRef Syntax.erased Syntax.mut LentTilePartEntry.pointee))) (Reads.as-is 𝓤 H A (Relend.mslice-owed
+              LentTilePartEntry.row (Syntax.tyRef (Syntax.named 1) Syntax.mut LentTilePartEntry.pointee) 1 7 (Row.lease (κs .1 .0) (qs .1 .0)))) Path'.refl Path'.refl) d27
 
-          d24 : Typed.Typed 𝓤 H A 𝓣 E G10 b13 Δ0 at24
-          d24 = Typed.g-pre 𝓤 H A W 𝓣 E G10 G11 b13 Δ0 (λ Ψ. Ψ) at23 (Lifetime.g-end 𝓤 H A W E G10 6 Path'.refl) d23
+          d29 : Typed.Typed 𝓤 H A 𝓣 E G10 b15 Δ0 at29
+          d29 = Typed.g-pre 𝓤 H A W 𝓣 E G10 G11 b15 Δ0 (λ Ψ. Ψ) at28 (Lifetime.g-end 𝓤 H A W E G10 7 Path'.refl) d28
 
-          d25 : Typed.Typed 𝓤 H A 𝓣 E G9 b14 Δ0 at25
-          d25 = Typed.s-seq 𝓤 H A W 𝓣 E G9 G10 b4 b13 Δ0 (Typed.both s8) at24 (Plain.t-call-plain 𝓤 H A W 𝓣 3 ps·0 r·0 (claims· .0) (claims· .1)
+          d30 : Typed.Typed 𝓤 H A 𝓣 E G9 b16 Δ0 at30
+          d30 = Typed.s-seq 𝓤 H A W 𝓣 E G9 G10 b4 b15 Δ0 (Typed.both s8) at29 (Plain.t-call-plain 𝓤 H A W 𝓣 3 ps·0 r·0 (claims· .0) (claims· .1)
               "records::main_header::parse_main_header" (known .0) E (λ pos β. β) G9 (
                 record {
                   pos = 1;
@@ -2548,10 +3019,10 @@ module _ (claims· : Claims) where
                       = λ x. x;
                 },
                 (
-                  record { pos = 9; ty = Syntax.tyRef Syntax.erased Syntax.mut LentTilePartEntry.pointee; ref = λ x. x },
+                  record { pos = 10; ty = Syntax.tyRef Syntax.erased Syntax.mut LentTilePartEntry.pointee; ref = λ x. x },
                   (
                     record {
-                      pos = 11;
+                      pos = 12;
                       ty = Syntax.tyRef
                           Syntax.erased Syntax.mut (Syntax.tyInt Syntax.w8);
                       ref = λ x. x;
@@ -2559,21 +3030,21 @@ module _ (claims· : Claims) where
                     tt,
                   ),
                 ),
-              ) 7 (List._∷_ 0 (List._∷_ 6 (List._∷_ 7 List.[]))) (Call.sub-id 𝓤 H A W (G9 .slots)) (
+              ) 8 (List._∷_ 0 (List._∷_ 7 (List._∷_ 8 List.[]))) (Call.sub-id 𝓤 H A W (G9 .slots)) (
                 ShrSlice.spares-sslice 𝓤 H A W (Referent.rtF (Referent.fInt Syntax.w8)) (Syntax.tyRef (Syntax.named 0) Syntax.imm (Syntax.tyInt Syntax.w8)) 0,
                 Shared.reads-sslice 𝓤
                     H A W (Referent.rtF (Referent.fInt Syntax.w8)) (Syntax.tyRef (Syntax.named 0) Syntax.imm (Syntax.tyInt Syntax.w8)) 0,
                 Path'.refl,
                 (
                   Reads.as-is 𝓤 H A (Mut.mslice
-                      LentTilePartEntry.row (Syntax.tyRef Syntax.erased Syntax.mut LentTilePartEntry.pointee) 6),
+                      LentTilePartEntry.row (Syntax.tyRef Syntax.erased Syntax.mut LentTilePartEntry.pointee) 7),
                   Mut.reads-mslice 𝓤 H A W LentTilePartEntry.row (Syntax.tyRef Syntax.erased
-                      Syntax.mut LentTilePartEntry.pointee) 6,
+                      Syntax.mut LentTilePartEntry.pointee) 7,
                   Path'.refl,
                   (
                     Reads.as-is 𝓤 H A (Mut.mslice (Referent.rtF (Referent.fInt Syntax.w8)) (Syntax.tyRef Syntax.erased Syntax.mut
-                        (Syntax.tyInt Syntax.w8)) 7),
-                    Mut.reads-mslice 𝓤 H A W (Referent.rtF (Referent.fInt Syntax.w8)) (Syntax.tyRef Syntax.erased Syntax.mut (Syntax.tyInt Syntax.w8)) 7,
+                        (Syntax.tyInt Syntax.w8)) 8),
+                    Mut.reads-mslice 𝓤 H A W (Referent.rtF (Referent.fInt Syntax.w8)) (Syntax.tyRef Syntax.erased Syntax.mut (Syntax.tyInt Syntax.w8)) 8,
                     Path'.refl,
                     tt,
                   ),
@@ -2586,31 +3057,31 @@ module _ (claims· : Claims) where
               (List._∷_ 73 (List._∷_ 110 (List._∷_ 102 (List._∷_ 111 List.[]))))))))))))))))))))))))))))) (Syntax.tcons (Syntax.tyStruct (List._∷_ 116 (List._∷_ 121 (List._∷_ 112
               (List._∷_ 101 (List._∷_ 115 (List._∷_ 58 (List._∷_ 58 (List._∷_ 67 (List._∷_ 111 (List._∷_ 100 (List._∷_ 101 (List._∷_ 115 (List._∷_ 116 (List._∷_ 114 (List._∷_ 101
               (List._∷_ 97 (List._∷_ 109 (List._∷_ 79 (List._∷_ 102 (List._∷_ 102 (List._∷_ 115 (List._∷_ 101 (List._∷_ 116 List.[]))))))))))))))))))))))) (Syntax.tcons
-              (Syntax.tyInt Syntax.w64) Syntax.tnil)) (Syntax.tcons (Syntax.tyInt Syntax.w64) (Syntax.tcons (Syntax.tyInt Syntax.w64) Syntax.tnil)))) Syntax.tnil) (Syntax.ttcons
-              (Syntax.tcons (Syntax.tyStruct (List._∷_ 116 (List._∷_ 121 (List._∷_ 112 (List._∷_ 101 (List._∷_ 115 (List._∷_ 58 (List._∷_ 58 (List._∷_ 82 (List._∷_ 101 (List._∷_
-              102 (List._∷_ 117 (List._∷_ 115 (List._∷_ 97 (List._∷_ 108 List.[])))))))))))))) (Syntax.tcons (Syntax.tyInt Syntax.w32) (Syntax.tcons (Syntax.tyInt Syntax.w64)
-              Syntax.tnil))) Syntax.tnil) Syntax.ttnil)))) (tt, (tt, (tt, tt))) Path'.refl) d24
+              (Syntax.tyInt Syntax.w64) Syntax.tnil)) (Syntax.tcons (Syntax.tyInt Syntax.w64) (Syntax.tcons (Syntax.tyInt Syntax.w64) (Syntax.tcons (Syntax.tyInt Syntax.w64)
+              Syntax.tnil))))) Syntax.tnil) (Syntax.ttcons (Syntax.tcons (Syntax.tyStruct (List._∷_ 116 (List._∷_ 121 (List._∷_ 112 (List._∷_ 101 (List._∷_ 115 (List._∷_ 58
+              (List._∷_ 58 (List._∷_ 82 (List._∷_ 101 (List._∷_ 102 (List._∷_ 117 (List._∷_ 115 (List._∷_ 97 (List._∷_ 108 List.[])))))))))))))) (Syntax.tcons (Syntax.tyInt
+              Syntax.w32) (Syntax.tcons (Syntax.tyInt Syntax.w64) Syntax.tnil))) Syntax.tnil) Syntax.ttnil)))) (tt, (tt, (tt, tt))) Path'.refl) d29
 
-          d26 : Typed.Typed 𝓤 H A 𝓣 E G8 b15 Δ0 at26
-          d26 = Typed.s-seq 𝓤 H A W 𝓣 E G8 G9 b3 b14 Δ0 (Typed.ask s7) at25 (Relend.t-sl-aggregate 𝓤 H A W E (Referent.rtF (Referent.fInt Syntax.w8)) 𝓣 (Relend.asMut (Referent.rtF
-              (Referent.fInt Syntax.w8))) G8 10 11 7 (Syntax.tyRef Syntax.erased Syntax.mut (Syntax.tyInt Syntax.w8)) (Syntax.tyRef Syntax.erased Syntax.mut (Syntax.tyInt
+          d31 : Typed.Typed 𝓤 H A 𝓣 E G8 b17 Δ0 at31
+          d31 = Typed.s-seq 𝓤 H A W 𝓣 E G8 G9 b3 b16 Δ0 (Typed.ask s7) at30 (Relend.t-sl-aggregate 𝓤 H A W E (Referent.rtF (Referent.fInt Syntax.w8)) 𝓣 (Relend.asMut (Referent.rtF
+              (Referent.fInt Syntax.w8))) G8 11 12 8 (Syntax.tyRef Syntax.erased Syntax.mut (Syntax.tyInt Syntax.w8)) (Syntax.tyRef Syntax.erased Syntax.mut (Syntax.tyInt
               Syntax.w8)) (λ x. x) (Scalar.oFld 3 (List._∷_ (Syntax.field 1) List.[]) (Syntax.tyInt Syntax.w64) 8 λ v. Shared.lenV (v .0)) (Reads.as-is 𝓤 H A (Relend.msptr
-              (Referent.rtF (Referent.fInt Syntax.w8)) (Syntax.tyRef Syntax.erased Syntax.mut (Syntax.tyInt Syntax.w8)) 7)) (Reads.room-gone 𝓤 H A (Syntax.tyStruct (List._∷_ 38
+              (Referent.rtF (Referent.fInt Syntax.w8)) (Syntax.tyRef Syntax.erased Syntax.mut (Syntax.tyInt Syntax.w8)) 8)) (Reads.room-gone 𝓤 H A (Syntax.tyStruct (List._∷_ 38
               (List._∷_ 91 (List._∷_ 93 List.[]))) (Syntax.tcons (Syntax.tyRef Syntax.erased Syntax.mut (Syntax.tyInt Syntax.w8)) (Syntax.tcons (Syntax.tyInt Syntax.w64)
               Syntax.tnil)))) (
-                Relend.reads-owed-len 𝓤 H A W (Referent.rtF (Referent.fInt Syntax.w8)) (Syntax.tyRef (Syntax.named 2) Syntax.mut (Syntax.tyInt Syntax.w8)) 2 7
+                Relend.reads-owed-len 𝓤 H A W (Referent.rtF (Referent.fInt Syntax.w8)) (Syntax.tyRef (Syntax.named 2) Syntax.mut (Syntax.tyInt Syntax.w8)) 2 8
                     (Row.lease (κs .1 .1 .0) (qs .1 .1 .0)) 8 Path'.refl,
                 Path'.refl,
-              ) Path'.refl Path'.refl λ b o k. tt) d25
+              ) Path'.refl Path'.refl λ b o k. tt) d30
 
-          d27 : Typed.Typed 𝓤 H A 𝓣 E G7 b16 Δ0 at27
-          d27 = Typed.s-seq 𝓤 H A W 𝓣 E G7 G8 b2 b15 Δ0 (Typed.give s6) at26 (Relend.t-sl-relend 𝓤 H A W E (Referent.rtF (Referent.fInt Syntax.w8)) 𝓣 G7 3 10 2 7 (Syntax.tyRef
+          d32 : Typed.Typed 𝓤 H A 𝓣 E G7 b18 Δ0 at32
+          d32 = Typed.s-seq 𝓤 H A W 𝓣 E G7 G8 b2 b17 Δ0 (Typed.give s6) at31 (Relend.t-sl-relend 𝓤 H A W E (Referent.rtF (Referent.fInt Syntax.w8)) 𝓣 G7 3 11 2 8 (Syntax.tyRef
               (Syntax.named 2) Syntax.mut (Syntax.tyInt Syntax.w8)) (Syntax.tyRef Syntax.erased Syntax.mut (Syntax.tyInt Syntax.w8)) (Row.lease (κs .1 .1 .0) (qs .1 .1 .0)) 0 (λ x.
               x) (Reads.as-is 𝓤 H A (Mut.mslice (Referent.rtF (Referent.fInt Syntax.w8)) (Syntax.tyRef (Syntax.named 2) Syntax.mut (Syntax.tyInt Syntax.w8)) 2)) (Reads.room-gone 𝓤
-              H A (Syntax.tyRef Syntax.erased Syntax.mut (Syntax.tyInt Syntax.w8))) Path'.refl tt Path'.refl Path'.refl Path'.refl λ b o. tt) d26
+              H A (Syntax.tyRef Syntax.erased Syntax.mut (Syntax.tyInt Syntax.w8))) Path'.refl tt Path'.refl Path'.refl Path'.refl λ b o. tt) d31
 
-          d28 : Typed.Typed 𝓤 H A 𝓣 E G6 b16 Δ0 at28
-          d28 = Typed.g-pre 𝓤 H A W 𝓣 E G6 G7 b16 Δ0 (λ Ψ. Ψ) at27 (Lifetime.g-begin 𝓤 H A W E G6 7 (
+          d33 : Typed.Typed 𝓤 H A 𝓣 E G6 b18 Δ0 at33
+          d33 = Typed.g-pre 𝓤 H A W 𝓣 E G6 G7 b18 Δ0 (λ Ψ. Ψ) at32 (Lifetime.g-begin 𝓤 H A W E G6 8 (
             tt,
             (
               tt,
@@ -2640,7 +3111,7 @@ module _ (claims· : Claims) where
                                       tt,
                                       (
                                         tt,
-                                        tt,
+                                        (tt, (tt, tt)),
                                       ),
                                     ),
                                   ),
@@ -2655,28 +3126,28 @@ module _ (claims· : Claims) where
                 ),
               ),
             ),
-          )) d27
+          )) d32
 
-          d29 : Typed.Typed 𝓤 H A 𝓣 E G5 b17 Δ0 at29
-          d29 = Typed.s-seq 𝓤 H A W 𝓣 E G5 G6 b1 b16 Δ0 (Typed.ask s4) at28 (Relend.t-sl-aggregate 𝓤 H A W E LentTilePartEntry.row 𝓣 (Relend.asMut LentTilePartEntry.row) G5 8 9 6
+          d34 : Typed.Typed 𝓤 H A 𝓣 E G5 b19 Δ0 at34
+          d34 = Typed.s-seq 𝓤 H A W 𝓣 E G5 G6 b1 b18 Δ0 (Typed.ask s4) at33 (Relend.t-sl-aggregate 𝓤 H A W E LentTilePartEntry.row 𝓣 (Relend.asMut LentTilePartEntry.row) G5 9 10 7
               (Syntax.tyRef Syntax.erased Syntax.mut LentTilePartEntry.pointee) (Syntax.tyRef Syntax.erased Syntax.mut LentTilePartEntry.pointee) (λ x. x) (Scalar.oFld 2 (List._∷_
               (Syntax.field 1) List.[]) (Syntax.tyInt Syntax.w64) 8 λ v. Shared.lenV (v .0)) (Reads.as-is 𝓤 H A (Relend.msptr LentTilePartEntry.row (Syntax.tyRef Syntax.erased
-              Syntax.mut LentTilePartEntry.pointee) 6)) (Reads.room-gone 𝓤 H A (Syntax.tyStruct (List._∷_ 38 (List._∷_ 91 (List._∷_ 93 List.[]))) (Syntax.tcons (Syntax.tyRef
+              Syntax.mut LentTilePartEntry.pointee) 7)) (Reads.room-gone 𝓤 H A (Syntax.tyStruct (List._∷_ 38 (List._∷_ 91 (List._∷_ 93 List.[]))) (Syntax.tcons (Syntax.tyRef
               Syntax.erased Syntax.mut LentTilePartEntry.pointee) (Syntax.tcons (Syntax.tyInt Syntax.w64) Syntax.tnil)))) (
                 Relend.reads-owed-len 𝓤 H A W LentTilePartEntry.row
-                    (Syntax.tyRef (Syntax.named 1) Syntax.mut LentTilePartEntry.pointee) 1 6 (Row.lease (κs .1 .0) (qs .1 .0)) 8 Path'.refl,
+                    (Syntax.tyRef (Syntax.named 1) Syntax.mut LentTilePartEntry.pointee) 1 7 (Row.lease (κs .1 .0) (qs .1 .0)) 8 Path'.refl,
                 Path'.refl,
               ) Path'.refl Path'.refl λ b o k.
-              tt) d28
+              tt) d33
 
-          d30 : Typed.Typed 𝓤 H A 𝓣 E G4 b18 Δ0 at30
-          d30 = Typed.s-seq 𝓤 H A W 𝓣 E G4 G5 b0 b17 Δ0 (Typed.give s3) at29 (Relend.t-sl-relend 𝓤 H A W E LentTilePartEntry.row 𝓣 G4 2 8 1 6 (Syntax.tyRef (Syntax.named 1)
+          d35 : Typed.Typed 𝓤 H A 𝓣 E G4 b20 Δ0 at35
+          d35 = Typed.s-seq 𝓤 H A W 𝓣 E G4 G5 b0 b19 Δ0 (Typed.give s3) at34 (Relend.t-sl-relend 𝓤 H A W E LentTilePartEntry.row 𝓣 G4 2 9 1 7 (Syntax.tyRef (Syntax.named 1)
               Syntax.mut LentTilePartEntry.pointee) (Syntax.tyRef Syntax.erased Syntax.mut LentTilePartEntry.pointee) (Row.lease (κs .1 .0) (qs .1 .0)) 0 (λ x. x) (Reads.as-is 𝓤 H
               A (Mut.mslice LentTilePartEntry.row (Syntax.tyRef (Syntax.named 1) Syntax.mut LentTilePartEntry.pointee) 1)) (Reads.room-gone 𝓤 H A (Syntax.tyRef Syntax.erased
-              Syntax.mut LentTilePartEntry.pointee)) Path'.refl tt Path'.refl Path'.refl Path'.refl λ b o. tt) d29
+              Syntax.mut LentTilePartEntry.pointee)) Path'.refl tt Path'.refl Path'.refl Path'.refl λ b o. tt) d34
 
-          d31 : Typed.Typed 𝓤 H A 𝓣 E G3 b18 Δ0 at31
-          d31 = Typed.g-pre 𝓤 H A W 𝓣 E G3 G4 b18 Δ0 (λ Ψ. Ψ) at30 (Lifetime.g-begin 𝓤 H A W E G3 6 (
+          d36 : Typed.Typed 𝓤 H A 𝓣 E G3 b20 Δ0 at36
+          d36 = Typed.g-pre 𝓤 H A W 𝓣 E G3 G4 b20 Δ0 (λ Ψ. Ψ) at35 (Lifetime.g-begin 𝓤 H A W E G3 7 (
             tt,
             (
               tt,
@@ -2706,7 +3177,10 @@ module _ (claims· : Claims) where
                                       tt,
                                       (
                                         tt,
-                                        tt,
+                                        (
+                                          tt,
+                                          (tt, tt),
+                                        ),
                                       ),
                                     ),
                                   ),
@@ -2721,46 +3195,47 @@ module _ (claims· : Claims) where
                 ),
               ),
             ),
-          )) d30
+          )) d35
 
-          d32 : Typed.Typed 𝓤 H A 𝓣 E G2 b18 Δ0 at32
-          d32 = Typed.g-pre 𝓤 H A W 𝓣 E G2 G3 b18 Δ0 (Typed.give s1) at31 (Know.g-sl-known 𝓤 H A W (Referent.fInt Syntax.w8) E G2 3 2 (Syntax.tyRef (Syntax.named 2) Syntax.mut
+          d37 : Typed.Typed 𝓤 H A 𝓣 E G2 b20 Δ0 at37
+          d37 = Typed.g-pre 𝓤 H A W 𝓣 E G2 G3 b20 Δ0 (Typed.give s1) at36 (Know.g-sl-known 𝓤 H A W (Referent.fInt Syntax.w8) E G2 3 2 (Syntax.tyRef (Syntax.named 2) Syntax.mut
               (Syntax.tyInt Syntax.w8)) (Row.lease (κs .1 .1 .0) (qs .1 .1 .0)) 0 (λ x. x) record { fits = Dec'.lit< tt } (Reads.as-is 𝓤 H A (Mut.mslice (Referent.rtF
-              (Referent.fInt Syntax.w8)) (Syntax.tyRef (Syntax.named 2) Syntax.mut (Syntax.tyInt Syntax.w8)) 2)) Path'.refl tt) d31
+              (Referent.fInt Syntax.w8)) (Syntax.tyRef (Syntax.named 2) Syntax.mut (Syntax.tyInt Syntax.w8)) 2)) Path'.refl tt) d36
 
-          d33 : Typed.Typed 𝓤 H A 𝓣 E G0 b18 Δ0 at33
-          d33 = Typed.g-pre 𝓤 H A W 𝓣 E G0 G2 b18 Δ0 (Typed.give s0) at32 (Know.g-shs-known 𝓤 H A W (Referent.fInt Syntax.w8) E G0 1 0 (Syntax.tyRef (Syntax.named 0) Syntax.imm
+          d38 : Typed.Typed 𝓤 H A 𝓣 E G0 b20 Δ0 at38
+          d38 = Typed.g-pre 𝓤 H A W 𝓣 E G0 G2 b20 Δ0 (Typed.give s0) at37 (Know.g-shs-known 𝓤 H A W (Referent.fInt Syntax.w8) E G0 1 0 (Syntax.tyRef (Syntax.named 0) Syntax.imm
               (Syntax.tyInt Syntax.w8)) (Row.lease (κs .0) (qs .0)) 0 (λ x. x) record { fits = Dec'.lit< tt } (Reads.as-is 𝓤 H A (Rows.sslice (Referent.rtF (Referent.fInt
-              Syntax.w8)) (Syntax.tyRef (Syntax.named 0) Syntax.imm (Syntax.tyInt Syntax.w8)) 0)) Path'.refl tt) d32
+              Syntax.w8)) (Syntax.tyRef (Syntax.named 0) Syntax.imm (Syntax.tyInt Syntax.w8)) 0)) Path'.refl tt) d37
 
-          pub typed : Typed.Typed 𝓤 H A 𝓣 E (Function.Γin 6 ps r xs m κs qs) b18 (Function.Δret 6 ps r xs m κs qs) Φ
-          typed = d33
+          pub typed : Typed.Typed 𝓤 H A 𝓣 E (Function.Γin 7 ps r xs m κs qs) b20 (Function.Δret 7 ps r xs m κs qs) Φ
+          typed = d38
 
-      module _ (κs : Lifetimes.Lfts 6) where
+      module _ (κs : Lifetimes.Lfts 7) where
         pub record Args : Type 0 where
-          pub codestream : Kinds.Den {n = 6} κs (ShrSlice.pShrS (Referent.rtF (Referent.fInt Syntax.w8)) 0 tt)
-          pub table : Kinds.Den {n = 6} κs (MutSlice.pMutS LentTilePartEntry.row 1 tt)
-          pub out : Kinds.Den {n = 6} κs (MutSlice.pMutS (Referent.rtF (Referent.fInt Syntax.w8)) 2 tt)
-          pub first-sot : Kinds.Den {n = 6} κs (Kinds.pMutF (Referent.fInt Syntax.w64) 3 tt)
-          pub decode-length : Kinds.Den {n = 6} κs (Kinds.pMutF (Referent.fInt Syntax.w64) 4 tt)
-          pub entries : Kinds.Den {n = 6} κs (Kinds.pMutF (Referent.fInt Syntax.w64) 5 tt)
+          pub codestream : Kinds.Den {n = 7} κs (ShrSlice.pShrS (Referent.rtF (Referent.fInt Syntax.w8)) 0 tt)
+          pub table : Kinds.Den {n = 7} κs (MutSlice.pMutS LentTilePartEntry.row 1 tt)
+          pub out : Kinds.Den {n = 7} κs (MutSlice.pMutS (Referent.rtF (Referent.fInt Syntax.w8)) 2 tt)
+          pub first-sot : Kinds.Den {n = 7} κs (Kinds.pMutF (Referent.fInt Syntax.w64) 3 tt)
+          pub decode-length : Kinds.Den {n = 7} κs (Kinds.pMutF (Referent.fInt Syntax.w64) 4 tt)
+          pub entries : Kinds.Den {n = 7} κs (Kinds.pMutF (Referent.fInt Syntax.w64) 5 tt)
+          pub fillers : Kinds.Den {n = 7} κs (Kinds.pMutF (Referent.fInt Syntax.w64) 6 tt)
 
         abbrev pub dens : (a : Args) → Kinds.Dens κs ps
-        dens = λ a. (a .codestream, (a .table, (a .out, (a .first-sot, (a .decode-length, (a .entries, tt))))))
+        dens = λ a. (a .codestream, (a .table, (a .out, (a .first-sot, (a .decode-length, (a .entries, (a .fillers, tt)))))))
 
-      abbrev pub m0 : (κs : Lifetimes.Lfts 6) → (args : Args κs) → Typed.Mo T0
+      abbrev pub m0 : (κs : Lifetimes.Lfts 7) → (args : Args κs) → Typed.Mo T0
       m0 = λ κs args. (tt, Enter.partsP κs 1 ps xs (dens κs args))
 
-      abbrev W0 : (κs : Lifetimes.Lfts 6) → (args : Args κs) → Typed.Want O0
+      abbrev W0 : (κs : Lifetimes.Lfts 7) → (args : Args κs) → Typed.Want O0
       W0 = λ κs args. (
         λ u. ⊥,
         tt,
-        λ u. Enter.Fixs κs 1 ps xs (dens κs args) (u .1) × Post· κs (dens κs args) (Function.resV r κs (u .0)) (Clauses.atExit (Kinds.endedOf 6 ps r) κs
+        λ u. Enter.Fixs κs 1 ps xs (dens κs args) (u .1) × Post· κs (dens κs args) (Function.resV r κs (u .0)) (Clauses.atExit (Kinds.endedOf 7 ps r) κs
             (dens κs args) (Enter.lastsP κs 1 ps xs (dens κs args) (u .1))),
       )
 
       pub record Start : Type 0 where
-        pub κs : Lifetimes.Lfts 6
+        pub κs : Lifetimes.Lfts 7
         pub args : Args κs
         pub good : Kinds.GoodsP κs ps (dens κs args)
         pub pre : Pre· κs (dens κs args)
@@ -2831,10 +3306,10 @@ module _ (claims· : Claims) where
                 x;
           },
           (
-            record { pos = 9; ty = Syntax.tyRef Syntax.erased Syntax.mut LentTilePartEntry.pointee; ref = λ x. x },
+            record { pos = 10; ty = Syntax.tyRef Syntax.erased Syntax.mut LentTilePartEntry.pointee; ref = λ x. x },
             (
               record {
-                pos = 11;
+                pos = 12;
                 ty = Syntax.tyRef Syntax.erased
                     Syntax.mut (Syntax.tyInt Syntax.w8);
                 ref = λ x. x;
@@ -2857,10 +3332,10 @@ module _ (claims· : Claims) where
               x. x;
         },
         (
-          record { pos = 9; ty = Syntax.tyRef Syntax.erased Syntax.mut LentTilePartEntry.pointee; ref = λ x. x },
+          record { pos = 10; ty = Syntax.tyRef Syntax.erased Syntax.mut LentTilePartEntry.pointee; ref = λ x. x },
           (
             record {
-              pos = 11;
+              pos = 12;
               ty = Syntax.tyRef Syntax.erased
                   Syntax.mut (Syntax.tyInt Syntax.w8);
               ref = λ x. x;
@@ -2936,92 +3411,125 @@ module _ (claims· : Claims) where
         pub before : After-tell-arg2
         pub tell-arg3 : After-tell-arg3·own before
 
-      abbrev pub Need-tell-requires : Type 0
-      Need-tell-requires = (c : After-tell-arg3) → s22 .asks (m13 (c .before) (c .tell-arg3 .given))
-
-      abbrev pub m14 : (before : After-tell-arg3) → (given : s22 .gives (m13 (before .before) (before .tell-arg3 .given))) → Typed.Mo T24
-      m14 = λ before given. s22 .next (m13 (before .before) (before .tell-arg3 .given)) given
+      abbrev pub m14 : (before : After-tell-arg3) → (given : s23 .gives (m13 (before .before) (before .tell-arg3 .given))) → Typed.Mo T25
+      m14 = λ before given. s23 .next (m13 (before .before) (before .tell-arg3 .given)) given
 
       module _ (before· : After-tell-arg3) where
+        pub record After-tell-arg4·own : Type 0 where
+          pub given : s23 .gives (m13 (before· .before) (before· .tell-arg3 .given))
+
+      pub record After-tell-arg4 : Type 0 where
+        pub before : After-tell-arg3
+        pub tell-arg4 : After-tell-arg4·own before
+
+      abbrev pub Need-tell-requires : Type 0
+      Need-tell-requires = (c : After-tell-arg4) → s24 .asks (m14 (c .before) (c .tell-arg4 .given))
+
+      abbrev pub m15 : (before : After-tell-arg4) → (given : s24 .gives (m14 (before .before) (before .tell-arg4 .given))) → Typed.Mo T26
+      m15 = λ before given. s24 .next (m14 (before .before) (before .tell-arg4 .given)) given
+
+      module _ (before· : After-tell-arg4) where
         abbrev pub After-tell·own : Type 0
-        After-tell·own = Called.Called ps·1 r·1 (claims· .3) T23 (
-          record { pos = 7; st = List.[]; d = 0; at = λ x. x },
+        After-tell·own = Called.Called ps·1 r·1 (claims· .3) T25 (
+          record { pos = 8; st = List.[]; d = 0; at = λ x. x },
           (
             record {
-              pos = 12;
+              pos = 13;
               ty = Syntax.tyRef Syntax.erased
                   Syntax.mut (Syntax.tyInt Syntax.w64);
               ref = λ x. x;
             },
             (
-              record { pos = 13; ty = Syntax.tyRef Syntax.erased Syntax.mut (Syntax.tyInt Syntax.w64); ref = λ x. x },
-              (record { pos = 14; ty = Syntax.tyRef Syntax.erased Syntax.mut (Syntax.tyInt Syntax.w64); ref = λ x. x }, tt),
+              record { pos = 14; ty = Syntax.tyRef Syntax.erased Syntax.mut (Syntax.tyInt Syntax.w64); ref = λ x. x },
+              (
+                record { pos = 15; ty = Syntax.tyRef Syntax.erased Syntax.mut (Syntax.tyInt Syntax.w64); ref = λ x. x },
+                (
+                  record {
+                    pos = 16;
+                    ty = Syntax.tyRef Syntax.erased
+                        Syntax.mut (Syntax.tyInt Syntax.w64);
+                    ref = λ x. x;
+                  },
+                  tt,
+                ),
+              ),
             ),
           ),
-        ) (m13 (before· .before) (before· .tell-arg3 .given))
+        ) (m14 (before· .before) (before· .tell-arg4 .given))
 
       pub record After-tell : Type 0 where
-        pub before : After-tell-arg3
+        pub before : After-tell-arg4
         pub tell : After-tell·own before
 
-      abbrev pub After-tell·gave : (c : After-tell) → s22 .gives (m13 (c .before .before) (c .before .tell-arg3 .given))
-      After-tell·gave = λ c. Called.given ps·1 r·1 (claims· .3) T23 (
-        record { pos = 7; st = List.[]; d = 0; at = λ x. x },
+      abbrev pub After-tell·gave : (c : After-tell) → s24 .gives (m14 (c .before .before) (c .before .tell-arg4 .given))
+      After-tell·gave = λ c. Called.given ps·1 r·1 (claims· .3) T25 (
+        record { pos = 8; st = List.[]; d = 0; at = λ x. x },
         (
           record {
-            pos = 12;
+            pos = 13;
             ty = Syntax.tyRef Syntax.erased
                 Syntax.mut (Syntax.tyInt Syntax.w64);
             ref = λ x. x;
           },
           (
-            record { pos = 13; ty = Syntax.tyRef Syntax.erased Syntax.mut (Syntax.tyInt Syntax.w64); ref = λ x. x },
+            record { pos = 14; ty = Syntax.tyRef Syntax.erased Syntax.mut (Syntax.tyInt Syntax.w64); ref = λ x. x },
             (
               record
-                  { pos = 14; ty = Syntax.tyRef Syntax.erased Syntax.mut (Syntax.tyInt Syntax.w64); ref = λ x. x },
-              tt,
+                  { pos = 15; ty = Syntax.tyRef Syntax.erased Syntax.mut (Syntax.tyInt Syntax.w64); ref = λ x. x },
+              (
+                record {
+                  pos = 16;
+                  ty = Syntax.tyRef Syntax.erased Syntax.mut
+                      (Syntax.tyInt Syntax.w64);
+                  ref = λ x. x;
+                },
+                tt,
+              ),
             ),
           ),
         ),
-      ) (m13 (c .before .before) (c .before .tell-arg3 .given)) (c
-          .tell)
+      ) (m14 (c .before .before) (c .before .tell-arg4 .given)) (c .tell)
 
-      abbrev pub m15 : (before : After-tell-arg3) → (given : s22 .gives (m13 (before .before) (before .tell-arg3 .given))) → Typed.Mo T25
-      m15 = λ before given. s23 (m14 before given)
+      abbrev pub m16 : (before : After-tell-arg4) → (given : s24 .gives (m14 (before .before) (before .tell-arg4 .given))) → Typed.Mo T27
+      m16 = λ before given. s25 (m15 before given)
 
-      abbrev pub m16 : (before : After-tell-arg3) → (given : s22 .gives (m13 (before .before) (before .tell-arg3 .given))) → Typed.Mo T27
-      m16 = λ before given. s25 .next (m15 before given)
+      abbrev pub m17 : (before : After-tell-arg4) → (given : s24 .gives (m14 (before .before) (before .tell-arg4 .given))) → Typed.Mo T29
+      m17 = λ before given. s27 .next (m16 before given)
 
-      abbrev pub m17 : (before : After-tell-arg3) → (given : s22 .gives (m13 (before .before) (before .tell-arg3 .given))) → Typed.Mo T30
-      m17 = λ before given. s28 .next (m16 before given)
+      abbrev pub m18 : (before : After-tell-arg4) → (given : s24 .gives (m14 (before .before) (before .tell-arg4 .given))) → Typed.Mo T32
+      m18 = λ before given. s30 .next (m17 before given)
 
-      abbrev pub m18 : (before : After-tell-arg3) → (given : s22 .gives (m13 (before .before) (before .tell-arg3 .given))) → Typed.Mo T33
-      m18 = λ before given. s31 .next (m17 before given)
+      abbrev pub m19 : (before : After-tell-arg4) → (given : s24 .gives (m14 (before .before) (before .tell-arg4 .given))) → Typed.Mo T35
+      m19 = λ before given. s33 .next (m18 before given)
+
+      abbrev pub m20 : (before : After-tell-arg4) → (given : s24 .gives (m14 (before .before) (before .tell-arg4 .given))) → Typed.Mo T38
+      m20 = λ before given. s36 .next (m19 before given)
 
       abbrev pub Need-same-length : Type 0
-      Need-same-length = (c : After-tell) → MutSlice.SameLen (Row.get 2 (T33 .locals) (m18 (c .before) (After-tell·gave c))) (dens (c .before .before .before .before .before
-          .before .before .before .before .before .before .before .κs) (c .before .before .before .before .before .before .before .before .before .before .before .before .args) .1
-          .0)
+      Need-same-length = (c : After-tell) → MutSlice.SameLen (Row.get 2 (T38 .locals) (m20 (c .before) (After-tell·gave c))) (dens (c .before .before .before .before .before
+          .before .before .before .before .before .before .before .before .κs) (c .before .before .before .before .before .before .before .before .before .before .before .before
+          .before .args) .1 .0)
 
       abbrev pub Need-same-length-2 : Type 0
-      Need-same-length-2 = (c : After-tell) → MutSlice.SameLen (Row.get 3 (T33 .locals) (m18 (c .before) (After-tell·gave c))) (dens (c .before .before .before .before .before
-          .before .before .before .before .before .before .before .κs) (c .before .before .before .before .before .before .before .before .before .before .before .before .args) .1
-          .1 .0)
+      Need-same-length-2 = (c : After-tell) → MutSlice.SameLen (Row.get 3 (T38 .locals) (m20 (c .before) (After-tell·gave c))) (dens (c .before .before .before .before .before
+          .before .before .before .before .before .before .before .before .κs) (c .before .before .before .before .before .before .before .before .before .before .before .before
+          .before .args) .1 .1 .0)
 
       abbrev pub Need-returns : Type 0
-      Need-returns = (c : After-tell) → Post· (c .before .before .before .before .before .before .before .before .before .before .before .before .κs) (dens (c .before .before
-          .before .before .before .before .before .before .before .before .before .before .κs) (c .before .before .before .before .before .before .before .before .before .before
-          .before .before .args)) (Function.resV r (c .before .before .before .before .before .before .before .before .before .before .before .before .κs) (m18 (c .before)
-          (After-tell·gave c) .0)) (Clauses.atExit (Kinds.endedOf 6 ps r) (c .before .before .before .before .before .before .before .before .before .before .before .before .κs)
-          (dens (c .before .before .before .before .before .before .before .before .before .before .before .before .κs) (c .before .before .before .before .before .before .before
-          .before .before .before .before .before .args)) (Enter.lastsP (c .before .before .before .before .before .before .before .before .before .before .before .before .κs) 1 ps
-          xs (dens (c .before .before .before .before .before .before .before .before .before .before .before .before .κs) (c .before .before .before .before .before .before
-          .before .before .before .before .before .before .args)) (m18 (c .before) (After-tell·gave c) .1)))
+      Need-returns = (c : After-tell) → Post· (c .before .before .before .before .before .before .before .before .before .before .before .before .before .κs) (dens (c .before
+          .before .before .before .before .before .before .before .before .before .before .before .before .κs) (c .before .before .before .before .before .before .before .before
+          .before .before .before .before .before .args)) (Function.resV r (c .before .before .before .before .before .before .before .before .before .before .before .before
+          .before .κs) (m20 (c .before) (After-tell·gave c) .0)) (Clauses.atExit (Kinds.endedOf 7 ps r) (c .before .before .before .before .before .before .before .before .before
+          .before .before .before .before .κs) (dens (c .before .before .before .before .before .before .before .before .before .before .before .before .before .κs) (c .before
+          .before .before .before .before .before .before .before .before .before .before .before .before .args)) (Enter.lastsP (c .before .before .before .before .before .before
+          .before .before .before .before .before .before .before .κs) 1 ps xs (dens (c .before .before .before .before .before .before .before .before .before .before .before
+          .before .before .κs) (c .before .before .before .before .before .before .before .before .before .before .before .before .before .args)) (m20 (c .before) (After-tell·gave
+          c) .1)))
 
       module _ (parse-main-header-requires : Need-parse-main-header-requires) (tell-requires : Need-tell-requires) (same-length : Need-same-length) (same-length-2 :
           Need-same-length-2) (returns : Need-returns) where
-        lay2 : (c : After-tell) → at10 (W0 (c .before .before .before .before .before .before .before .before .before .before .before .before .κs) (c .before .before .before
-            .before .before .before .before .before .before .before .before .before .args)) (m14 (c .before) (After-tell·gave c))
+        lay2 : (c : After-tell) → at13 (W0 (c .before .before .before .before .before .before .before .before .before .before .before .before .before .κs) (c .before .before
+            .before .before .before .before .before .before .before .before .before .before .before .args)) (m15 (c .before) (After-tell·gave c))
         lay2 = λ c. (
           Path'.refl,
           (
@@ -3029,133 +3537,143 @@ module _ (claims· : Claims) where
             (
               Path'.refl,
               (
+                Path'.refl,
                 (
-                  Path'.refl,
                   (
-                    MutSlice.fix-len (Row.get 2 (T33 .locals) (m18 (c .before) (After-tell·gave c)) .ptr) (Row.get 2 (T33
-                        .locals) (m18 (c .before) (After-tell·gave c)) .name) (Row.get 2 (T33 .locals) (m18 (c .before) (After-tell·gave c)) .now) (dens (c .before .before .before .before
-                        .before .before .before .before .before .before .before .before .κs) (c .before .before .before .before .before .before .before .before .before .before .before .before
-                        .args) .1 .0 .now) (same-length record { before = c .before; tell = c .tell }),
+                    Path'.refl,
                     (
-                      MutSlice.fix-len (Row.get 3 (T33 .locals) (m18 (c .before) (After-tell·gave c)) .ptr)
-                          (Row.get 3 (T33 .locals) (m18 (c .before) (After-tell·gave c)) .name) (Row.get 3 (T33 .locals) (m18 (c .before) (After-tell·gave c)) .now) (dens (c .before .before
-                          .before .before .before .before .before .before .before .before .before .before .κs) (c .before .before .before .before .before .before .before .before .before .before
-                          .before .before .args) .1 .1 .0 .now) (same-length-2 record { before = c .before; tell = c .tell }),
-                      (Path'.refl, (Path'.refl, (Path'.refl, tt))),
+                      MutSlice.fix-len (Row.get 2 (T38 .locals) (m20 (c .before) (After-tell·gave c)) .ptr)
+                          (Row.get 2 (T38 .locals) (m20 (c .before) (After-tell·gave c)) .name) (Row.get 2 (T38 .locals) (m20 (c .before) (After-tell·gave c)) .now) (dens (c .before .before
+                          .before .before .before .before .before .before .before .before .before .before .before .κs) (c .before .before .before .before .before .before .before .before .before
+                          .before .before .before .before .args) .1 .0 .now) (same-length record { before = c .before; tell = c .tell }),
+                      (
+                        MutSlice.fix-len (Row.get 3 (T38 .locals) (m20 (c
+                            .before) (After-tell·gave c)) .ptr) (Row.get 3 (T38 .locals) (m20 (c .before) (After-tell·gave c)) .name) (Row.get 3 (T38 .locals) (m20 (c .before) (After-tell·gave c))
+                            .now) (dens (c .before .before .before .before .before .before .before .before .before .before .before .before .before .κs) (c .before .before .before .before .before
+                            .before .before .before .before .before .before .before .before .args) .1 .1 .0 .now) (same-length-2 record { before = c .before; tell = c .tell }),
+                        (
+                          Path'.refl,
+                          (Path'.refl, (Path'.refl, (Path'.refl, tt))),
+                        ),
+                      ),
                     ),
                   ),
+                  returns record { before = c .before; tell = c .tell },
                 ),
-                returns record {
-                  before = c .before;
-                  tell = c .tell;
-                },
               ),
             ),
           ),
         )
 
-        lay1 : (c : After-parse-main-header) → at24 (W0 (c .before .before .before .before .before .κs) (c .before .before .before .before .before .args)) (m7 (c .before)
+        lay1 : (c : After-parse-main-header) → at29 (W0 (c .before .before .before .before .before .κs) (c .before .before .before .before .before .args)) (m7 (c .before)
             (After-parse-main-header·gave c))
         lay1 = λ c. (
           Path'.refl,
           λ g. (
             Path'.refl,
-            λ g'. λ g''. λ g'3. λ g'4. λ g'5. (
+            λ g'. λ g''. λ g'3. λ g'4. λ g'5. λ g'6. (
               tell-requires record {
                 before = record {
                   before = record {
                     before = record {
-                      before = record {
-                        before = record { before = record { before = c .before; parse-main-header = c .parse-main-header }; table = record { given = g } };
-                        out = record { given = g' };
-                      };
-                      slice-known2 = record { given = g'' };
+                      before =
+                          record {
+                            before = record {
+                              before = record { before = record { before = c .before; parse-main-header = c .parse-main-header }; table = record { given = g } };
+                              out =
+                                  record { given = g' };
+                            };
+                            slice-known2 = record { given = g'' };
+                          };
+                      tell-arg = record { given = g'3 };
                     };
-                    tell-arg = record { given = g'3 };
+                    tell-arg2 = record { given = g'4 };
                   };
-                  tell-arg2 = record { given = g'4 };
+                  tell-arg3 = record {
+                    given = g'5;
+                  };
                 };
-                tell-arg3 = record { given = g'5 };
+                tell-arg4 = record { given = g'6 };
               },
-              λ g'6.
-                  lay2 record {
+              λ g'7. lay2 record {
+                before = record {
+                  before = record {
                     before = record {
                       before = record {
                         before = record {
                           before = record {
-                            before = record {
-                              before = record {
-                                before = record {
-                                  before = c .before;
-                                  parse-main-header = c .parse-main-header;
-                                };
-                                table = record { given = g };
-                              };
-                              out = record { given = g' };
+                            before = record { before = record { before = c .before; parse-main-header = c .parse-main-header }; table = record { given = g } };
+                            out = record {
+                              given = g';
                             };
-                            slice-known2 = record { given = g'' };
-                          };
-                          tell-arg =
-                              record { given = g'3 };
-                        };
-                        tell-arg2 = record { given = g'4 };
-                      };
-                      tell-arg3 = record { given = g'5 };
-                    };
-                    tell = Called.called ps·1 r·1 (claims· .3) T23 (
-                      record {
-                        pos =
-                            7;
-                        st = List.[];
-                        d = 0;
-                        at = λ x. x;
-                      },
-                      (
-                        record { pos = 12; ty = Syntax.tyRef Syntax.erased Syntax.mut (Syntax.tyInt Syntax.w64); ref = λ x. x },
-                        (
-                          record {
-                            pos = 13;
-                            ty
-                                = Syntax.tyRef Syntax.erased Syntax.mut (Syntax.tyInt Syntax.w64);
-                            ref = λ x. x;
-                          },
-                          (
-                            record {
-                              pos = 14;
-                              ty = Syntax.tyRef Syntax.erased Syntax.mut (Syntax.tyInt
-                                  Syntax.w64);
-                              ref = λ x. x;
-                            },
-                            tt,
-                          ),
-                        ),
-                      ),
-                    ) (m13 record {
-                      before = record {
-                        before = record {
-                          before = record {
-                            before = record {
-                              before = record {
-                                before = c .before;
-                                parse-main-header = c .parse-main-header;
-                              };
-                              table = record { given = g };
-                            };
-                            out = record { given = g' };
                           };
                           slice-known2 = record { given = g'' };
                         };
-                        tell-arg =
-                            record { given = g'3 };
+                        tell-arg = record { given = g'3 };
                       };
                       tell-arg2 = record { given = g'4 };
-                    } g'5) g'6;
-                  },
+                    };
+                    tell-arg3 = record {
+                      given = g'5;
+                    };
+                  };
+                  tell-arg4 = record { given = g'6 };
+                };
+                tell = Called.called ps·1 r·1 (claims· .3) T25 (
+                  record { pos = 8; st = List.[]; d = 0; at = λ x. x },
+                  (
+                    record {
+                      pos = 13;
+                      ty = Syntax.tyRef Syntax.erased Syntax.mut (Syntax.tyInt Syntax.w64);
+                      ref = λ x. x;
+                    },
+                    (
+                      record {
+                        pos = 14;
+                        ty = Syntax.tyRef Syntax.erased Syntax.mut (Syntax.tyInt
+                            Syntax.w64);
+                        ref = λ x. x;
+                      },
+                      (
+                        record { pos = 15; ty = Syntax.tyRef Syntax.erased Syntax.mut (Syntax.tyInt Syntax.w64); ref = λ x. x },
+                        (
+                          record {
+                            pos = 16;
+                            ty =
+                                Syntax.tyRef Syntax.erased Syntax.mut (Syntax.tyInt Syntax.w64);
+                            ref = λ x. x;
+                          },
+                          tt,
+                        ),
+                      ),
+                    ),
+                  ),
+                ) (m14 record {
+                  before = record {
+                    before = record {
+                      before = record {
+                        before =
+                            record {
+                              before = record { before = record { before = c .before; parse-main-header = c .parse-main-header }; table = record { given = g } };
+                              out = record {
+                                given = g';
+                              };
+                            };
+                        slice-known2 = record { given = g'' };
+                      };
+                      tell-arg = record { given = g'3 };
+                    };
+                    tell-arg2 = record { given = g'4 };
+                  };
+                  tell-arg3 = record { given = g'5 };
+                } g'6)
+                    g'7;
+              },
             ),
           ),
         )
 
-        pub laid : (c : Start) → at33 (W0 (c .κs) (c .args)) (m0 (c .κs) (c .args))
+        pub laid : (c : Start) → at38 (W0 (c .κs) (c .args)) (m0 (c .κs) (c .args))
         laid = λ c. λ g. λ g'. λ g''. (
           Path'.refl,
           λ g'3. (
@@ -3194,14 +3712,13 @@ module _ (claims· : Claims) where
                       record { pos = 1; ty = Syntax.tyRef (Syntax.named 0) Syntax.imm (Syntax.tyInt Syntax.w8); ref = λ x. x },
                       (
                         record {
-                          pos = 9;
-                          ty
-                              = Syntax.tyRef Syntax.erased Syntax.mut LentTilePartEntry.pointee;
+                          pos = 10;
+                          ty = Syntax.tyRef Syntax.erased Syntax.mut LentTilePartEntry.pointee;
                           ref = λ x. x;
                         },
                         (
                           record {
-                            pos = 11;
+                            pos = 12;
                             ty = Syntax.tyRef Syntax.erased Syntax.mut (Syntax.tyInt
                                 Syntax.w8);
                             ref = λ x. x;
@@ -3223,9 +3740,9 @@ module _ (claims· : Claims) where
           ),
         )
 
-        module _ (κs : Lifetimes.Lfts 6) (qs : Lifetimes.Shares 6) where
-          pub asked : (a : Kinds.Dens κs ps) → (good : Kinds.GoodsP κs ps a) → (pre : Pre· κs a) → (bs : List.List Nat.ℕ) → Φ (Any.wantQ 6 ps r xs m κs qs a (Post· κs a))
-              (Function.init 6 ps r xs m κs qs a)
+        module _ (κs : Lifetimes.Lfts 7) (qs : Lifetimes.Shares 7) where
+          pub asked : (a : Kinds.Dens κs ps) → (good : Kinds.GoodsP κs ps a) → (pre : Pre· κs a) → (bs : List.List Nat.ℕ) → Φ (Any.wantQ 7 ps r xs m κs qs a (Post· κs a))
+              (Function.init 7 ps r xs m κs qs a)
           asked = λ a good pre bs. laid record {
             κs = κs;
             args = record {
@@ -3236,12 +3753,13 @@ module _ (claims· : Claims) where
               decode-length = a .1 .1
                   .1 .1 .0;
               entries = a .1 .1 .1 .1 .1 .0;
+              fillers = a .1 .1 .1 .1 .1 .1 .0;
             };
             good = good;
             pre = pre;
           }
 
         module _ {M : Type 1} (𝓤 : URA.URA M) (H : Wp.Heap 𝓤) (A : Atoms.Atoms 𝓤) (W : Kit.Given 𝓤 H A) (𝓣 : Wp.Tables 𝓤 H) (known0 : Plain.Known 𝓤 H A W 𝓣 3 ps·0 r·0 (claims· .0)
-            (claims· .1) "records::main_header::parse_main_header") (known1 : Plain.Known 𝓤 H A W 𝓣 3 ps·1 r·1 (claims· .2) (claims· .3) "header::parse::tell") where
-          pub spec : Statement.Triple 𝓤 (Wp.WpFn 𝓤 H (𝓣 .C) (𝓣 .Λ) (Function.fnOf 6 ps r xs m hs body)) (Function.plainOf 𝓤 H A 6 ps r Pre· Post·)
-          spec = Plain.t-fn-plain 𝓤 H A W 𝓣 6 ps r xs m hs body (λ κs qs bs. Φ) (λ κs qs bs bd. typed κs qs 𝓤 H A W 𝓣 (known0, known1) bs bd) Pre· Post· asked
+            (claims· .1) "records::main_header::parse_main_header") (known1 : Plain.Known 𝓤 H A W 𝓣 4 ps·1 r·1 (claims· .2) (claims· .3) "header::parse::tell") where
+          pub spec : Statement.Triple 𝓤 (Wp.WpFn 𝓤 H (𝓣 .C) (𝓣 .Λ) (Function.fnOf 7 ps r xs m hs body)) (Function.plainOf 𝓤 H A 7 ps r Pre· Post·)
+          spec = Plain.t-fn-plain 𝓤 H A W 𝓣 7 ps r xs m hs body (λ κs qs bs. Φ) (λ κs qs bs bd. typed κs qs 𝓤 H A W 𝓣 (known0, known1) bs bd) Pre· Post· asked

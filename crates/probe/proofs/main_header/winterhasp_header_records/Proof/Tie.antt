@@ -51,6 +51,9 @@ After-tell-arg2 = Lts.After-tell-arg2 (Reads''.Asked, Reads''.Learnt, Reads.Aske
 abbrev pub After-tell-arg3 : Type 0
 After-tell-arg3 = Lts.After-tell-arg3 (Reads''.Asked, Reads''.Learnt, Reads.Asked, Reads.Learnt) Reads'.Pre Reads'.Post
 
+abbrev pub After-tell-arg4 : Type 0
+After-tell-arg4 = Lts.After-tell-arg4 (Reads''.Asked, Reads''.Learnt, Reads.Asked, Reads.Learnt) Reads'.Pre Reads'.Post
+
 abbrev pub After-tell : Type 0
 After-tell = Lts.After-tell (Reads''.Asked, Reads''.Learnt, Reads.Asked, Reads.Learnt) Reads'.Pre Reads'.Post
 
@@ -77,7 +80,7 @@ module _ {M : Type 1} where
 
   pub close : Lts.Closed (Reads''.Asked, Reads''.Learnt, Reads.Asked, Reads.Learnt) Reads'.Pre Reads'.Post M → Statement.statement M
   unfolding Code.routine Running.tablesOf
-  close = λ closed 𝓤 H 𝓜 𝓖 𝓡. Written.close 6 Kinds.ps Kinds.r Reads'.Ghost Reads'.requires Reads'.ensures Reads'.pre-read Reads'.Pinned Reads'.Owned Reads'.post-read record {
+  close = λ closed 𝓤 H 𝓜 𝓖 𝓡. Written.close 7 Kinds.ps Kinds.r Reads'.Ghost Reads'.requires Reads'.ensures Reads'.pre-read Reads'.Pinned Reads'.Owned Reads'.post-read record {
     M =
         M;
     𝓤 = 𝓤;

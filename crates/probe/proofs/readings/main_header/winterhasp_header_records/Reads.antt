@@ -16,27 +16,27 @@ use mathlib.Core.Path as Path'
 abbrev pub Ghost : Type 0
 Ghost = Unit {0}
 
-module _ (κs : Lifetimes.Lfts 6) where
+module _ (κs : Lifetimes.Lfts 7) where
   abbrev pub Pinned : (a : World.ArgsD winterhasp_header_records.signature κs) → (w : World.World) → Type 1
   Pinned = Learn.no-pin winterhasp_header_records.signature κs
 
-  abbrev pub Owned : (r : World.ResD winterhasp_header_records.signature κs) → (s : Clauses.AtExit (Kinds'.endedOf 6 Kinds.ps Kinds.r) κs) → (w : World.World) → Type 1
-  Owned = Learn.no-own (Kinds'.endedOf 6 Kinds.ps Kinds.r) κs
+  abbrev pub Owned : (r : World.ResD winterhasp_header_records.signature κs) → (s : Clauses.AtExit (Kinds'.endedOf 7 Kinds.ps Kinds.r) κs) → (w : World.World) → Type 1
+  Owned = Learn.no-own (Kinds'.endedOf 7 Kinds.ps Kinds.r) κs
 
   abbrev pub Base : (a : World.ArgsD winterhasp_header_records.signature κs) → (w : World.World) → World.Pr w
-  Base = Written.Base 6 Kinds.ps Kinds.r (λ κs. Pinned) κs
+  Base = Written.Base 7 Kinds.ps Kinds.r (λ κs. Pinned) κs
 
   abbrev pub pins : (w : World.World) → Learn.PinOf winterhasp_header_records.signature κs w λ a. Pinned a w
   pins = λ w. Learn.no-pins winterhasp_header_records.signature κs w
 
-  abbrev pub owns : (w : World.World) → Learn.OwnOf (Kinds'.endedOf 6 Kinds.ps Kinds.r) (Kinds'.stays Kinds.ps) κs w λ r s. Owned r s w
-  owns = λ w. Learn.no-owns (Kinds'.endedOf 6 Kinds.ps Kinds.r) (Kinds'.stays Kinds.ps) κs w
+  abbrev pub owns : (w : World.World) → Learn.OwnOf (Kinds'.endedOf 7 Kinds.ps Kinds.r) (Kinds'.stays Kinds.ps) κs w λ r s. Owned r s w
+  owns = λ w. Learn.no-owns (Kinds'.endedOf 7 Kinds.ps Kinds.r) (Kinds'.stays Kinds.ps) κs w
 
   abbrev pub requires : (a : World.ArgsD winterhasp_header_records.signature κs) → (g : Ghost) → (w : World.World) → World.Pr w
   requires = λ a g w. winterhasp_header_records.clauses (w .𝓤) (w .H) (w .𝓖 .A) (w .𝓜 .mem) (w .𝓡 .run) κs a .requires g
 
   abbrev pub ensures : (a : World.ArgsD winterhasp_header_records.signature κs) → (g : Ghost) → (r : World.ResD winterhasp_header_records.signature κs) → (s : Clauses.AtExit
-      (Kinds'.endedOf 6 Kinds.ps Kinds.r) κs) → (w : World.World) → World.Pr w
+      (Kinds'.endedOf 7 Kinds.ps Kinds.r) κs) → (w : World.World) → World.Pr w
   ensures = λ a g r s w. winterhasp_header_records.clauses (w .𝓤) (w .H) (w .𝓖 .A) (w .𝓜 .mem) (w .𝓡 .run) κs a .ensures g r s
 
   abbrev pub pre-read : (a : World.ArgsD winterhasp_header_records.signature κs) → (g : Ghost) → Read.Read (World.In winterhasp_header_records.signature κs a) Read.no-know
@@ -44,261 +44,414 @@ module _ (κs : Lifetimes.Lfts 6) where
   pre-read = λ a g. Read.all-models (requires a g) (λ w. search Read.reads) (λ w. Path'.refl) (λ w. Path'.refl) λ w. Path'.refl
 
   abbrev pub ensures-1·read : (a : World.ArgsD winterhasp_header_records.signature κs) → (g : Ghost) → (r : World.ResD winterhasp_header_records.signature κs) → (s : Clauses.AtExit
-      (Kinds'.endedOf 6 Kinds.ps Kinds.r) κs) → Read.Read (Base a) (Owned r s) λ w. winterhasp_header_records.ensures-1 (w .𝓤) (w .H) κs (w .𝓖 .A) (w .𝓜 .mem) (w .𝓡 .run) (a .0) (a
-      .1 .0) (a .1 .1 .0) (a .1 .1 .1 .0) (a .1 .1 .1 .1 .0) (a .1 .1 .1 .1 .1 .0) record { entry = a .0; exit = s .0 } record { entry = a .1 .0; exit = s .1 .0 } record {
-        entry =
-            a .1 .1 .0;
+      (Kinds'.endedOf 7 Kinds.ps Kinds.r) κs) → Read.Read (Base a) (Owned r s) λ w. winterhasp_header_records.ensures-1 (w .𝓤) (w .H) κs (w .𝓖 .A) (w .𝓜 .mem) (w .𝓡 .run) (a .0) (a
+      .1 .0) (a .1 .1 .0) (a .1 .1 .1 .0) (a .1 .1 .1 .1 .0) (a .1 .1 .1 .1 .1 .0) (a .1 .1 .1 .1 .1 .1 .0) record { entry = a .0; exit = s .0 } record {
+        entry = a .1 .0;
+        exit = s
+            .1 .0;
+      } record { entry = a .1 .1 .0; exit = s .1 .1 .0 } record { entry = a .1 .1 .1 .0; exit = s .1 .1 .1 .0 } record { entry = a .1 .1 .1 .1 .0; exit = s .1 .1 .1 .1 .0 }
+      record { entry = a .1 .1 .1 .1 .1 .0; exit = s .1 .1 .1 .1 .1 .0 } record { entry = a .1 .1 .1 .1 .1 .1 .0; exit = s .1 .1 .1 .1 .1 .1 .0 } r
+  ensures-1·read = λ a g r s. Read.all-models (λ w. winterhasp_header_records.ensures-1 (w .𝓤) (w .H) κs (w .𝓖 .A) (w .𝓜 .mem) (w .𝓡 .run) (a .0) (a .1 .0) (a .1 .1 .0) (a .1 .1 .1
+      .0) (a .1 .1 .1 .1 .0) (a .1 .1 .1 .1 .1 .0) (a .1 .1 .1 .1 .1 .1 .0) record { entry = a .0; exit = s .0 } record { entry = a .1 .0; exit = s .1 .0 } record {
+        entry = a .1 .1
+            .0;
         exit = s .1 .1 .0;
       } record { entry = a .1 .1 .1 .0; exit = s .1 .1 .1 .0 } record { entry = a .1 .1 .1 .1 .0; exit = s .1 .1 .1 .1 .0 } record {
-        entry = a .1 .1
-            .1 .1 .1 .0;
+        entry = a .1 .1 .1 .1 .1
+            .0;
         exit = s .1 .1 .1 .1 .1 .0;
-      } r
-  ensures-1·read = λ a g r s. Read.all-models (λ w. winterhasp_header_records.ensures-1 (w .𝓤) (w .H) κs (w .𝓖 .A) (w .𝓜 .mem) (w .𝓡 .run) (a .0) (a .1 .0) (a .1 .1 .0) (a .1 .1 .1
-      .0) (a .1 .1 .1 .1 .0) (a .1 .1 .1 .1 .1 .0) record { entry = a .0; exit = s .0 } record { entry = a .1 .0; exit = s .1 .0 } record { entry = a .1 .1 .0; exit = s .1 .1 .0 }
-      record { entry = a .1 .1 .1 .0; exit = s .1 .1 .1 .0 } record { entry = a .1 .1 .1 .1 .0; exit = s .1 .1 .1 .1 .0 } record {
-        entry = a .1 .1 .1 .1 .1 .0;
-        exit = s .1 .1 .1 .1
-            .1 .0;
-      } r) (λ w. search Read.reads) (λ w. Path'.refl) (λ w. Path'.refl) λ w. Path'.refl
+      } record { entry = a .1 .1 .1 .1 .1 .1 .0; exit = s .1 .1 .1 .1 .1 .1 .0 } r) (λ w. search Read.reads) (λ w. Path'.refl) (λ w. Path'.refl) λ w.
+      Path'.refl
 
   abbrev pub ensures-2·read : (a : World.ArgsD winterhasp_header_records.signature κs) → (g : Ghost) → (r : World.ResD winterhasp_header_records.signature κs) → (s : Clauses.AtExit
-      (Kinds'.endedOf 6 Kinds.ps Kinds.r) κs) → Read.Read (Base a) (Owned r s) λ w. winterhasp_header_records.ensures-2 (w .𝓤) (w .H) κs (w .𝓖 .A) (w .𝓜 .mem) (w .𝓡 .run) (a .0) (a
-      .1 .0) (a .1 .1 .0) (a .1 .1 .1 .0) (a .1 .1 .1 .1 .0) (a .1 .1 .1 .1 .1 .0) record { entry = a .0; exit = s .0 } record { entry = a .1 .0; exit = s .1 .0 } record {
-        entry =
-            a .1 .1 .0;
+      (Kinds'.endedOf 7 Kinds.ps Kinds.r) κs) → Read.Read (Base a) (Owned r s) λ w. winterhasp_header_records.ensures-2 (w .𝓤) (w .H) κs (w .𝓖 .A) (w .𝓜 .mem) (w .𝓡 .run) (a .0) (a
+      .1 .0) (a .1 .1 .0) (a .1 .1 .1 .0) (a .1 .1 .1 .1 .0) (a .1 .1 .1 .1 .1 .0) (a .1 .1 .1 .1 .1 .1 .0) record { entry = a .0; exit = s .0 } record {
+        entry = a .1 .0;
+        exit = s
+            .1 .0;
+      } record { entry = a .1 .1 .0; exit = s .1 .1 .0 } record { entry = a .1 .1 .1 .0; exit = s .1 .1 .1 .0 } record { entry = a .1 .1 .1 .1 .0; exit = s .1 .1 .1 .1 .0 }
+      record { entry = a .1 .1 .1 .1 .1 .0; exit = s .1 .1 .1 .1 .1 .0 } record { entry = a .1 .1 .1 .1 .1 .1 .0; exit = s .1 .1 .1 .1 .1 .1 .0 } r
+  ensures-2·read = λ a g r s. Read.all-models (λ w. winterhasp_header_records.ensures-2 (w .𝓤) (w .H) κs (w .𝓖 .A) (w .𝓜 .mem) (w .𝓡 .run) (a .0) (a .1 .0) (a .1 .1 .0) (a .1 .1 .1
+      .0) (a .1 .1 .1 .1 .0) (a .1 .1 .1 .1 .1 .0) (a .1 .1 .1 .1 .1 .1 .0) record { entry = a .0; exit = s .0 } record { entry = a .1 .0; exit = s .1 .0 } record {
+        entry = a .1 .1
+            .0;
         exit = s .1 .1 .0;
       } record { entry = a .1 .1 .1 .0; exit = s .1 .1 .1 .0 } record { entry = a .1 .1 .1 .1 .0; exit = s .1 .1 .1 .1 .0 } record {
-        entry = a .1 .1
-            .1 .1 .1 .0;
+        entry = a .1 .1 .1 .1 .1
+            .0;
         exit = s .1 .1 .1 .1 .1 .0;
-      } r
-  ensures-2·read = λ a g r s. Read.all-models (λ w. winterhasp_header_records.ensures-2 (w .𝓤) (w .H) κs (w .𝓖 .A) (w .𝓜 .mem) (w .𝓡 .run) (a .0) (a .1 .0) (a .1 .1 .0) (a .1 .1 .1
-      .0) (a .1 .1 .1 .1 .0) (a .1 .1 .1 .1 .1 .0) record { entry = a .0; exit = s .0 } record { entry = a .1 .0; exit = s .1 .0 } record { entry = a .1 .1 .0; exit = s .1 .1 .0 }
-      record { entry = a .1 .1 .1 .0; exit = s .1 .1 .1 .0 } record { entry = a .1 .1 .1 .1 .0; exit = s .1 .1 .1 .1 .0 } record {
-        entry = a .1 .1 .1 .1 .1 .0;
-        exit = s .1 .1 .1 .1
-            .1 .0;
-      } r) (λ w. search Read.reads) (λ w. Path'.refl) (λ w. Path'.refl) λ w. Path'.refl
+      } record { entry = a .1 .1 .1 .1 .1 .1 .0; exit = s .1 .1 .1 .1 .1 .1 .0 } r) (λ w. search Read.reads) (λ w. Path'.refl) (λ w. Path'.refl) λ w.
+      Path'.refl
 
   abbrev pub ensures-3·read : (a : World.ArgsD winterhasp_header_records.signature κs) → (g : Ghost) → (r : World.ResD winterhasp_header_records.signature κs) → (s : Clauses.AtExit
-      (Kinds'.endedOf 6 Kinds.ps Kinds.r) κs) → Read.Read (Base a) (Owned r s) λ w. winterhasp_header_records.ensures-3 (w .𝓤) (w .H) κs (w .𝓖 .A) (w .𝓜 .mem) (w .𝓡 .run) (a .0) (a
-      .1 .0) (a .1 .1 .0) (a .1 .1 .1 .0) (a .1 .1 .1 .1 .0) (a .1 .1 .1 .1 .1 .0) record { entry = a .0; exit = s .0 } record { entry = a .1 .0; exit = s .1 .0 } record {
-        entry =
-            a .1 .1 .0;
+      (Kinds'.endedOf 7 Kinds.ps Kinds.r) κs) → Read.Read (Base a) (Owned r s) λ w. winterhasp_header_records.ensures-3 (w .𝓤) (w .H) κs (w .𝓖 .A) (w .𝓜 .mem) (w .𝓡 .run) (a .0) (a
+      .1 .0) (a .1 .1 .0) (a .1 .1 .1 .0) (a .1 .1 .1 .1 .0) (a .1 .1 .1 .1 .1 .0) (a .1 .1 .1 .1 .1 .1 .0) record { entry = a .0; exit = s .0 } record {
+        entry = a .1 .0;
+        exit = s
+            .1 .0;
+      } record { entry = a .1 .1 .0; exit = s .1 .1 .0 } record { entry = a .1 .1 .1 .0; exit = s .1 .1 .1 .0 } record { entry = a .1 .1 .1 .1 .0; exit = s .1 .1 .1 .1 .0 }
+      record { entry = a .1 .1 .1 .1 .1 .0; exit = s .1 .1 .1 .1 .1 .0 } record { entry = a .1 .1 .1 .1 .1 .1 .0; exit = s .1 .1 .1 .1 .1 .1 .0 } r
+  ensures-3·read = λ a g r s. Read.all-models (λ w. winterhasp_header_records.ensures-3 (w .𝓤) (w .H) κs (w .𝓖 .A) (w .𝓜 .mem) (w .𝓡 .run) (a .0) (a .1 .0) (a .1 .1 .0) (a .1 .1 .1
+      .0) (a .1 .1 .1 .1 .0) (a .1 .1 .1 .1 .1 .0) (a .1 .1 .1 .1 .1 .1 .0) record { entry = a .0; exit = s .0 } record { entry = a .1 .0; exit = s .1 .0 } record {
+        entry = a .1 .1
+            .0;
         exit = s .1 .1 .0;
       } record { entry = a .1 .1 .1 .0; exit = s .1 .1 .1 .0 } record { entry = a .1 .1 .1 .1 .0; exit = s .1 .1 .1 .1 .0 } record {
-        entry = a .1 .1
-            .1 .1 .1 .0;
+        entry = a .1 .1 .1 .1 .1
+            .0;
         exit = s .1 .1 .1 .1 .1 .0;
-      } r
-  ensures-3·read = λ a g r s. Read.all-models (λ w. winterhasp_header_records.ensures-3 (w .𝓤) (w .H) κs (w .𝓖 .A) (w .𝓜 .mem) (w .𝓡 .run) (a .0) (a .1 .0) (a .1 .1 .0) (a .1 .1 .1
-      .0) (a .1 .1 .1 .1 .0) (a .1 .1 .1 .1 .1 .0) record { entry = a .0; exit = s .0 } record { entry = a .1 .0; exit = s .1 .0 } record { entry = a .1 .1 .0; exit = s .1 .1 .0 }
-      record { entry = a .1 .1 .1 .0; exit = s .1 .1 .1 .0 } record { entry = a .1 .1 .1 .1 .0; exit = s .1 .1 .1 .1 .0 } record {
-        entry = a .1 .1 .1 .1 .1 .0;
-        exit = s .1 .1 .1 .1
-            .1 .0;
-      } r) (λ w. search Read.reads) (λ w. Path'.refl) (λ w. Path'.refl) λ w. Path'.refl
+      } record { entry = a .1 .1 .1 .1 .1 .1 .0; exit = s .1 .1 .1 .1 .1 .1 .0 } r) (λ w. search Read.reads) (λ w. Path'.refl) (λ w. Path'.refl) λ w.
+      Path'.refl
 
   abbrev pub ensures-4·read : (a : World.ArgsD winterhasp_header_records.signature κs) → (g : Ghost) → (r : World.ResD winterhasp_header_records.signature κs) → (s : Clauses.AtExit
-      (Kinds'.endedOf 6 Kinds.ps Kinds.r) κs) → Read.Read (Base a) (Owned r s) λ w. winterhasp_header_records.ensures-4 (w .𝓤) (w .H) κs (w .𝓖 .A) (w .𝓜 .mem) (w .𝓡 .run) (a .0) (a
-      .1 .0) (a .1 .1 .0) (a .1 .1 .1 .0) (a .1 .1 .1 .1 .0) (a .1 .1 .1 .1 .1 .0) record { entry = a .0; exit = s .0 } record { entry = a .1 .0; exit = s .1 .0 } record {
-        entry =
-            a .1 .1 .0;
+      (Kinds'.endedOf 7 Kinds.ps Kinds.r) κs) → Read.Read (Base a) (Owned r s) λ w. winterhasp_header_records.ensures-4 (w .𝓤) (w .H) κs (w .𝓖 .A) (w .𝓜 .mem) (w .𝓡 .run) (a .0) (a
+      .1 .0) (a .1 .1 .0) (a .1 .1 .1 .0) (a .1 .1 .1 .1 .0) (a .1 .1 .1 .1 .1 .0) (a .1 .1 .1 .1 .1 .1 .0) record { entry = a .0; exit = s .0 } record {
+        entry = a .1 .0;
+        exit = s
+            .1 .0;
+      } record { entry = a .1 .1 .0; exit = s .1 .1 .0 } record { entry = a .1 .1 .1 .0; exit = s .1 .1 .1 .0 } record { entry = a .1 .1 .1 .1 .0; exit = s .1 .1 .1 .1 .0 }
+      record { entry = a .1 .1 .1 .1 .1 .0; exit = s .1 .1 .1 .1 .1 .0 } record { entry = a .1 .1 .1 .1 .1 .1 .0; exit = s .1 .1 .1 .1 .1 .1 .0 } r
+  ensures-4·read = λ a g r s. Read.all-models (λ w. winterhasp_header_records.ensures-4 (w .𝓤) (w .H) κs (w .𝓖 .A) (w .𝓜 .mem) (w .𝓡 .run) (a .0) (a .1 .0) (a .1 .1 .0) (a .1 .1 .1
+      .0) (a .1 .1 .1 .1 .0) (a .1 .1 .1 .1 .1 .0) (a .1 .1 .1 .1 .1 .1 .0) record { entry = a .0; exit = s .0 } record { entry = a .1 .0; exit = s .1 .0 } record {
+        entry = a .1 .1
+            .0;
         exit = s .1 .1 .0;
       } record { entry = a .1 .1 .1 .0; exit = s .1 .1 .1 .0 } record { entry = a .1 .1 .1 .1 .0; exit = s .1 .1 .1 .1 .0 } record {
-        entry = a .1 .1
-            .1 .1 .1 .0;
+        entry = a .1 .1 .1 .1 .1
+            .0;
         exit = s .1 .1 .1 .1 .1 .0;
-      } r
-  ensures-4·read = λ a g r s. Read.all-models (λ w. winterhasp_header_records.ensures-4 (w .𝓤) (w .H) κs (w .𝓖 .A) (w .𝓜 .mem) (w .𝓡 .run) (a .0) (a .1 .0) (a .1 .1 .0) (a .1 .1 .1
-      .0) (a .1 .1 .1 .1 .0) (a .1 .1 .1 .1 .1 .0) record { entry = a .0; exit = s .0 } record { entry = a .1 .0; exit = s .1 .0 } record { entry = a .1 .1 .0; exit = s .1 .1 .0 }
-      record { entry = a .1 .1 .1 .0; exit = s .1 .1 .1 .0 } record { entry = a .1 .1 .1 .1 .0; exit = s .1 .1 .1 .1 .0 } record {
-        entry = a .1 .1 .1 .1 .1 .0;
-        exit = s .1 .1 .1 .1
-            .1 .0;
-      } r) (λ w. search Read.reads) (λ w. Path'.refl) (λ w. Path'.refl) λ w. Path'.refl
+      } record { entry = a .1 .1 .1 .1 .1 .1 .0; exit = s .1 .1 .1 .1 .1 .1 .0 } r) (λ w. search Read.reads) (λ w. Path'.refl) (λ w. Path'.refl) λ w.
+      Path'.refl
 
   abbrev pub ensures-5·read : (a : World.ArgsD winterhasp_header_records.signature κs) → (g : Ghost) → (r : World.ResD winterhasp_header_records.signature κs) → (s : Clauses.AtExit
-      (Kinds'.endedOf 6 Kinds.ps Kinds.r) κs) → Read.Read (Base a) (Owned r s) λ w. winterhasp_header_records.ensures-5 (w .𝓤) (w .H) κs (w .𝓖 .A) (w .𝓜 .mem) (w .𝓡 .run) (a .0) (a
-      .1 .0) (a .1 .1 .0) (a .1 .1 .1 .0) (a .1 .1 .1 .1 .0) (a .1 .1 .1 .1 .1 .0) record { entry = a .0; exit = s .0 } record { entry = a .1 .0; exit = s .1 .0 } record {
-        entry =
-            a .1 .1 .0;
+      (Kinds'.endedOf 7 Kinds.ps Kinds.r) κs) → Read.Read (Base a) (Owned r s) λ w. winterhasp_header_records.ensures-5 (w .𝓤) (w .H) κs (w .𝓖 .A) (w .𝓜 .mem) (w .𝓡 .run) (a .0) (a
+      .1 .0) (a .1 .1 .0) (a .1 .1 .1 .0) (a .1 .1 .1 .1 .0) (a .1 .1 .1 .1 .1 .0) (a .1 .1 .1 .1 .1 .1 .0) record { entry = a .0; exit = s .0 } record {
+        entry = a .1 .0;
+        exit = s
+            .1 .0;
+      } record { entry = a .1 .1 .0; exit = s .1 .1 .0 } record { entry = a .1 .1 .1 .0; exit = s .1 .1 .1 .0 } record { entry = a .1 .1 .1 .1 .0; exit = s .1 .1 .1 .1 .0 }
+      record { entry = a .1 .1 .1 .1 .1 .0; exit = s .1 .1 .1 .1 .1 .0 } record { entry = a .1 .1 .1 .1 .1 .1 .0; exit = s .1 .1 .1 .1 .1 .1 .0 } r
+  ensures-5·read = λ a g r s. Read.all-models (λ w. winterhasp_header_records.ensures-5 (w .𝓤) (w .H) κs (w .𝓖 .A) (w .𝓜 .mem) (w .𝓡 .run) (a .0) (a .1 .0) (a .1 .1 .0) (a .1 .1 .1
+      .0) (a .1 .1 .1 .1 .0) (a .1 .1 .1 .1 .1 .0) (a .1 .1 .1 .1 .1 .1 .0) record { entry = a .0; exit = s .0 } record { entry = a .1 .0; exit = s .1 .0 } record {
+        entry = a .1 .1
+            .0;
         exit = s .1 .1 .0;
       } record { entry = a .1 .1 .1 .0; exit = s .1 .1 .1 .0 } record { entry = a .1 .1 .1 .1 .0; exit = s .1 .1 .1 .1 .0 } record {
-        entry = a .1 .1
-            .1 .1 .1 .0;
+        entry = a .1 .1 .1 .1 .1
+            .0;
         exit = s .1 .1 .1 .1 .1 .0;
-      } r
-  ensures-5·read = λ a g r s. Read.all-models (λ w. winterhasp_header_records.ensures-5 (w .𝓤) (w .H) κs (w .𝓖 .A) (w .𝓜 .mem) (w .𝓡 .run) (a .0) (a .1 .0) (a .1 .1 .0) (a .1 .1 .1
-      .0) (a .1 .1 .1 .1 .0) (a .1 .1 .1 .1 .1 .0) record { entry = a .0; exit = s .0 } record { entry = a .1 .0; exit = s .1 .0 } record { entry = a .1 .1 .0; exit = s .1 .1 .0 }
-      record { entry = a .1 .1 .1 .0; exit = s .1 .1 .1 .0 } record { entry = a .1 .1 .1 .1 .0; exit = s .1 .1 .1 .1 .0 } record {
-        entry = a .1 .1 .1 .1 .1 .0;
-        exit = s .1 .1 .1 .1
-            .1 .0;
-      } r) (λ w. search Read.reads) (λ w. Path'.refl) (λ w. Path'.refl) λ w. Path'.refl
+      } record { entry = a .1 .1 .1 .1 .1 .1 .0; exit = s .1 .1 .1 .1 .1 .1 .0 } r) (λ w. search Read.reads) (λ w. Path'.refl) (λ w. Path'.refl) λ w.
+      Path'.refl
 
   abbrev pub ensures-6·read : (a : World.ArgsD winterhasp_header_records.signature κs) → (g : Ghost) → (r : World.ResD winterhasp_header_records.signature κs) → (s : Clauses.AtExit
-      (Kinds'.endedOf 6 Kinds.ps Kinds.r) κs) → Read.Read (Base a) (Owned r s) λ w. winterhasp_header_records.ensures-6 (w .𝓤) (w .H) κs (w .𝓖 .A) (w .𝓜 .mem) (w .𝓡 .run) (a .0) (a
-      .1 .0) (a .1 .1 .0) (a .1 .1 .1 .0) (a .1 .1 .1 .1 .0) (a .1 .1 .1 .1 .1 .0) record { entry = a .0; exit = s .0 } record { entry = a .1 .0; exit = s .1 .0 } record {
-        entry =
-            a .1 .1 .0;
+      (Kinds'.endedOf 7 Kinds.ps Kinds.r) κs) → Read.Read (Base a) (Owned r s) λ w. winterhasp_header_records.ensures-6 (w .𝓤) (w .H) κs (w .𝓖 .A) (w .𝓜 .mem) (w .𝓡 .run) (a .0) (a
+      .1 .0) (a .1 .1 .0) (a .1 .1 .1 .0) (a .1 .1 .1 .1 .0) (a .1 .1 .1 .1 .1 .0) (a .1 .1 .1 .1 .1 .1 .0) record { entry = a .0; exit = s .0 } record {
+        entry = a .1 .0;
+        exit = s
+            .1 .0;
+      } record { entry = a .1 .1 .0; exit = s .1 .1 .0 } record { entry = a .1 .1 .1 .0; exit = s .1 .1 .1 .0 } record { entry = a .1 .1 .1 .1 .0; exit = s .1 .1 .1 .1 .0 }
+      record { entry = a .1 .1 .1 .1 .1 .0; exit = s .1 .1 .1 .1 .1 .0 } record { entry = a .1 .1 .1 .1 .1 .1 .0; exit = s .1 .1 .1 .1 .1 .1 .0 } r
+  ensures-6·read = λ a g r s. Read.all-models (λ w. winterhasp_header_records.ensures-6 (w .𝓤) (w .H) κs (w .𝓖 .A) (w .𝓜 .mem) (w .𝓡 .run) (a .0) (a .1 .0) (a .1 .1 .0) (a .1 .1 .1
+      .0) (a .1 .1 .1 .1 .0) (a .1 .1 .1 .1 .1 .0) (a .1 .1 .1 .1 .1 .1 .0) record { entry = a .0; exit = s .0 } record { entry = a .1 .0; exit = s .1 .0 } record {
+        entry = a .1 .1
+            .0;
+        exit = s .1 .1 .0;
+      } record { entry = a .1 .1 .1 .0; exit = s .1 .1 .1 .0 } record { entry = a .1 .1 .1 .1 .0; exit = s .1 .1 .1 .1 .0 } record {
+        entry = a .1 .1 .1 .1 .1
+            .0;
+        exit = s .1 .1 .1 .1 .1 .0;
+      } record { entry = a .1 .1 .1 .1 .1 .1 .0; exit = s .1 .1 .1 .1 .1 .1 .0 } r) (λ w. search Read.reads) (λ w. Path'.refl) (λ w. Path'.refl) λ w.
+      Path'.refl
+
+  abbrev pub ensures-7·read : (a : World.ArgsD winterhasp_header_records.signature κs) → (g : Ghost) → (r : World.ResD winterhasp_header_records.signature κs) → (s : Clauses.AtExit
+      (Kinds'.endedOf 7 Kinds.ps Kinds.r) κs) → Read.Read (Base a) (Owned r s) λ w. winterhasp_header_records.ensures-7 (w .𝓤) (w .H) κs (w .𝓖 .A) (w .𝓜 .mem) (w .𝓡 .run) (a .0) (a
+      .1 .0) (a .1 .1 .0) (a .1 .1 .1 .0) (a .1 .1 .1 .1 .0) (a .1 .1 .1 .1 .1 .0) (a .1 .1 .1 .1 .1 .1 .0) record { entry = a .0; exit = s .0 } record {
+        entry = a .1 .0;
+        exit = s
+            .1 .0;
+      } record { entry = a .1 .1 .0; exit = s .1 .1 .0 } record { entry = a .1 .1 .1 .0; exit = s .1 .1 .1 .0 } record { entry = a .1 .1 .1 .1 .0; exit = s .1 .1 .1 .1 .0 }
+      record { entry = a .1 .1 .1 .1 .1 .0; exit = s .1 .1 .1 .1 .1 .0 } record { entry = a .1 .1 .1 .1 .1 .1 .0; exit = s .1 .1 .1 .1 .1 .1 .0 } r
+  ensures-7·read = λ a g r s. Read.all-models (λ w. winterhasp_header_records.ensures-7 (w .𝓤) (w .H) κs (w .𝓖 .A) (w .𝓜 .mem) (w .𝓡 .run) (a .0) (a .1 .0) (a .1 .1 .0) (a .1 .1 .1
+      .0) (a .1 .1 .1 .1 .0) (a .1 .1 .1 .1 .1 .0) (a .1 .1 .1 .1 .1 .1 .0) record { entry = a .0; exit = s .0 } record { entry = a .1 .0; exit = s .1 .0 } record {
+        entry = a .1 .1
+            .0;
+        exit = s .1 .1 .0;
+      } record { entry = a .1 .1 .1 .0; exit = s .1 .1 .1 .0 } record { entry = a .1 .1 .1 .1 .0; exit = s .1 .1 .1 .1 .0 } record {
+        entry = a .1 .1 .1 .1 .1
+            .0;
+        exit = s .1 .1 .1 .1 .1 .0;
+      } record { entry = a .1 .1 .1 .1 .1 .1 .0; exit = s .1 .1 .1 .1 .1 .1 .0 } r) (λ w. search Read.reads) (λ w. Path'.refl) (λ w. Path'.refl) λ w.
+      Path'.refl
+
+  abbrev pub post-read : (a : World.ArgsD winterhasp_header_records.signature κs) → (g : Ghost) → (r : World.ResD winterhasp_header_records.signature κs) → (s : Clauses.AtExit
+      (Kinds'.endedOf 7 Kinds.ps Kinds.r) κs) → Read.Read (Base a) (Owned r s) (ensures a g r s)
+  post-read = λ a g r s. Read.read-join (λ w. winterhasp_header_records.ensures-1 (w .𝓤) (w .H) κs (w .𝓖 .A) (w .𝓜 .mem) (w .𝓡 .run) (a .0) (a .1 .0) (a .1 .1 .0) (a .1 .1 .1 .0)
+      (a .1 .1 .1 .1 .0) (a .1 .1 .1 .1 .1 .0) (a .1 .1 .1 .1 .1 .1 .0) record { entry = a .0; exit = s .0 } record { entry = a .1 .0; exit = s .1 .0 } record {
+        entry = a .1 .1 .0;
+        exit = s .1 .1 .0;
+      } record { entry = a .1 .1 .1 .0; exit = s .1 .1 .1 .0 } record { entry = a .1 .1 .1 .1 .0; exit = s .1 .1 .1 .1 .0 } record {
+        entry = a .1 .1 .1 .1 .1 .0;
+        exit = s .1 .1 .1 .1 .1 .0;
+      } record { entry = a .1 .1 .1 .1 .1 .1 .0; exit = s .1 .1 .1 .1 .1 .1 .0 } r) (λ w. Logic.sep (w .𝓤) (winterhasp_header_records.ensures-2 (w .𝓤) (w
+      .H) κs (w .𝓖 .A) (w .𝓜 .mem) (w .𝓡 .run) (a .0) (a .1 .0) (a .1 .1 .0) (a .1 .1 .1 .0) (a .1 .1 .1 .1 .0) (a .1 .1 .1 .1 .1 .0) (a .1 .1 .1 .1 .1 .1 .0) record {
+        entry = a
+            .0;
+        exit = s .0;
+      } record { entry = a .1 .0; exit = s .1 .0 } record { entry = a .1 .1 .0; exit = s .1 .1 .0 } record { entry = a .1 .1 .1 .0; exit = s .1 .1 .1 .0 } record {
+        entry = a .1 .1 .1 .1 .0;
+        exit = s .1 .1 .1 .1 .0;
+      } record { entry = a .1 .1 .1 .1 .1 .0; exit = s .1 .1 .1 .1 .1 .0 } record {
+        entry = a .1 .1 .1 .1 .1 .1 .0;
+        exit = s .1 .1
+            .1 .1 .1 .1 .0;
+      } r) (Logic.sep (w .𝓤) (winterhasp_header_records.ensures-3 (w .𝓤) (w .H) κs (w .𝓖 .A) (w .𝓜 .mem) (w .𝓡 .run) (a .0) (a .1 .0) (a .1 .1 .0) (a .1 .1 .1 .0) (a
+      .1 .1 .1 .1 .0) (a .1 .1 .1 .1 .1 .0) (a .1 .1 .1 .1 .1 .1 .0) record { entry = a .0; exit = s .0 } record { entry = a .1 .0; exit = s .1 .0 } record {
+        entry = a .1 .1 .0;
+        exit = s .1 .1 .0;
+      } record { entry = a .1 .1 .1 .0; exit = s .1 .1 .1 .0 } record { entry = a .1 .1 .1 .1 .0; exit = s .1 .1 .1 .1 .0 } record {
+        entry = a .1 .1 .1 .1 .1 .0;
+        exit = s .1 .1 .1 .1 .1 .0;
+      } record { entry = a .1 .1 .1 .1 .1 .1 .0; exit = s .1 .1 .1 .1 .1 .1 .0 } r) (Logic.sep (w .𝓤) (winterhasp_header_records.ensures-4 (w .𝓤) (w .H)
+      κs (w .𝓖 .A) (w .𝓜 .mem) (w .𝓡 .run) (a .0) (a .1 .0) (a .1 .1 .0) (a .1 .1 .1 .0) (a .1 .1 .1 .1 .0) (a .1 .1 .1 .1 .1 .0) (a .1 .1 .1 .1 .1 .1 .0) record {
+        entry = a .0;
+        exit = s .0;
+      } record { entry = a .1 .0; exit = s .1 .0 } record { entry = a .1 .1 .0; exit = s .1 .1 .0 } record { entry = a .1 .1 .1 .0; exit = s .1 .1 .1 .0 } record {
+        entry = a .1 .1 .1 .1 .0;
+        exit = s .1 .1 .1 .1 .0;
+      } record { entry = a .1 .1 .1 .1 .1 .0; exit = s .1 .1 .1 .1 .1 .0 } record {
+        entry = a .1 .1 .1 .1 .1 .1 .0;
+        exit = s .1 .1
+            .1 .1 .1 .1 .0;
+      } r) (Logic.sep (w .𝓤) (winterhasp_header_records.ensures-5 (w .𝓤) (w .H) κs (w .𝓖 .A) (w .𝓜 .mem) (w .𝓡 .run) (a .0) (a .1 .0) (a .1 .1 .0) (a .1 .1 .1 .0) (a
+      .1 .1 .1 .1 .0) (a .1 .1 .1 .1 .1 .0) (a .1 .1 .1 .1 .1 .1 .0) record { entry = a .0; exit = s .0 } record { entry = a .1 .0; exit = s .1 .0 } record {
+        entry = a .1 .1 .0;
+        exit = s .1 .1 .0;
+      } record { entry = a .1 .1 .1 .0; exit = s .1 .1 .1 .0 } record { entry = a .1 .1 .1 .1 .0; exit = s .1 .1 .1 .1 .0 } record {
+        entry = a .1 .1 .1 .1 .1 .0;
+        exit = s .1 .1 .1 .1 .1 .0;
+      } record { entry = a .1 .1 .1 .1 .1 .1 .0; exit = s .1 .1 .1 .1 .1 .1 .0 } r) (Logic.sep (w .𝓤) (winterhasp_header_records.ensures-6 (w .𝓤) (w .H)
+      κs (w .𝓖 .A) (w .𝓜 .mem) (w .𝓡 .run) (a .0) (a .1 .0) (a .1 .1 .0) (a .1 .1 .1 .0) (a .1 .1 .1 .1 .0) (a .1 .1 .1 .1 .1 .0) (a .1 .1 .1 .1 .1 .1 .0) record {
+        entry = a .0;
+        exit = s .0;
+      } record { entry = a .1 .0; exit = s .1 .0 } record { entry = a .1 .1 .0; exit = s .1 .1 .0 } record { entry = a .1 .1 .1 .0; exit = s .1 .1 .1 .0 } record {
+        entry = a .1 .1 .1 .1 .0;
+        exit = s .1 .1 .1 .1 .0;
+      } record { entry = a .1 .1 .1 .1 .1 .0; exit = s .1 .1 .1 .1 .1 .0 } record {
+        entry = a .1 .1 .1 .1 .1 .1 .0;
+        exit = s .1 .1
+            .1 .1 .1 .1 .0;
+      } r) (winterhasp_header_records.ensures-7 (w .𝓤) (w .H) κs (w .𝓖 .A) (w .𝓜 .mem) (w .𝓡 .run) (a .0) (a .1 .0) (a .1 .1 .0) (a .1 .1 .1 .0) (a .1 .1 .1 .1 .0)
+      (a .1 .1 .1 .1 .1 .0) (a .1 .1 .1 .1 .1 .1 .0) record { entry = a .0; exit = s .0 } record { entry = a .1 .0; exit = s .1 .0 } record {
+        entry = a .1 .1 .0;
+        exit = s .1 .1 .0;
+      } record { entry = a .1 .1 .1 .0; exit = s .1 .1 .1 .0 } record { entry = a .1 .1 .1 .1 .0; exit = s .1 .1 .1 .1 .0 } record {
+        entry = a .1 .1 .1 .1 .1 .0;
+        exit = s .1 .1 .1
+            .1 .1 .0;
+      } record { entry = a .1 .1 .1 .1 .1 .1 .0; exit = s .1 .1 .1 .1 .1 .1 .0 } r)))))) (ensures-1·read a g r s) (Read.read-join (λ w. winterhasp_header_records.ensures-2
+      (w .𝓤) (w .H) κs (w .𝓖 .A) (w .𝓜 .mem) (w .𝓡 .run) (a .0) (a .1 .0) (a .1 .1 .0) (a .1 .1 .1 .0) (a .1 .1 .1 .1 .0) (a .1 .1 .1 .1 .1 .0) (a .1 .1 .1 .1 .1 .1 .0) record {
+        entry = a .0;
+        exit = s .0;
+      } record { entry = a .1 .0; exit = s .1 .0 } record { entry = a .1 .1 .0; exit = s .1 .1 .0 } record { entry = a .1 .1 .1 .0; exit = s .1 .1 .1 .0 }
+      record { entry = a .1 .1 .1 .1 .0; exit = s .1 .1 .1 .1 .0 } record { entry = a .1 .1 .1 .1 .1 .0; exit = s .1 .1 .1 .1 .1 .0 } record {
+        entry = a .1 .1 .1 .1 .1 .1 .0;
+        exit
+            = s .1 .1 .1 .1 .1 .1 .0;
+      } r) (λ w. Logic.sep (w .𝓤) (winterhasp_header_records.ensures-3 (w .𝓤) (w .H) κs (w .𝓖 .A) (w .𝓜 .mem) (w .𝓡 .run) (a .0) (a .1 .0) (a .1 .1 .0) (a
+      .1 .1 .1 .0) (a .1 .1 .1 .1 .0) (a .1 .1 .1 .1 .1 .0) (a .1 .1 .1 .1 .1 .1 .0) record { entry = a .0; exit = s .0 } record { entry = a .1 .0; exit = s .1 .0 } record {
+        entry
+            = a .1 .1 .0;
         exit = s .1 .1 .0;
       } record { entry = a .1 .1 .1 .0; exit = s .1 .1 .1 .0 } record { entry = a .1 .1 .1 .1 .0; exit = s .1 .1 .1 .1 .0 } record {
         entry = a .1 .1
             .1 .1 .1 .0;
         exit = s .1 .1 .1 .1 .1 .0;
-      } r
-  ensures-6·read = λ a g r s. Read.all-models (λ w. winterhasp_header_records.ensures-6 (w .𝓤) (w .H) κs (w .𝓖 .A) (w .𝓜 .mem) (w .𝓡 .run) (a .0) (a .1 .0) (a .1 .1 .0) (a .1 .1 .1
-      .0) (a .1 .1 .1 .1 .0) (a .1 .1 .1 .1 .1 .0) record { entry = a .0; exit = s .0 } record { entry = a .1 .0; exit = s .1 .0 } record { entry = a .1 .1 .0; exit = s .1 .1 .0 }
-      record { entry = a .1 .1 .1 .0; exit = s .1 .1 .1 .0 } record { entry = a .1 .1 .1 .1 .0; exit = s .1 .1 .1 .1 .0 } record {
+      } record { entry = a .1 .1 .1 .1 .1 .1 .0; exit = s .1 .1 .1 .1 .1 .1 .0 } r) (Logic.sep (w .𝓤) (winterhasp_header_records.ensures-4
+      (w .𝓤) (w .H) κs (w .𝓖 .A) (w .𝓜 .mem) (w .𝓡 .run) (a .0) (a .1 .0) (a .1 .1 .0) (a .1 .1 .1 .0) (a .1 .1 .1 .1 .0) (a .1 .1 .1 .1 .1 .0) (a .1 .1 .1 .1 .1 .1 .0) record {
+        entry = a .0;
+        exit = s .0;
+      } record { entry = a .1 .0; exit = s .1 .0 } record { entry = a .1 .1 .0; exit = s .1 .1 .0 } record { entry = a .1 .1 .1 .0; exit = s .1 .1 .1 .0 }
+      record { entry = a .1 .1 .1 .1 .0; exit = s .1 .1 .1 .1 .0 } record { entry = a .1 .1 .1 .1 .1 .0; exit = s .1 .1 .1 .1 .1 .0 } record {
+        entry = a .1 .1 .1 .1 .1 .1 .0;
+        exit
+            = s .1 .1 .1 .1 .1 .1 .0;
+      } r) (Logic.sep (w .𝓤) (winterhasp_header_records.ensures-5 (w .𝓤) (w .H) κs (w .𝓖 .A) (w .𝓜 .mem) (w .𝓡 .run) (a .0) (a .1 .0) (a .1 .1 .0) (a .1 .1
+      .1 .0) (a .1 .1 .1 .1 .0) (a .1 .1 .1 .1 .1 .0) (a .1 .1 .1 .1 .1 .1 .0) record { entry = a .0; exit = s .0 } record { entry = a .1 .0; exit = s .1 .0 } record {
+        entry = a .1
+            .1 .0;
+        exit = s .1 .1 .0;
+      } record { entry = a .1 .1 .1 .0; exit = s .1 .1 .1 .0 } record { entry = a .1 .1 .1 .1 .0; exit = s .1 .1 .1 .1 .0 } record {
+        entry = a .1 .1 .1 .1
+            .1 .0;
+        exit = s .1 .1 .1 .1 .1 .0;
+      } record { entry = a .1 .1 .1 .1 .1 .1 .0; exit = s .1 .1 .1 .1 .1 .1 .0 } r) (Logic.sep (w .𝓤) (winterhasp_header_records.ensures-6 (w .𝓤)
+      (w .H) κs (w .𝓖 .A) (w .𝓜 .mem) (w .𝓡 .run) (a .0) (a .1 .0) (a .1 .1 .0) (a .1 .1 .1 .0) (a .1 .1 .1 .1 .0) (a .1 .1 .1 .1 .1 .0) (a .1 .1 .1 .1 .1 .1 .0) record {
+        entry = a
+            .0;
+        exit = s .0;
+      } record { entry = a .1 .0; exit = s .1 .0 } record { entry = a .1 .1 .0; exit = s .1 .1 .0 } record { entry = a .1 .1 .1 .0; exit = s .1 .1 .1 .0 } record {
+        entry = a .1 .1 .1 .1 .0;
+        exit = s .1 .1 .1 .1 .0;
+      } record { entry = a .1 .1 .1 .1 .1 .0; exit = s .1 .1 .1 .1 .1 .0 } record {
+        entry = a .1 .1 .1 .1 .1 .1 .0;
+        exit = s .1 .1
+            .1 .1 .1 .1 .0;
+      } r) (winterhasp_header_records.ensures-7 (w .𝓤) (w .H) κs (w .𝓖 .A) (w .𝓜 .mem) (w .𝓡 .run) (a .0) (a .1 .0) (a .1 .1 .0) (a .1 .1 .1 .0) (a .1 .1 .1 .1 .0)
+      (a .1 .1 .1 .1 .1 .0) (a .1 .1 .1 .1 .1 .1 .0) record { entry = a .0; exit = s .0 } record { entry = a .1 .0; exit = s .1 .0 } record {
+        entry = a .1 .1 .0;
+        exit = s .1 .1 .0;
+      } record { entry = a .1 .1 .1 .0; exit = s .1 .1 .1 .0 } record { entry = a .1 .1 .1 .1 .0; exit = s .1 .1 .1 .1 .0 } record {
         entry = a .1 .1 .1 .1 .1 .0;
-        exit = s .1 .1 .1 .1
+        exit = s .1 .1 .1
+            .1 .1 .0;
+      } record { entry = a .1 .1 .1 .1 .1 .1 .0; exit = s .1 .1 .1 .1 .1 .1 .0 } r))))) (ensures-2·read a g r s) (Read.read-join (λ w. winterhasp_header_records.ensures-3
+      (w .𝓤) (w .H) κs (w .𝓖 .A) (w .𝓜 .mem) (w .𝓡 .run) (a .0) (a .1 .0) (a .1 .1 .0) (a .1 .1 .1 .0) (a .1 .1 .1 .1 .0) (a .1 .1 .1 .1 .1 .0) (a .1 .1 .1 .1 .1 .1 .0) record {
+        entry = a .0;
+        exit = s .0;
+      } record { entry = a .1 .0; exit = s .1 .0 } record { entry = a .1 .1 .0; exit = s .1 .1 .0 } record { entry = a .1 .1 .1 .0; exit = s .1 .1 .1 .0 }
+      record { entry = a .1 .1 .1 .1 .0; exit = s .1 .1 .1 .1 .0 } record { entry = a .1 .1 .1 .1 .1 .0; exit = s .1 .1 .1 .1 .1 .0 } record {
+        entry = a .1 .1 .1 .1 .1 .1 .0;
+        exit
+            = s .1 .1 .1 .1 .1 .1 .0;
+      } r) (λ w. Logic.sep (w .𝓤) (winterhasp_header_records.ensures-4 (w .𝓤) (w .H) κs (w .𝓖 .A) (w .𝓜 .mem) (w .𝓡 .run) (a .0) (a .1 .0) (a .1 .1 .0) (a
+      .1 .1 .1 .0) (a .1 .1 .1 .1 .0) (a .1 .1 .1 .1 .1 .0) (a .1 .1 .1 .1 .1 .1 .0) record { entry = a .0; exit = s .0 } record { entry = a .1 .0; exit = s .1 .0 } record {
+        entry
+            = a .1 .1 .0;
+        exit = s .1 .1 .0;
+      } record { entry = a .1 .1 .1 .0; exit = s .1 .1 .1 .0 } record { entry = a .1 .1 .1 .1 .0; exit = s .1 .1 .1 .1 .0 } record {
+        entry = a .1 .1
+            .1 .1 .1 .0;
+        exit = s .1 .1 .1 .1 .1 .0;
+      } record { entry = a .1 .1 .1 .1 .1 .1 .0; exit = s .1 .1 .1 .1 .1 .1 .0 } r) (Logic.sep (w .𝓤) (winterhasp_header_records.ensures-5
+      (w .𝓤) (w .H) κs (w .𝓖 .A) (w .𝓜 .mem) (w .𝓡 .run) (a .0) (a .1 .0) (a .1 .1 .0) (a .1 .1 .1 .0) (a .1 .1 .1 .1 .0) (a .1 .1 .1 .1 .1 .0) (a .1 .1 .1 .1 .1 .1 .0) record {
+        entry = a .0;
+        exit = s .0;
+      } record { entry = a .1 .0; exit = s .1 .0 } record { entry = a .1 .1 .0; exit = s .1 .1 .0 } record { entry = a .1 .1 .1 .0; exit = s .1 .1 .1 .0 }
+      record { entry = a .1 .1 .1 .1 .0; exit = s .1 .1 .1 .1 .0 } record { entry = a .1 .1 .1 .1 .1 .0; exit = s .1 .1 .1 .1 .1 .0 } record {
+        entry = a .1 .1 .1 .1 .1 .1 .0;
+        exit
+            = s .1 .1 .1 .1 .1 .1 .0;
+      } r) (Logic.sep (w .𝓤) (winterhasp_header_records.ensures-6 (w .𝓤) (w .H) κs (w .𝓖 .A) (w .𝓜 .mem) (w .𝓡 .run) (a .0) (a .1 .0) (a .1 .1 .0) (a .1 .1
+      .1 .0) (a .1 .1 .1 .1 .0) (a .1 .1 .1 .1 .1 .0) (a .1 .1 .1 .1 .1 .1 .0) record { entry = a .0; exit = s .0 } record { entry = a .1 .0; exit = s .1 .0 } record {
+        entry = a .1
             .1 .0;
-      } r) (λ w. search Read.reads) (λ w. Path'.refl) (λ w. Path'.refl) λ w. Path'.refl
-
-  abbrev pub post-read : (a : World.ArgsD winterhasp_header_records.signature κs) → (g : Ghost) → (r : World.ResD winterhasp_header_records.signature κs) → (s : Clauses.AtExit
-      (Kinds'.endedOf 6 Kinds.ps Kinds.r) κs) → Read.Read (Base a) (Owned r s) (ensures a g r s)
-  post-read = λ a g r s. Read.read-join (λ w. winterhasp_header_records.ensures-1 (w .𝓤) (w .H) κs (w .𝓖 .A) (w .𝓜 .mem) (w .𝓡 .run) (a .0) (a .1 .0) (a .1 .1 .0) (a .1 .1 .1 .0)
-      (a .1 .1 .1 .1 .0) (a .1 .1 .1 .1 .1 .0) record { entry = a .0; exit = s .0 } record { entry = a .1 .0; exit = s .1 .0 } record { entry = a .1 .1 .0; exit = s .1 .1 .0 }
-      record { entry = a .1 .1 .1 .0; exit = s .1 .1 .1 .0 } record { entry = a .1 .1 .1 .1 .0; exit = s .1 .1 .1 .1 .0 } record {
+        exit = s .1 .1 .0;
+      } record { entry = a .1 .1 .1 .0; exit = s .1 .1 .1 .0 } record { entry = a .1 .1 .1 .1 .0; exit = s .1 .1 .1 .1 .0 } record {
+        entry = a .1 .1 .1 .1
+            .1 .0;
+        exit = s .1 .1 .1 .1 .1 .0;
+      } record { entry = a .1 .1 .1 .1 .1 .1 .0; exit = s .1 .1 .1 .1 .1 .1 .0 } r) (winterhasp_header_records.ensures-7 (w .𝓤) (w .H) κs (w .𝓖
+      .A) (w .𝓜 .mem) (w .𝓡 .run) (a .0) (a .1 .0) (a .1 .1 .0) (a .1 .1 .1 .0) (a .1 .1 .1 .1 .0) (a .1 .1 .1 .1 .1 .0) (a .1 .1 .1 .1 .1 .1 .0) record {
+        entry = a .0;
+        exit = s .0;
+      } record { entry = a .1 .0; exit = s .1 .0 } record { entry = a .1 .1 .0; exit = s .1 .1 .0 } record { entry = a .1 .1 .1 .0; exit = s .1 .1 .1 .0 } record {
+        entry = a .1 .1
+            .1 .1 .0;
+        exit = s .1 .1 .1 .1 .0;
+      } record { entry = a .1 .1 .1 .1 .1 .0; exit = s .1 .1 .1 .1 .1 .0 } record {
+        entry = a .1 .1 .1 .1 .1 .1 .0;
+        exit = s .1 .1 .1 .1 .1 .1 .0;
+      } r)))) (ensures-3·read a g r s) (Read.read-join (λ w. winterhasp_header_records.ensures-4 (w .𝓤) (w .H) κs (w .𝓖 .A) (w .𝓜 .mem) (w .𝓡 .run) (a .0) (a .1 .0) (a .1 .1 .0) (a
+      .1 .1 .1 .0) (a .1 .1 .1 .1 .0) (a .1 .1 .1 .1 .1 .0) (a .1 .1 .1 .1 .1 .1 .0) record { entry = a .0; exit = s .0 } record { entry = a .1 .0; exit = s .1 .0 } record {
+        entry
+            = a .1 .1 .0;
+        exit = s .1 .1 .0;
+      } record { entry = a .1 .1 .1 .0; exit = s .1 .1 .1 .0 } record { entry = a .1 .1 .1 .1 .0; exit = s .1 .1 .1 .1 .0 } record {
+        entry = a .1 .1
+            .1 .1 .1 .0;
+        exit = s .1 .1 .1 .1 .1 .0;
+      } record { entry = a .1 .1 .1 .1 .1 .1 .0; exit = s .1 .1 .1 .1 .1 .1 .0 } r) (λ w. Logic.sep (w .𝓤)
+      (winterhasp_header_records.ensures-5 (w .𝓤) (w .H) κs (w .𝓖 .A) (w .𝓜 .mem) (w .𝓡 .run) (a .0) (a .1 .0) (a .1 .1 .0) (a .1 .1 .1 .0) (a .1 .1 .1 .1 .0) (a .1 .1 .1 .1 .1 .0)
+      (a .1 .1 .1 .1 .1 .1 .0) record { entry = a .0; exit = s .0 } record { entry = a .1 .0; exit = s .1 .0 } record { entry = a .1 .1 .0; exit = s .1 .1 .0 } record {
+        entry = a
+            .1 .1 .1 .0;
+        exit = s .1 .1 .1 .0;
+      } record { entry = a .1 .1 .1 .1 .0; exit = s .1 .1 .1 .1 .0 } record { entry = a .1 .1 .1 .1 .1 .0; exit = s .1 .1 .1 .1 .1 .0 } record {
+        entry = a .1 .1 .1 .1 .1 .1 .0;
+        exit = s .1 .1 .1 .1 .1 .1 .0;
+      } r) (Logic.sep (w .𝓤) (winterhasp_header_records.ensures-6 (w .𝓤) (w .H) κs (w .𝓖 .A) (w .𝓜 .mem) (w .𝓡 .run)
+      (a .0) (a .1 .0) (a .1 .1 .0) (a .1 .1 .1 .0) (a .1 .1 .1 .1 .0) (a .1 .1 .1 .1 .1 .0) (a .1 .1 .1 .1 .1 .1 .0) record { entry = a .0; exit = s .0 } record {
+        entry = a .1 .0;
+        exit = s .1 .0;
+      } record { entry = a .1 .1 .0; exit = s .1 .1 .0 } record { entry = a .1 .1 .1 .0; exit = s .1 .1 .1 .0 } record {
+        entry = a .1 .1 .1 .1 .0;
+        exit = s .1 .1 .1
+            .1 .0;
+      } record { entry = a .1 .1 .1 .1 .1 .0; exit = s .1 .1 .1 .1 .1 .0 } record { entry = a .1 .1 .1 .1 .1 .1 .0; exit = s .1 .1 .1 .1 .1 .1 .0 } r)
+      (winterhasp_header_records.ensures-7 (w .𝓤) (w .H) κs (w .𝓖 .A) (w .𝓜 .mem) (w .𝓡 .run) (a .0) (a .1 .0) (a .1 .1 .0) (a .1 .1 .1 .0) (a .1 .1 .1 .1 .0) (a .1 .1 .1 .1 .1 .0)
+      (a .1 .1 .1 .1 .1 .1 .0) record { entry = a .0; exit = s .0 } record { entry = a .1 .0; exit = s .1 .0 } record { entry = a .1 .1 .0; exit = s .1 .1 .0 } record {
+        entry = a
+            .1 .1 .1 .0;
+        exit = s .1 .1 .1 .0;
+      } record { entry = a .1 .1 .1 .1 .0; exit = s .1 .1 .1 .1 .0 } record { entry = a .1 .1 .1 .1 .1 .0; exit = s .1 .1 .1 .1 .1 .0 } record {
+        entry = a .1 .1 .1 .1 .1 .1 .0;
+        exit = s .1 .1 .1 .1 .1 .1 .0;
+      } r))) (ensures-4·read a g r s) (Read.read-join (λ w. winterhasp_header_records.ensures-5 (w .𝓤) (w .H) κs (w .𝓖
+      .A) (w .𝓜 .mem) (w .𝓡 .run) (a .0) (a .1 .0) (a .1 .1 .0) (a .1 .1 .1 .0) (a .1 .1 .1 .1 .0) (a .1 .1 .1 .1 .1 .0) (a .1 .1 .1 .1 .1 .1 .0) record {
+        entry = a .0;
+        exit = s .0;
+      } record { entry = a .1 .0; exit = s .1 .0 } record { entry = a .1 .1 .0; exit = s .1 .1 .0 } record { entry = a .1 .1 .1 .0; exit = s .1 .1 .1 .0 } record {
+        entry = a .1 .1
+            .1 .1 .0;
+        exit = s .1 .1 .1 .1 .0;
+      } record { entry = a .1 .1 .1 .1 .1 .0; exit = s .1 .1 .1 .1 .1 .0 } record {
+        entry = a .1 .1 .1 .1 .1 .1 .0;
+        exit = s .1 .1 .1 .1 .1 .1 .0;
+      } r) (λ w. Logic.sep (w .𝓤) (winterhasp_header_records.ensures-6 (w .𝓤) (w .H) κs (w .𝓖 .A) (w .𝓜 .mem) (w .𝓡 .run) (a .0) (a .1 .0) (a .1 .1 .0) (a .1 .1 .1 .0) (a .1 .1 .1
+      .1 .0) (a .1 .1 .1 .1 .1 .0) (a .1 .1 .1 .1 .1 .1 .0) record { entry = a .0; exit = s .0 } record { entry = a .1 .0; exit = s .1 .0 } record {
+        entry = a .1 .1 .0;
+        exit = s .1
+            .1 .0;
+      } record { entry = a .1 .1 .1 .0; exit = s .1 .1 .1 .0 } record { entry = a .1 .1 .1 .1 .0; exit = s .1 .1 .1 .1 .0 } record {
         entry = a .1 .1 .1 .1 .1 .0;
-        exit = s .1 .1 .1 .1
-            .1 .0;
-      } r) (λ w. Logic.sep (w .𝓤) (winterhasp_header_records.ensures-2 (w .𝓤) (w .H) κs (w .𝓖 .A) (w .𝓜 .mem) (w .𝓡 .run) (a .0) (a .1 .0) (a .1 .1 .0) (a .1 .1 .1 .0) (a .1
-      .1 .1 .1 .0) (a .1 .1 .1 .1 .1 .0) record { entry = a .0; exit = s .0 } record { entry = a .1 .0; exit = s .1 .0 } record { entry = a .1 .1 .0; exit = s .1 .1 .0 } record {
-        entry = a .1 .1 .1 .0;
-        exit = s .1 .1 .1 .0;
-      } record { entry = a .1 .1 .1 .1 .0; exit = s .1 .1 .1 .1 .0 } record { entry = a .1 .1 .1 .1 .1 .0; exit = s .1 .1 .1 .1 .1 .0 }
-      r) (Logic.sep (w .𝓤) (winterhasp_header_records.ensures-3 (w .𝓤) (w .H) κs (w .𝓖 .A) (w .𝓜 .mem) (w .𝓡 .run) (a .0) (a .1 .0) (a .1 .1 .0) (a .1 .1 .1 .0) (a .1 .1 .1 .1 .0)
-      (a .1 .1 .1 .1 .1 .0) record { entry = a .0; exit = s .0 } record { entry = a .1 .0; exit = s .1 .0 } record { entry = a .1 .1 .0; exit = s .1 .1 .0 } record {
-        entry = a .1
-            .1 .1 .0;
-        exit = s .1 .1 .1 .0;
-      } record { entry = a .1 .1 .1 .1 .0; exit = s .1 .1 .1 .1 .0 } record { entry = a .1 .1 .1 .1 .1 .0; exit = s .1 .1 .1 .1 .1 .0 } r) (Logic.sep
-      (w .𝓤) (winterhasp_header_records.ensures-4 (w .𝓤) (w .H) κs (w .𝓖 .A) (w .𝓜 .mem) (w .𝓡 .run) (a .0) (a .1 .0) (a .1 .1 .0) (a .1 .1 .1 .0) (a .1 .1 .1 .1 .0) (a .1 .1 .1 .1
-      .1 .0) record { entry = a .0; exit = s .0 } record { entry = a .1 .0; exit = s .1 .0 } record { entry = a .1 .1 .0; exit = s .1 .1 .0 } record {
-        entry = a .1 .1 .1 .0;
-        exit =
-            s .1 .1 .1 .0;
-      } record { entry = a .1 .1 .1 .1 .0; exit = s .1 .1 .1 .1 .0 } record { entry = a .1 .1 .1 .1 .1 .0; exit = s .1 .1 .1 .1 .1 .0 } r) (Logic.sep (w .𝓤)
-      (winterhasp_header_records.ensures-5 (w .𝓤) (w .H) κs (w .𝓖 .A) (w .𝓜 .mem) (w .𝓡 .run) (a .0) (a .1 .0) (a .1 .1 .0) (a .1 .1 .1 .0) (a .1 .1 .1 .1 .0) (a .1 .1 .1 .1 .1 .0)
-      record { entry = a .0; exit = s .0 } record { entry = a .1 .0; exit = s .1 .0 } record { entry = a .1 .1 .0; exit = s .1 .1 .0 } record {
-        entry = a .1 .1 .1 .0;
         exit = s .1
-            .1 .1 .0;
-      } record { entry = a .1 .1 .1 .1 .0; exit = s .1 .1 .1 .1 .0 } record { entry = a .1 .1 .1 .1 .1 .0; exit = s .1 .1 .1 .1 .1 .0 } r)
-      (winterhasp_header_records.ensures-6 (w .𝓤) (w .H) κs (w .𝓖 .A) (w .𝓜 .mem) (w .𝓡 .run) (a .0) (a .1 .0) (a .1 .1 .0) (a .1 .1 .1 .0) (a .1 .1 .1 .1 .0) (a .1 .1 .1 .1 .1 .0)
-      record { entry = a .0; exit = s .0 } record { entry = a .1 .0; exit = s .1 .0 } record { entry = a .1 .1 .0; exit = s .1 .1 .0 } record {
-        entry = a .1 .1 .1 .0;
-        exit = s .1
-            .1 .1 .0;
-      } record { entry = a .1 .1 .1 .1 .0; exit = s .1 .1 .1 .1 .0 } record { entry = a .1 .1 .1 .1 .1 .0; exit = s .1 .1 .1 .1 .1 .0 } r))))) (ensures-1·read a g r s)
-      (Read.read-join (λ w. winterhasp_header_records.ensures-2 (w .𝓤) (w .H) κs (w .𝓖 .A) (w .𝓜 .mem) (w .𝓡 .run) (a .0) (a .1 .0) (a .1 .1 .0) (a .1 .1 .1 .0) (a .1 .1 .1 .1 .0)
-      (a .1 .1 .1 .1 .1 .0) record { entry = a .0; exit = s .0 } record { entry = a .1 .0; exit = s .1 .0 } record { entry = a .1 .1 .0; exit = s .1 .1 .0 } record {
-        entry = a .1
-            .1 .1 .0;
-        exit = s .1 .1 .1 .0;
-      } record { entry = a .1 .1 .1 .1 .0; exit = s .1 .1 .1 .1 .0 } record { entry = a .1 .1 .1 .1 .1 .0; exit = s .1 .1 .1 .1 .1 .0 } r) (λ w.
-      Logic.sep (w .𝓤) (winterhasp_header_records.ensures-3 (w .𝓤) (w .H) κs (w .𝓖 .A) (w .𝓜 .mem) (w .𝓡 .run) (a .0) (a .1 .0) (a .1 .1 .0) (a .1 .1 .1 .0) (a .1 .1 .1 .1 .0) (a
-      .1 .1 .1 .1 .1 .0) record { entry = a .0; exit = s .0 } record { entry = a .1 .0; exit = s .1 .0 } record { entry = a .1 .1 .0; exit = s .1 .1 .0 } record {
-        entry = a .1 .1
+            .1 .1 .1 .1 .0;
+      } record { entry = a .1 .1 .1 .1 .1 .1 .0; exit = s .1 .1 .1 .1 .1 .1 .0 } r) (winterhasp_header_records.ensures-7 (w .𝓤) (w .H) κs (w .𝓖 .A) (w .𝓜 .mem) (w .𝓡
+      .run) (a .0) (a .1 .0) (a .1 .1 .0) (a .1 .1 .1 .0) (a .1 .1 .1 .1 .0) (a .1 .1 .1 .1 .1 .0) (a .1 .1 .1 .1 .1 .1 .0) record { entry = a .0; exit = s .0 } record {
+        entry = a
             .1 .0;
-        exit = s .1 .1 .1 .0;
-      } record { entry = a .1 .1 .1 .1 .0; exit = s .1 .1 .1 .1 .0 } record { entry = a .1 .1 .1 .1 .1 .0; exit = s .1 .1 .1 .1 .1 .0 } r) (Logic.sep (w
-      .𝓤) (winterhasp_header_records.ensures-4 (w .𝓤) (w .H) κs (w .𝓖 .A) (w .𝓜 .mem) (w .𝓡 .run) (a .0) (a .1 .0) (a .1 .1 .0) (a .1 .1 .1 .0) (a .1 .1 .1 .1 .0) (a .1 .1 .1 .1 .1
-      .0) record { entry = a .0; exit = s .0 } record { entry = a .1 .0; exit = s .1 .0 } record { entry = a .1 .1 .0; exit = s .1 .1 .0 } record {
-        entry = a .1 .1 .1 .0;
-        exit = s
+        exit = s .1 .0;
+      } record { entry = a .1 .1 .0; exit = s .1 .1 .0 } record { entry = a .1 .1 .1 .0; exit = s .1 .1 .1 .0 } record {
+        entry = a .1 .1 .1 .1 .0;
+        exit = s .1
             .1 .1 .1 .0;
-      } record { entry = a .1 .1 .1 .1 .0; exit = s .1 .1 .1 .1 .0 } record { entry = a .1 .1 .1 .1 .1 .0; exit = s .1 .1 .1 .1 .1 .0 } r) (Logic.sep (w .𝓤)
-      (winterhasp_header_records.ensures-5 (w .𝓤) (w .H) κs (w .𝓖 .A) (w .𝓜 .mem) (w .𝓡 .run) (a .0) (a .1 .0) (a .1 .1 .0) (a .1 .1 .1 .0) (a .1 .1 .1 .1 .0) (a .1 .1 .1 .1 .1 .0)
-      record { entry = a .0; exit = s .0 } record { entry = a .1 .0; exit = s .1 .0 } record { entry = a .1 .1 .0; exit = s .1 .1 .0 } record {
-        entry = a .1 .1 .1 .0;
-        exit = s .1
-            .1 .1 .0;
-      } record { entry = a .1 .1 .1 .1 .0; exit = s .1 .1 .1 .1 .0 } record { entry = a .1 .1 .1 .1 .1 .0; exit = s .1 .1 .1 .1 .1 .0 } r)
-      (winterhasp_header_records.ensures-6 (w .𝓤) (w .H) κs (w .𝓖 .A) (w .𝓜 .mem) (w .𝓡 .run) (a .0) (a .1 .0) (a .1 .1 .0) (a .1 .1 .1 .0) (a .1 .1 .1 .1 .0) (a .1 .1 .1 .1 .1 .0)
-      record { entry = a .0; exit = s .0 } record { entry = a .1 .0; exit = s .1 .0 } record { entry = a .1 .1 .0; exit = s .1 .1 .0 } record {
-        entry = a .1 .1 .1 .0;
-        exit = s .1
-            .1 .1 .0;
-      } record { entry = a .1 .1 .1 .1 .0; exit = s .1 .1 .1 .1 .0 } record { entry = a .1 .1 .1 .1 .1 .0; exit = s .1 .1 .1 .1 .1 .0 } r)))) (ensures-2·read a g r s)
-      (Read.read-join (λ w. winterhasp_header_records.ensures-3 (w .𝓤) (w .H) κs (w .𝓖 .A) (w .𝓜 .mem) (w .𝓡 .run) (a .0) (a .1 .0) (a .1 .1 .0) (a .1 .1 .1 .0) (a .1 .1 .1 .1 .0)
-      (a .1 .1 .1 .1 .1 .0) record { entry = a .0; exit = s .0 } record { entry = a .1 .0; exit = s .1 .0 } record { entry = a .1 .1 .0; exit = s .1 .1 .0 } record {
-        entry = a .1
-            .1 .1 .0;
-        exit = s .1 .1 .1 .0;
-      } record { entry = a .1 .1 .1 .1 .0; exit = s .1 .1 .1 .1 .0 } record { entry = a .1 .1 .1 .1 .1 .0; exit = s .1 .1 .1 .1 .1 .0 } r) (λ w.
-      Logic.sep (w .𝓤) (winterhasp_header_records.ensures-4 (w .𝓤) (w .H) κs (w .𝓖 .A) (w .𝓜 .mem) (w .𝓡 .run) (a .0) (a .1 .0) (a .1 .1 .0) (a .1 .1 .1 .0) (a .1 .1 .1 .1 .0) (a
-      .1 .1 .1 .1 .1 .0) record { entry = a .0; exit = s .0 } record { entry = a .1 .0; exit = s .1 .0 } record { entry = a .1 .1 .0; exit = s .1 .1 .0 } record {
-        entry = a .1 .1
-            .1 .0;
-        exit = s .1 .1 .1 .0;
-      } record { entry = a .1 .1 .1 .1 .0; exit = s .1 .1 .1 .1 .0 } record { entry = a .1 .1 .1 .1 .1 .0; exit = s .1 .1 .1 .1 .1 .0 } r) (Logic.sep (w
-      .𝓤) (winterhasp_header_records.ensures-5 (w .𝓤) (w .H) κs (w .𝓖 .A) (w .𝓜 .mem) (w .𝓡 .run) (a .0) (a .1 .0) (a .1 .1 .0) (a .1 .1 .1 .0) (a .1 .1 .1 .1 .0) (a .1 .1 .1 .1 .1
-      .0) record { entry = a .0; exit = s .0 } record { entry = a .1 .0; exit = s .1 .0 } record { entry = a .1 .1 .0; exit = s .1 .1 .0 } record {
-        entry = a .1 .1 .1 .0;
+      } record { entry = a .1 .1 .1 .1 .1 .0; exit = s .1 .1 .1 .1 .1 .0 } record { entry = a .1 .1 .1 .1 .1 .1 .0; exit = s .1 .1 .1 .1 .1 .1 .0 } r)) (ensures-5·read
+      a g r s) (Read.read-join (λ w. winterhasp_header_records.ensures-6 (w .𝓤) (w .H) κs (w .𝓖 .A) (w .𝓜 .mem) (w .𝓡 .run) (a .0) (a .1 .0) (a .1 .1 .0) (a .1 .1 .1 .0) (a .1 .1
+      .1 .1 .0) (a .1 .1 .1 .1 .1 .0) (a .1 .1 .1 .1 .1 .1 .0) record { entry = a .0; exit = s .0 } record { entry = a .1 .0; exit = s .1 .0 } record {
+        entry = a .1 .1 .0;
         exit = s
-            .1 .1 .1 .0;
-      } record { entry = a .1 .1 .1 .1 .0; exit = s .1 .1 .1 .1 .0 } record { entry = a .1 .1 .1 .1 .1 .0; exit = s .1 .1 .1 .1 .1 .0 } r)
-      (winterhasp_header_records.ensures-6 (w .𝓤) (w .H) κs (w .𝓖 .A) (w .𝓜 .mem) (w .𝓡 .run) (a .0) (a .1 .0) (a .1 .1 .0) (a .1 .1 .1 .0) (a .1 .1 .1 .1 .0) (a .1 .1 .1 .1 .1 .0)
-      record { entry = a .0; exit = s .0 } record { entry = a .1 .0; exit = s .1 .0 } record { entry = a .1 .1 .0; exit = s .1 .1 .0 } record {
-        entry = a .1 .1 .1 .0;
-        exit = s .1
             .1 .1 .0;
-      } record { entry = a .1 .1 .1 .1 .0; exit = s .1 .1 .1 .1 .0 } record { entry = a .1 .1 .1 .1 .1 .0; exit = s .1 .1 .1 .1 .1 .0 } r))) (ensures-3·read a g r s)
-      (Read.read-join (λ w. winterhasp_header_records.ensures-4 (w .𝓤) (w .H) κs (w .𝓖 .A) (w .𝓜 .mem) (w .𝓡 .run) (a .0) (a .1 .0) (a .1 .1 .0) (a .1 .1 .1 .0) (a .1 .1 .1 .1 .0)
-      (a .1 .1 .1 .1 .1 .0) record { entry = a .0; exit = s .0 } record { entry = a .1 .0; exit = s .1 .0 } record { entry = a .1 .1 .0; exit = s .1 .1 .0 } record {
-        entry = a .1
-            .1 .1 .0;
-        exit = s .1 .1 .1 .0;
-      } record { entry = a .1 .1 .1 .1 .0; exit = s .1 .1 .1 .1 .0 } record { entry = a .1 .1 .1 .1 .1 .0; exit = s .1 .1 .1 .1 .1 .0 } r) (λ w.
-      Logic.sep (w .𝓤) (winterhasp_header_records.ensures-5 (w .𝓤) (w .H) κs (w .𝓖 .A) (w .𝓜 .mem) (w .𝓡 .run) (a .0) (a .1 .0) (a .1 .1 .0) (a .1 .1 .1 .0) (a .1 .1 .1 .1 .0) (a
-      .1 .1 .1 .1 .1 .0) record { entry = a .0; exit = s .0 } record { entry = a .1 .0; exit = s .1 .0 } record { entry = a .1 .1 .0; exit = s .1 .1 .0 } record {
-        entry = a .1 .1
-            .1 .0;
-        exit = s .1 .1 .1 .0;
-      } record { entry = a .1 .1 .1 .1 .0; exit = s .1 .1 .1 .1 .0 } record { entry = a .1 .1 .1 .1 .1 .0; exit = s .1 .1 .1 .1 .1 .0 } r)
-      (winterhasp_header_records.ensures-6 (w .𝓤) (w .H) κs (w .𝓖 .A) (w .𝓜 .mem) (w .𝓡 .run) (a .0) (a .1 .0) (a .1 .1 .0) (a .1 .1 .1 .0) (a .1 .1 .1 .1 .0) (a .1 .1 .1 .1 .1 .0)
-      record { entry = a .0; exit = s .0 } record { entry = a .1 .0; exit = s .1 .0 } record { entry = a .1 .1 .0; exit = s .1 .1 .0 } record {
-        entry = a .1 .1 .1 .0;
-        exit = s .1
-            .1 .1 .0;
-      } record { entry = a .1 .1 .1 .1 .0; exit = s .1 .1 .1 .1 .0 } record { entry = a .1 .1 .1 .1 .1 .0; exit = s .1 .1 .1 .1 .1 .0 } r)) (ensures-4·read a g r s)
-      (Read.read-join (λ w. winterhasp_header_records.ensures-5 (w .𝓤) (w .H) κs (w .𝓖 .A) (w .𝓜 .mem) (w .𝓡 .run) (a .0) (a .1 .0) (a .1 .1 .0) (a .1 .1 .1 .0) (a .1 .1 .1 .1 .0)
-      (a .1 .1 .1 .1 .1 .0) record { entry = a .0; exit = s .0 } record { entry = a .1 .0; exit = s .1 .0 } record { entry = a .1 .1 .0; exit = s .1 .1 .0 } record {
-        entry = a .1
-            .1 .1 .0;
-        exit = s .1 .1 .1 .0;
-      } record { entry = a .1 .1 .1 .1 .0; exit = s .1 .1 .1 .1 .0 } record { entry = a .1 .1 .1 .1 .1 .0; exit = s .1 .1 .1 .1 .1 .0 } r) (λ w.
-      winterhasp_header_records.ensures-6 (w .𝓤) (w .H) κs (w .𝓖 .A) (w .𝓜 .mem) (w .𝓡 .run) (a .0) (a .1 .0) (a .1 .1 .0) (a .1 .1 .1 .0) (a .1 .1 .1 .1 .0) (a .1 .1 .1 .1 .1 .0)
-      record { entry = a .0; exit = s .0 } record { entry = a .1 .0; exit = s .1 .0 } record { entry = a .1 .1 .0; exit = s .1 .1 .0 } record {
-        entry = a .1 .1 .1 .0;
-        exit = s .1
-            .1 .1 .0;
-      } record { entry = a .1 .1 .1 .1 .0; exit = s .1 .1 .1 .1 .0 } record { entry = a .1 .1 .1 .1 .1 .0; exit = s .1 .1 .1 .1 .1 .0 } r) (ensures-5·read a g r s)
-      (ensures-6·read a g r s)))))
+      } record { entry = a .1 .1 .1 .0; exit = s .1 .1 .1 .0 } record { entry = a .1 .1 .1 .1 .0; exit = s .1 .1 .1 .1 .0 } record {
+        entry = a .1 .1 .1 .1 .1 .0;
+        exit = s
+            .1 .1 .1 .1 .1 .0;
+      } record { entry = a .1 .1 .1 .1 .1 .1 .0; exit = s .1 .1 .1 .1 .1 .1 .0 } r) (λ w. winterhasp_header_records.ensures-7 (w .𝓤) (w .H) κs (w .𝓖 .A) (w .𝓜
+      .mem) (w .𝓡 .run) (a .0) (a .1 .0) (a .1 .1 .0) (a .1 .1 .1 .0) (a .1 .1 .1 .1 .0) (a .1 .1 .1 .1 .1 .0) (a .1 .1 .1 .1 .1 .1 .0) record { entry = a .0; exit = s .0 } record
+      { entry = a .1 .0; exit = s .1 .0 } record { entry = a .1 .1 .0; exit = s .1 .1 .0 } record { entry = a .1 .1 .1 .0; exit = s .1 .1 .1 .0 } record {
+        entry = a .1 .1 .1 .1 .0;
+        exit = s .1 .1 .1 .1 .0;
+      } record { entry = a .1 .1 .1 .1 .1 .0; exit = s .1 .1 .1 .1 .1 .0 } record { entry = a .1 .1 .1 .1 .1 .1 .0; exit = s .1 .1 .1 .1 .1 .1 .0 } r)
+      (ensures-6·read a g r s) (ensures-7·read a g r s))))))
 
-abbrev pub Pre : Kinds'.In 6 Kinds.ps
-Pre = Written.Pre 6 Kinds.ps Kinds.r Ghost requires ensures pre-read Pinned Owned post-read tt
+abbrev pub Pre : Kinds'.In 7 Kinds.ps
+Pre = Written.Pre 7 Kinds.ps Kinds.r Ghost requires ensures pre-read Pinned Owned post-read tt
 
-abbrev pub Post : Kinds'.Out 6 Kinds.ps Kinds.r
-Post = Written.Post 6 Kinds.ps Kinds.r Ghost requires ensures pre-read Pinned Owned post-read tt
+abbrev pub Post : Kinds'.Out 7 Kinds.ps Kinds.r
+Post = Written.Post 7 Kinds.ps Kinds.r Ghost requires ensures pre-read Pinned Owned post-read tt
 
-abbrev pub Asked : Kinds'.In 6 Kinds.ps
-Asked = Written.Asked 6 Kinds.ps Kinds.r Ghost requires ensures pre-read Pinned Owned post-read tt
+abbrev pub Asked : Kinds'.In 7 Kinds.ps
+Asked = Written.Asked 7 Kinds.ps Kinds.r Ghost requires ensures pre-read Pinned Owned post-read tt
 
-abbrev pub Learnt : Kinds'.Out 6 Kinds.ps Kinds.r
-Learnt = Written.Learnt 6 Kinds.ps Kinds.r Ghost requires ensures pre-read Pinned Owned post-read tt
+abbrev pub Learnt : Kinds'.Out 7 Kinds.ps Kinds.r
+Learnt = Written.Learnt 7 Kinds.ps Kinds.r Ghost requires ensures pre-read Pinned Owned post-read tt
 
-pub passes : (w : World.World) → Written.Passes 6 Kinds.ps Kinds.r Ghost requires ensures pre-read Pinned Owned post-read w
+pub passes : (w : World.World) → Written.Passes 7 Kinds.ps Kinds.r Ghost requires ensures pre-read Pinned Owned post-read w
 passes = λ w κs a g r ws ft p q. Monad.top (w .𝓤) (Read.all∗ w (pre-read κs a g .held w))
 
-pub lent : (w : World.World) → (κs : Lifetimes.Lfts 6) → (a : World.ArgsD winterhasp_header_records.signature κs) → Logic.ent (w .𝓤) (Logic.emp (w .𝓤)) (Read.all∗ w (pre-read κs a
+pub lent : (w : World.World) → (κs : Lifetimes.Lfts 7) → (a : World.ArgsD winterhasp_header_records.signature κs) → Logic.ent (w .𝓤) (Logic.emp (w .𝓤)) (Read.all∗ w (pre-read κs a
     tt .held w))
 lent = λ w κs a. Logic.id⊢ (w .𝓤) (Logic.emp (w .𝓤))
 
-pub known : Picked.KnownAs 6 Kinds.ps Kinds.r Ghost requires ensures Asked Learnt
-known = λ w γ k ρ same met. Written.cited 6 Kinds.ps Kinds.r Ghost requires ensures pre-read Pinned Owned post-read w γ k ρ same (λ κs a. tt) (lent w) (λ κs a r ws ft p. tt) (λ κs.
+pub known : Picked.KnownAs 7 Kinds.ps Kinds.r Ghost requires ensures Asked Learnt
+known = λ w γ k ρ same met. Written.cited 7 Kinds.ps Kinds.r Ghost requires ensures pre-read Pinned Owned post-read w γ k ρ same (λ κs a. tt) (lent w) (λ κs a r ws ft p. tt) (λ κs.
     pins κs w) met

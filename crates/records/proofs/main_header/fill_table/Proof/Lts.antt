@@ -99,14 +99,15 @@ xs = List._∷_ (Syntax.tyInt Syntax.w64) (List._∷_ (Syntax.tyInt Syntax.w64) 
     107 (List._∷_ 58 (List._∷_ 58 (List._∷_ 87 (List._∷_ 97 (List._∷_ 108 (List._∷_ 107 (List._∷_ 83 (List._∷_ 116 (List._∷_ 101 (List._∷_ 112 List.[]))))))))))))))))))))))
     (Syntax.ttcons (Syntax.tcons (Syntax.tyStruct (List._∷_ 104 (List._∷_ 101 (List._∷_ 97 (List._∷_ 100 (List._∷_ 101 (List._∷_ 114 (List._∷_ 58 (List._∷_ 58 (List._∷_ 119
     (List._∷_ 97 (List._∷_ 108 (List._∷_ 107 (List._∷_ 58 (List._∷_ 58 (List._∷_ 80 (List._∷_ 97 (List._∷_ 115 (List._∷_ 115 (List._∷_ 101 (List._∷_ 100 List.[]))))))))))))))))))))
-    (Syntax.tcons (Syntax.tyInt Syntax.w64) (Syntax.tcons Syntax.tyBool (Syntax.tcons (Syntax.tyInt Syntax.w64) Syntax.tnil)))) Syntax.tnil) (Syntax.ttcons Syntax.tnil
-    (Syntax.ttcons (Syntax.tcons (Syntax.tyStruct (List._∷_ 116 (List._∷_ 121 (List._∷_ 112 (List._∷_ 101 (List._∷_ 115 (List._∷_ 58 (List._∷_ 58 (List._∷_ 82 (List._∷_ 101
-    (List._∷_ 102 (List._∷_ 117 (List._∷_ 115 (List._∷_ 97 (List._∷_ 108 List.[])))))))))))))) (Syntax.tcons (Syntax.tyInt Syntax.w32) (Syntax.tcons (Syntax.tyInt Syntax.w64)
-    Syntax.tnil))) Syntax.tnil) Syntax.ttnil)))) (List._∷_ (Syntax.tyStruct (List._∷_ 104 (List._∷_ 101 (List._∷_ 97 (List._∷_ 100 (List._∷_ 101 (List._∷_ 114 (List._∷_ 58
-    (List._∷_ 58 (List._∷_ 119 (List._∷_ 97 (List._∷_ 108 (List._∷_ 107 (List._∷_ 58 (List._∷_ 58 (List._∷_ 80 (List._∷_ 97 (List._∷_ 115 (List._∷_ 115 (List._∷_ 101 (List._∷_ 100
-    List.[])))))))))))))))))))) (Syntax.tcons (Syntax.tyInt Syntax.w64) (Syntax.tcons Syntax.tyBool (Syntax.tcons (Syntax.tyInt Syntax.w64) Syntax.tnil)))) (List._∷_ (Syntax.tyInt
-    Syntax.w64) (List._∷_ Syntax.tyBool (List._∷_ (Syntax.tyRef Syntax.erased Syntax.mut LentTilePartEntry.pointee) (List._∷_ (Syntax.tyStruct (List._∷_ 38 (List._∷_ 91 (List._∷_
-    93 List.[]))) (Syntax.tcons (Syntax.tyRef Syntax.erased Syntax.mut LentTilePartEntry.pointee) (Syntax.tcons (Syntax.tyInt Syntax.w64) Syntax.tnil))) List.[]))))))))
+    (Syntax.tcons (Syntax.tyInt Syntax.w64) (Syntax.tcons (Syntax.tyInt Syntax.w16) (Syntax.tcons Syntax.tyBool (Syntax.tcons Syntax.tyBool (Syntax.tcons (Syntax.tyInt Syntax.w64)
+    Syntax.tnil)))))) Syntax.tnil) (Syntax.ttcons Syntax.tnil (Syntax.ttcons (Syntax.tcons (Syntax.tyStruct (List._∷_ 116 (List._∷_ 121 (List._∷_ 112 (List._∷_ 101 (List._∷_ 115
+    (List._∷_ 58 (List._∷_ 58 (List._∷_ 82 (List._∷_ 101 (List._∷_ 102 (List._∷_ 117 (List._∷_ 115 (List._∷_ 97 (List._∷_ 108 List.[])))))))))))))) (Syntax.tcons (Syntax.tyInt
+    Syntax.w32) (Syntax.tcons (Syntax.tyInt Syntax.w64) Syntax.tnil))) Syntax.tnil) Syntax.ttnil)))) (List._∷_ (Syntax.tyStruct (List._∷_ 104 (List._∷_ 101 (List._∷_ 97 (List._∷_
+    100 (List._∷_ 101 (List._∷_ 114 (List._∷_ 58 (List._∷_ 58 (List._∷_ 119 (List._∷_ 97 (List._∷_ 108 (List._∷_ 107 (List._∷_ 58 (List._∷_ 58 (List._∷_ 80 (List._∷_ 97 (List._∷_
+    115 (List._∷_ 115 (List._∷_ 101 (List._∷_ 100 List.[])))))))))))))))))))) (Syntax.tcons (Syntax.tyInt Syntax.w64) (Syntax.tcons (Syntax.tyInt Syntax.w16) (Syntax.tcons
+    Syntax.tyBool (Syntax.tcons Syntax.tyBool (Syntax.tcons (Syntax.tyInt Syntax.w64) Syntax.tnil)))))) (List._∷_ (Syntax.tyInt Syntax.w64) (List._∷_ Syntax.tyBool (List._∷_
+    (Syntax.tyRef Syntax.erased Syntax.mut LentTilePartEntry.pointee) (List._∷_ (Syntax.tyStruct (List._∷_ 38 (List._∷_ 91 (List._∷_ 93 List.[]))) (Syntax.tcons (Syntax.tyRef
+    Syntax.erased Syntax.mut LentTilePartEntry.pointee) (Syntax.tcons (Syntax.tyInt Syntax.w64) Syntax.tnil))) List.[]))))))))
 
 abbrev pub m : Nat.ℕ
 m = 1
@@ -211,10 +212,10 @@ b8 = Syntax.switch (Syntax.copy (Syntax.place 7 (List._∷_ (Syntax.variant 0) (
     (List._∷_ 2 List.[])) b7 Syntax.noDefault))
 
 abbrev b9 : Syntax.Body
-b9 = Syntax.assign (Syntax.place 10 List.[]) (Syntax.rvOpd (Syntax.copy (Syntax.place 8 (List._∷_ (Syntax.field 1) List.[]))))
+b9 = Syntax.assign (Syntax.place 10 List.[]) (Syntax.rvOpd (Syntax.copy (Syntax.place 8 (List._∷_ (Syntax.field 3) List.[]))))
 
 abbrev b10 : Syntax.Body
-b10 = Syntax.assign (Syntax.place 9 List.[]) (Syntax.rvOpd (Syntax.copy (Syntax.place 8 (List._∷_ (Syntax.field 2) List.[]))))
+b10 = Syntax.assign (Syntax.place 9 List.[]) (Syntax.rvOpd (Syntax.copy (Syntax.place 8 (List._∷_ (Syntax.field 4) List.[]))))
 
 abbrev b11 : Syntax.Body
 b11 = Syntax.assign (Syntax.place 11 List.[]) (Syntax.addrOf (Syntax.place 3 (List._∷_ (Syntax.field 0) (List._∷_ (Syntax.deref LentTilePartEntry.spelled) List.[]))))
@@ -313,21 +314,23 @@ t0 = List._∷_ (0, Rows.any-gone Syntax.tyUnit) (List._∷_ (
       (List._∷_ 108 (List._∷_ 107 (List._∷_ 83 (List._∷_ 116 (List._∷_ 101 (List._∷_ 112 List.[])))))))))))))))))))))) (Syntax.ttcons (Syntax.tcons (Syntax.tyStruct (List._∷_ 104
       (List._∷_ 101 (List._∷_ 97 (List._∷_ 100 (List._∷_ 101 (List._∷_ 114 (List._∷_ 58 (List._∷_ 58 (List._∷_ 119 (List._∷_ 97 (List._∷_ 108 (List._∷_ 107 (List._∷_ 58 (List._∷_ 58
       (List._∷_ 80 (List._∷_ 97 (List._∷_ 115 (List._∷_ 115 (List._∷_ 101 (List._∷_ 100 List.[])))))))))))))))))))) (Syntax.tcons (Syntax.tyInt Syntax.w64) (Syntax.tcons
-      Syntax.tyBool (Syntax.tcons (Syntax.tyInt Syntax.w64) Syntax.tnil)))) Syntax.tnil) (Syntax.ttcons Syntax.tnil (Syntax.ttcons (Syntax.tcons (Syntax.tyStruct (List._∷_ 116
-      (List._∷_ 121 (List._∷_ 112 (List._∷_ 101 (List._∷_ 115 (List._∷_ 58 (List._∷_ 58 (List._∷_ 82 (List._∷_ 101 (List._∷_ 102 (List._∷_ 117 (List._∷_ 115 (List._∷_ 97 (List._∷_
-      108 List.[])))))))))))))) (Syntax.tcons (Syntax.tyInt Syntax.w32) (Syntax.tcons (Syntax.tyInt Syntax.w64) Syntax.tnil))) Syntax.tnil) Syntax.ttnil)))),
+      (Syntax.tyInt Syntax.w16) (Syntax.tcons Syntax.tyBool (Syntax.tcons Syntax.tyBool (Syntax.tcons (Syntax.tyInt Syntax.w64) Syntax.tnil)))))) Syntax.tnil) (Syntax.ttcons
+      Syntax.tnil (Syntax.ttcons (Syntax.tcons (Syntax.tyStruct (List._∷_ 116 (List._∷_ 121 (List._∷_ 112 (List._∷_ 101 (List._∷_ 115 (List._∷_ 58 (List._∷_ 58 (List._∷_ 82 (List._∷_
+      101 (List._∷_ 102 (List._∷_ 117 (List._∷_ 115 (List._∷_ 97 (List._∷_ 108 List.[])))))))))))))) (Syntax.tcons (Syntax.tyInt Syntax.w32) (Syntax.tcons (Syntax.tyInt Syntax.w64)
+      Syntax.tnil))) Syntax.tnil) Syntax.ttnil)))),
 ) (List._∷_ (
   8,
-  Rows.any-gone (Syntax.tyStruct (List._∷_ 104 (List._∷_ 101 (List._∷_ 97 (List._∷_ 100 (List._∷_ 101 (List._∷_ 114 (List._∷_ 58 (List._∷_ 58 (List._∷_ 119 (List._∷_ 97 (List._∷_
-      108 (List._∷_ 107 (List._∷_ 58 (List._∷_ 58 (List._∷_ 80 (List._∷_ 97 (List._∷_ 115 (List._∷_ 115 (List._∷_ 101 (List._∷_ 100 List.[])))))))))))))))))))) (Syntax.tcons
-      (Syntax.tyInt Syntax.w64) (Syntax.tcons Syntax.tyBool (Syntax.tcons (Syntax.tyInt Syntax.w64) Syntax.tnil)))),
-) (List._∷_ (9, Rows.any-gone (Syntax.tyInt Syntax.w64)) (List._∷_
-    (10, Rows.any-gone Syntax.tyBool) (List._∷_ (11, Rows.any-gone (Syntax.tyRef Syntax.erased Syntax.mut LentTilePartEntry.pointee)) (List._∷_ (
+  Rows.any-gone (Syntax.tyStruct (List._∷_ 104 (List._∷_ 101 (List._∷_ 97 (List._∷_ 100 (List._∷_ 101 (List._∷_ 114
+      (List._∷_ 58 (List._∷_ 58 (List._∷_ 119 (List._∷_ 97 (List._∷_ 108 (List._∷_ 107 (List._∷_ 58 (List._∷_ 58 (List._∷_ 80 (List._∷_ 97 (List._∷_ 115 (List._∷_ 115 (List._∷_ 101
+      (List._∷_ 100 List.[])))))))))))))))))))) (Syntax.tcons (Syntax.tyInt Syntax.w64) (Syntax.tcons (Syntax.tyInt Syntax.w16) (Syntax.tcons Syntax.tyBool (Syntax.tcons
+      Syntax.tyBool (Syntax.tcons (Syntax.tyInt Syntax.w64) Syntax.tnil)))))),
+) (List._∷_ (9, Rows.any-gone (Syntax.tyInt Syntax.w64)) (List._∷_ (10, Rows.any-gone Syntax.tyBool)
+    (List._∷_ (11, Rows.any-gone (Syntax.tyRef Syntax.erased Syntax.mut LentTilePartEntry.pointee)) (List._∷_ (
       12,
-      Rows.any-gone (Syntax.tyStruct
-          (List._∷_ 38 (List._∷_ 91 (List._∷_ 93 List.[]))) (Syntax.tcons (Syntax.tyRef Syntax.erased Syntax.mut LentTilePartEntry.pointee) (Syntax.tcons (Syntax.tyInt Syntax.w64)
-          Syntax.tnil))),
-    ) List.[]))))))))))))
+      Rows.any-gone (Syntax.tyStruct (List._∷_ 38 (List._∷_ 91
+          (List._∷_ 93 List.[]))) (Syntax.tcons (Syntax.tyRef Syntax.erased Syntax.mut LentTilePartEntry.pointee) (Syntax.tcons (Syntax.tyInt Syntax.w64) Syntax.tnil))),
+    )
+    List.[]))))))))))))
 
 abbrev pub t1 : List.List Row.Entry
 t1 = List._∷_ (0, Rows.sc-here Row.sUnit) (List._∷_ (1, Rows.sslice (Referent.rtF (Referent.fInt Syntax.w8)) (Syntax.tyRef (Syntax.named 0) Syntax.imm (Syntax.tyInt Syntax.w8)) 0)
@@ -353,21 +356,23 @@ t1 = List._∷_ (0, Rows.sc-here Row.sUnit) (List._∷_ (1, Rows.sslice (Referen
           (List._∷_ 97 (List._∷_ 108 (List._∷_ 107 (List._∷_ 83 (List._∷_ 116 (List._∷_ 101 (List._∷_ 112 List.[])))))))))))))))))))))) (Syntax.ttcons (Syntax.tcons (Syntax.tyStruct
           (List._∷_ 104 (List._∷_ 101 (List._∷_ 97 (List._∷_ 100 (List._∷_ 101 (List._∷_ 114 (List._∷_ 58 (List._∷_ 58 (List._∷_ 119 (List._∷_ 97 (List._∷_ 108 (List._∷_ 107 (List._∷_ 58
           (List._∷_ 58 (List._∷_ 80 (List._∷_ 97 (List._∷_ 115 (List._∷_ 115 (List._∷_ 101 (List._∷_ 100 List.[])))))))))))))))))))) (Syntax.tcons (Syntax.tyInt Syntax.w64) (Syntax.tcons
-          Syntax.tyBool (Syntax.tcons (Syntax.tyInt Syntax.w64) Syntax.tnil)))) Syntax.tnil) (Syntax.ttcons Syntax.tnil (Syntax.ttcons (Syntax.tcons (Syntax.tyStruct (List._∷_ 116
-          (List._∷_ 121 (List._∷_ 112 (List._∷_ 101 (List._∷_ 115 (List._∷_ 58 (List._∷_ 58 (List._∷_ 82 (List._∷_ 101 (List._∷_ 102 (List._∷_ 117 (List._∷_ 115 (List._∷_ 97 (List._∷_
-          108 List.[])))))))))))))) (Syntax.tcons (Syntax.tyInt Syntax.w32) (Syntax.tcons (Syntax.tyInt Syntax.w64) Syntax.tnil))) Syntax.tnil) Syntax.ttnil)))),
+          (Syntax.tyInt Syntax.w16) (Syntax.tcons Syntax.tyBool (Syntax.tcons Syntax.tyBool (Syntax.tcons (Syntax.tyInt Syntax.w64) Syntax.tnil)))))) Syntax.tnil) (Syntax.ttcons
+          Syntax.tnil (Syntax.ttcons (Syntax.tcons (Syntax.tyStruct (List._∷_ 116 (List._∷_ 121 (List._∷_ 112 (List._∷_ 101 (List._∷_ 115 (List._∷_ 58 (List._∷_ 58 (List._∷_ 82 (List._∷_
+          101 (List._∷_ 102 (List._∷_ 117 (List._∷_ 115 (List._∷_ 97 (List._∷_ 108 List.[])))))))))))))) (Syntax.tcons (Syntax.tyInt Syntax.w32) (Syntax.tcons (Syntax.tyInt Syntax.w64)
+          Syntax.tnil))) Syntax.tnil) Syntax.ttnil)))),
     ) (List._∷_ (
       8,
-      Rows.any-gone (Syntax.tyStruct (List._∷_ 104 (List._∷_ 101 (List._∷_ 97 (List._∷_ 100 (List._∷_ 101 (List._∷_ 114 (List._∷_ 58 (List._∷_ 58 (List._∷_ 119 (List._∷_ 97 (List._∷_
-          108 (List._∷_ 107 (List._∷_ 58 (List._∷_ 58 (List._∷_ 80 (List._∷_ 97 (List._∷_ 115 (List._∷_ 115 (List._∷_ 101 (List._∷_ 100 List.[])))))))))))))))))))) (Syntax.tcons
-          (Syntax.tyInt Syntax.w64) (Syntax.tcons Syntax.tyBool (Syntax.tcons (Syntax.tyInt Syntax.w64) Syntax.tnil)))),
-    ) (List._∷_ (9, Rows.any-gone (Syntax.tyInt Syntax.w64)) (List._∷_
-    (10, Rows.any-gone Syntax.tyBool) (List._∷_ (11, Rows.any-gone (Syntax.tyRef Syntax.erased Syntax.mut LentTilePartEntry.pointee)) (List._∷_ (
+      Rows.any-gone (Syntax.tyStruct (List._∷_ 104 (List._∷_ 101 (List._∷_ 97 (List._∷_ 100 (List._∷_ 101 (List._∷_ 114
+          (List._∷_ 58 (List._∷_ 58 (List._∷_ 119 (List._∷_ 97 (List._∷_ 108 (List._∷_ 107 (List._∷_ 58 (List._∷_ 58 (List._∷_ 80 (List._∷_ 97 (List._∷_ 115 (List._∷_ 115 (List._∷_ 101
+          (List._∷_ 100 List.[])))))))))))))))))))) (Syntax.tcons (Syntax.tyInt Syntax.w64) (Syntax.tcons (Syntax.tyInt Syntax.w16) (Syntax.tcons Syntax.tyBool (Syntax.tcons
+          Syntax.tyBool (Syntax.tcons (Syntax.tyInt Syntax.w64) Syntax.tnil)))))),
+    ) (List._∷_ (9, Rows.any-gone (Syntax.tyInt Syntax.w64)) (List._∷_ (10, Rows.any-gone Syntax.tyBool)
+    (List._∷_ (11, Rows.any-gone (Syntax.tyRef Syntax.erased Syntax.mut LentTilePartEntry.pointee)) (List._∷_ (
       12,
-      Rows.any-gone (Syntax.tyStruct
-          (List._∷_ 38 (List._∷_ 91 (List._∷_ 93 List.[]))) (Syntax.tcons (Syntax.tyRef Syntax.erased Syntax.mut LentTilePartEntry.pointee) (Syntax.tcons (Syntax.tyInt Syntax.w64)
-          Syntax.tnil))),
-    ) List.[]))))))))))))
+      Rows.any-gone (Syntax.tyStruct (List._∷_ 38 (List._∷_ 91
+          (List._∷_ 93 List.[]))) (Syntax.tcons (Syntax.tyRef Syntax.erased Syntax.mut LentTilePartEntry.pointee) (Syntax.tcons (Syntax.tyInt Syntax.w64) Syntax.tnil))),
+    )
+    List.[]))))))))))))
 
 abbrev pub t2 : List.List Row.Entry
 t2 = List._∷_ (0, Rows.any-gone Syntax.tyUnit) (List._∷_ (
@@ -391,21 +396,23 @@ t2 = List._∷_ (0, Rows.any-gone Syntax.tyUnit) (List._∷_ (
       (List._∷_ 108 (List._∷_ 107 (List._∷_ 83 (List._∷_ 116 (List._∷_ 101 (List._∷_ 112 List.[])))))))))))))))))))))) (Syntax.ttcons (Syntax.tcons (Syntax.tyStruct (List._∷_ 104
       (List._∷_ 101 (List._∷_ 97 (List._∷_ 100 (List._∷_ 101 (List._∷_ 114 (List._∷_ 58 (List._∷_ 58 (List._∷_ 119 (List._∷_ 97 (List._∷_ 108 (List._∷_ 107 (List._∷_ 58 (List._∷_ 58
       (List._∷_ 80 (List._∷_ 97 (List._∷_ 115 (List._∷_ 115 (List._∷_ 101 (List._∷_ 100 List.[])))))))))))))))))))) (Syntax.tcons (Syntax.tyInt Syntax.w64) (Syntax.tcons
-      Syntax.tyBool (Syntax.tcons (Syntax.tyInt Syntax.w64) Syntax.tnil)))) Syntax.tnil) (Syntax.ttcons Syntax.tnil (Syntax.ttcons (Syntax.tcons (Syntax.tyStruct (List._∷_ 116
-      (List._∷_ 121 (List._∷_ 112 (List._∷_ 101 (List._∷_ 115 (List._∷_ 58 (List._∷_ 58 (List._∷_ 82 (List._∷_ 101 (List._∷_ 102 (List._∷_ 117 (List._∷_ 115 (List._∷_ 97 (List._∷_
-      108 List.[])))))))))))))) (Syntax.tcons (Syntax.tyInt Syntax.w32) (Syntax.tcons (Syntax.tyInt Syntax.w64) Syntax.tnil))) Syntax.tnil) Syntax.ttnil)))),
+      (Syntax.tyInt Syntax.w16) (Syntax.tcons Syntax.tyBool (Syntax.tcons Syntax.tyBool (Syntax.tcons (Syntax.tyInt Syntax.w64) Syntax.tnil)))))) Syntax.tnil) (Syntax.ttcons
+      Syntax.tnil (Syntax.ttcons (Syntax.tcons (Syntax.tyStruct (List._∷_ 116 (List._∷_ 121 (List._∷_ 112 (List._∷_ 101 (List._∷_ 115 (List._∷_ 58 (List._∷_ 58 (List._∷_ 82 (List._∷_
+      101 (List._∷_ 102 (List._∷_ 117 (List._∷_ 115 (List._∷_ 97 (List._∷_ 108 List.[])))))))))))))) (Syntax.tcons (Syntax.tyInt Syntax.w32) (Syntax.tcons (Syntax.tyInt Syntax.w64)
+      Syntax.tnil))) Syntax.tnil) Syntax.ttnil)))),
 ) (List._∷_ (
   8,
-  Rows.any-gone (Syntax.tyStruct (List._∷_ 104 (List._∷_ 101 (List._∷_ 97 (List._∷_ 100 (List._∷_ 101 (List._∷_ 114 (List._∷_ 58 (List._∷_ 58 (List._∷_ 119 (List._∷_ 97 (List._∷_
-      108 (List._∷_ 107 (List._∷_ 58 (List._∷_ 58 (List._∷_ 80 (List._∷_ 97 (List._∷_ 115 (List._∷_ 115 (List._∷_ 101 (List._∷_ 100 List.[])))))))))))))))))))) (Syntax.tcons
-      (Syntax.tyInt Syntax.w64) (Syntax.tcons Syntax.tyBool (Syntax.tcons (Syntax.tyInt Syntax.w64) Syntax.tnil)))),
-) (List._∷_ (9, Rows.any-gone (Syntax.tyInt Syntax.w64)) (List._∷_
-    (10, Rows.any-gone Syntax.tyBool) (List._∷_ (11, Rows.any-gone (Syntax.tyRef Syntax.erased Syntax.mut LentTilePartEntry.pointee)) (List._∷_ (
+  Rows.any-gone (Syntax.tyStruct (List._∷_ 104 (List._∷_ 101 (List._∷_ 97 (List._∷_ 100 (List._∷_ 101 (List._∷_ 114
+      (List._∷_ 58 (List._∷_ 58 (List._∷_ 119 (List._∷_ 97 (List._∷_ 108 (List._∷_ 107 (List._∷_ 58 (List._∷_ 58 (List._∷_ 80 (List._∷_ 97 (List._∷_ 115 (List._∷_ 115 (List._∷_ 101
+      (List._∷_ 100 List.[])))))))))))))))))))) (Syntax.tcons (Syntax.tyInt Syntax.w64) (Syntax.tcons (Syntax.tyInt Syntax.w16) (Syntax.tcons Syntax.tyBool (Syntax.tcons
+      Syntax.tyBool (Syntax.tcons (Syntax.tyInt Syntax.w64) Syntax.tnil)))))),
+) (List._∷_ (9, Rows.any-gone (Syntax.tyInt Syntax.w64)) (List._∷_ (10, Rows.any-gone Syntax.tyBool)
+    (List._∷_ (11, Rows.any-gone (Syntax.tyRef Syntax.erased Syntax.mut LentTilePartEntry.pointee)) (List._∷_ (
       12,
-      Rows.any-gone (Syntax.tyStruct
-          (List._∷_ 38 (List._∷_ 91 (List._∷_ 93 List.[]))) (Syntax.tcons (Syntax.tyRef Syntax.erased Syntax.mut LentTilePartEntry.pointee) (Syntax.tcons (Syntax.tyInt Syntax.w64)
-          Syntax.tnil))),
-    ) List.[]))))))))))))
+      Rows.any-gone (Syntax.tyStruct (List._∷_ 38 (List._∷_ 91
+          (List._∷_ 93 List.[]))) (Syntax.tcons (Syntax.tyRef Syntax.erased Syntax.mut LentTilePartEntry.pointee) (Syntax.tcons (Syntax.tyInt Syntax.w64) Syntax.tnil))),
+    )
+    List.[]))))))))))))
 
 abbrev pub t3 : List.List Row.Entry
 t3 = List._∷_ (0, Rows.any-gone Syntax.tyUnit) (List._∷_ (
@@ -428,23 +435,25 @@ t3 = List._∷_ (0, Rows.any-gone Syntax.tyUnit) (List._∷_ (
       114 (List._∷_ 58 (List._∷_ 58 (List._∷_ 119 (List._∷_ 97 (List._∷_ 108 (List._∷_ 107 (List._∷_ 58 (List._∷_ 58 (List._∷_ 87 (List._∷_ 97 (List._∷_ 108 (List._∷_ 107 (List._∷_
       83 (List._∷_ 116 (List._∷_ 101 (List._∷_ 112 List.[])))))))))))))))))))))) (Syntax.ttcons (Syntax.tcons (Syntax.tyStruct (List._∷_ 104 (List._∷_ 101 (List._∷_ 97 (List._∷_ 100
       (List._∷_ 101 (List._∷_ 114 (List._∷_ 58 (List._∷_ 58 (List._∷_ 119 (List._∷_ 97 (List._∷_ 108 (List._∷_ 107 (List._∷_ 58 (List._∷_ 58 (List._∷_ 80 (List._∷_ 97 (List._∷_ 115
-      (List._∷_ 115 (List._∷_ 101 (List._∷_ 100 List.[])))))))))))))))))))) (Syntax.tcons (Syntax.tyInt Syntax.w64) (Syntax.tcons Syntax.tyBool (Syntax.tcons (Syntax.tyInt
-      Syntax.w64) Syntax.tnil)))) Syntax.tnil) (Syntax.ttcons Syntax.tnil (Syntax.ttcons (Syntax.tcons (Syntax.tyStruct (List._∷_ 116 (List._∷_ 121 (List._∷_ 112 (List._∷_ 101
-      (List._∷_ 115 (List._∷_ 58 (List._∷_ 58 (List._∷_ 82 (List._∷_ 101 (List._∷_ 102 (List._∷_ 117 (List._∷_ 115 (List._∷_ 97 (List._∷_ 108 List.[])))))))))))))) (Syntax.tcons
-      (Syntax.tyInt Syntax.w32) (Syntax.tcons (Syntax.tyInt Syntax.w64) Syntax.tnil))) Syntax.tnil) Syntax.ttnil)))),
+      (List._∷_ 115 (List._∷_ 101 (List._∷_ 100 List.[])))))))))))))))))))) (Syntax.tcons (Syntax.tyInt Syntax.w64) (Syntax.tcons (Syntax.tyInt Syntax.w16) (Syntax.tcons
+      Syntax.tyBool (Syntax.tcons Syntax.tyBool (Syntax.tcons (Syntax.tyInt Syntax.w64) Syntax.tnil)))))) Syntax.tnil) (Syntax.ttcons Syntax.tnil (Syntax.ttcons (Syntax.tcons
+      (Syntax.tyStruct (List._∷_ 116 (List._∷_ 121 (List._∷_ 112 (List._∷_ 101 (List._∷_ 115 (List._∷_ 58 (List._∷_ 58 (List._∷_ 82 (List._∷_ 101 (List._∷_ 102 (List._∷_ 117
+      (List._∷_ 115 (List._∷_ 97 (List._∷_ 108 List.[])))))))))))))) (Syntax.tcons (Syntax.tyInt Syntax.w32) (Syntax.tcons (Syntax.tyInt Syntax.w64) Syntax.tnil))) Syntax.tnil)
+      Syntax.ttnil)))),
 ) (List._∷_ (
   8,
-  Rows.any-gone (Syntax.tyStruct (List._∷_ 104
-      (List._∷_ 101 (List._∷_ 97 (List._∷_ 100 (List._∷_ 101 (List._∷_ 114 (List._∷_ 58 (List._∷_ 58 (List._∷_ 119 (List._∷_ 97 (List._∷_ 108 (List._∷_ 107 (List._∷_ 58 (List._∷_ 58
-      (List._∷_ 80 (List._∷_ 97 (List._∷_ 115 (List._∷_ 115 (List._∷_ 101 (List._∷_ 100 List.[])))))))))))))))))))) (Syntax.tcons (Syntax.tyInt Syntax.w64) (Syntax.tcons
-      Syntax.tyBool (Syntax.tcons (Syntax.tyInt Syntax.w64) Syntax.tnil)))),
-) (List._∷_ (9, Rows.any-gone (Syntax.tyInt Syntax.w64)) (List._∷_ (10, Rows.any-gone Syntax.tyBool)
-    (List._∷_ (11, Rows.any-gone (Syntax.tyRef Syntax.erased Syntax.mut LentTilePartEntry.pointee)) (List._∷_ (
-      12,
-      Rows.any-gone (Syntax.tyStruct (List._∷_ 38 (List._∷_ 91
-          (List._∷_ 93 List.[]))) (Syntax.tcons (Syntax.tyRef Syntax.erased Syntax.mut LentTilePartEntry.pointee) (Syntax.tcons (Syntax.tyInt Syntax.w64) Syntax.tnil))),
-    )
-    List.[]))))))))))))
+  Rows.any-gone (Syntax.tyStruct (List._∷_ 104 (List._∷_ 101 (List._∷_ 97 (List._∷_ 100 (List._∷_ 101 (List._∷_ 114 (List._∷_ 58 (List._∷_ 58
+      (List._∷_ 119 (List._∷_ 97 (List._∷_ 108 (List._∷_ 107 (List._∷_ 58 (List._∷_ 58 (List._∷_ 80 (List._∷_ 97 (List._∷_ 115 (List._∷_ 115 (List._∷_ 101 (List._∷_ 100
+      List.[])))))))))))))))))))) (Syntax.tcons (Syntax.tyInt Syntax.w64) (Syntax.tcons (Syntax.tyInt Syntax.w16) (Syntax.tcons Syntax.tyBool (Syntax.tcons Syntax.tyBool
+      (Syntax.tcons (Syntax.tyInt Syntax.w64) Syntax.tnil)))))),
+) (List._∷_ (9, Rows.any-gone (Syntax.tyInt Syntax.w64)) (List._∷_ (10, Rows.any-gone Syntax.tyBool) (List._∷_ (
+  11,
+  Rows.any-gone (Syntax.tyRef Syntax.erased Syntax.mut LentTilePartEntry.pointee),
+) (List._∷_ (
+  12,
+  Rows.any-gone (Syntax.tyStruct (List._∷_ 38 (List._∷_ 91 (List._∷_ 93 List.[])))
+      (Syntax.tcons (Syntax.tyRef Syntax.erased Syntax.mut LentTilePartEntry.pointee) (Syntax.tcons (Syntax.tyInt Syntax.w64) Syntax.tnil))),
+) List.[]))))))))))))
 
 abbrev pub t4 : List.List Row.Entry
 t4 = List._∷_ (0, Rows.any-gone Syntax.tyUnit) (List._∷_ (
@@ -465,24 +474,24 @@ t4 = List._∷_ (0, Rows.any-gone Syntax.tyUnit) (List._∷_ (
       58 (List._∷_ 119 (List._∷_ 97 (List._∷_ 108 (List._∷_ 107 (List._∷_ 58 (List._∷_ 58 (List._∷_ 87 (List._∷_ 97 (List._∷_ 108 (List._∷_ 107 (List._∷_ 83 (List._∷_ 116 (List._∷_
       101 (List._∷_ 112 List.[])))))))))))))))))))))) (Syntax.ttcons (Syntax.tcons (Syntax.tyStruct (List._∷_ 104 (List._∷_ 101 (List._∷_ 97 (List._∷_ 100 (List._∷_ 101 (List._∷_ 114
       (List._∷_ 58 (List._∷_ 58 (List._∷_ 119 (List._∷_ 97 (List._∷_ 108 (List._∷_ 107 (List._∷_ 58 (List._∷_ 58 (List._∷_ 80 (List._∷_ 97 (List._∷_ 115 (List._∷_ 115 (List._∷_ 101
-      (List._∷_ 100 List.[])))))))))))))))))))) (Syntax.tcons (Syntax.tyInt Syntax.w64) (Syntax.tcons Syntax.tyBool (Syntax.tcons (Syntax.tyInt Syntax.w64) Syntax.tnil))))
-      Syntax.tnil) (Syntax.ttcons Syntax.tnil (Syntax.ttcons (Syntax.tcons (Syntax.tyStruct (List._∷_ 116 (List._∷_ 121 (List._∷_ 112 (List._∷_ 101 (List._∷_ 115 (List._∷_ 58
-      (List._∷_ 58 (List._∷_ 82 (List._∷_ 101 (List._∷_ 102 (List._∷_ 117 (List._∷_ 115 (List._∷_ 97 (List._∷_ 108 List.[])))))))))))))) (Syntax.tcons (Syntax.tyInt Syntax.w32)
-      (Syntax.tcons (Syntax.tyInt Syntax.w64) Syntax.tnil))) Syntax.tnil) Syntax.ttnil)))),
+      (List._∷_ 100 List.[])))))))))))))))))))) (Syntax.tcons (Syntax.tyInt Syntax.w64) (Syntax.tcons (Syntax.tyInt Syntax.w16) (Syntax.tcons Syntax.tyBool (Syntax.tcons
+      Syntax.tyBool (Syntax.tcons (Syntax.tyInt Syntax.w64) Syntax.tnil)))))) Syntax.tnil) (Syntax.ttcons Syntax.tnil (Syntax.ttcons (Syntax.tcons (Syntax.tyStruct (List._∷_ 116
+      (List._∷_ 121 (List._∷_ 112 (List._∷_ 101 (List._∷_ 115 (List._∷_ 58 (List._∷_ 58 (List._∷_ 82 (List._∷_ 101 (List._∷_ 102 (List._∷_ 117 (List._∷_ 115 (List._∷_ 97 (List._∷_
+      108 List.[])))))))))))))) (Syntax.tcons (Syntax.tyInt Syntax.w32) (Syntax.tcons (Syntax.tyInt Syntax.w64) Syntax.tnil))) Syntax.tnil) Syntax.ttnil)))),
 ) (List._∷_ (
   8,
-  Rows.any-gone (Syntax.tyStruct (List._∷_ 104 (List._∷_ 101 (List._∷_ 97
-      (List._∷_ 100 (List._∷_ 101 (List._∷_ 114 (List._∷_ 58 (List._∷_ 58 (List._∷_ 119 (List._∷_ 97 (List._∷_ 108 (List._∷_ 107 (List._∷_ 58 (List._∷_ 58 (List._∷_ 80 (List._∷_ 97
-      (List._∷_ 115 (List._∷_ 115 (List._∷_ 101 (List._∷_ 100 List.[])))))))))))))))))))) (Syntax.tcons (Syntax.tyInt Syntax.w64) (Syntax.tcons Syntax.tyBool (Syntax.tcons
-      (Syntax.tyInt Syntax.w64) Syntax.tnil)))),
+  Rows.any-gone (Syntax.tyStruct (List._∷_ 104 (List._∷_ 101 (List._∷_ 97 (List._∷_ 100 (List._∷_ 101 (List._∷_ 114 (List._∷_ 58 (List._∷_ 58 (List._∷_ 119 (List._∷_ 97 (List._∷_
+      108 (List._∷_ 107 (List._∷_ 58 (List._∷_ 58 (List._∷_ 80 (List._∷_ 97 (List._∷_ 115 (List._∷_ 115 (List._∷_ 101 (List._∷_ 100 List.[])))))))))))))))))))) (Syntax.tcons
+      (Syntax.tyInt Syntax.w64) (Syntax.tcons (Syntax.tyInt Syntax.w16) (Syntax.tcons Syntax.tyBool (Syntax.tcons Syntax.tyBool (Syntax.tcons (Syntax.tyInt Syntax.w64)
+      Syntax.tnil)))))),
 ) (List._∷_ (9, Rows.any-gone (Syntax.tyInt Syntax.w64)) (List._∷_ (10, Rows.any-gone Syntax.tyBool) (List._∷_ (
   11,
-  Rows.any-gone
-      (Syntax.tyRef Syntax.erased Syntax.mut LentTilePartEntry.pointee),
+  Rows.any-gone (Syntax.tyRef Syntax.erased
+      Syntax.mut LentTilePartEntry.pointee),
 ) (List._∷_ (
   12,
-  Rows.any-gone (Syntax.tyStruct (List._∷_ 38 (List._∷_ 91 (List._∷_ 93 List.[]))) (Syntax.tcons
-      (Syntax.tyRef Syntax.erased Syntax.mut LentTilePartEntry.pointee) (Syntax.tcons (Syntax.tyInt Syntax.w64) Syntax.tnil))),
+  Rows.any-gone (Syntax.tyStruct (List._∷_ 38 (List._∷_ 91 (List._∷_ 93 List.[]))) (Syntax.tcons (Syntax.tyRef Syntax.erased
+      Syntax.mut LentTilePartEntry.pointee) (Syntax.tcons (Syntax.tyInt Syntax.w64) Syntax.tnil))),
 ) List.[]))))))))))))
 
 abbrev pub t5 : List.List Row.Entry
@@ -506,23 +515,25 @@ t5 = List._∷_ (0, Rows.any-gone Syntax.tyUnit) (List._∷_ (
           101 (List._∷_ 114 (List._∷_ 58 (List._∷_ 58 (List._∷_ 119 (List._∷_ 97 (List._∷_ 108 (List._∷_ 107 (List._∷_ 58 (List._∷_ 58 (List._∷_ 87 (List._∷_ 97 (List._∷_ 108 (List._∷_
           107 (List._∷_ 83 (List._∷_ 116 (List._∷_ 101 (List._∷_ 112 List.[])))))))))))))))))))))) (Syntax.ttcons (Syntax.tcons (Syntax.tyStruct (List._∷_ 104 (List._∷_ 101 (List._∷_ 97
           (List._∷_ 100 (List._∷_ 101 (List._∷_ 114 (List._∷_ 58 (List._∷_ 58 (List._∷_ 119 (List._∷_ 97 (List._∷_ 108 (List._∷_ 107 (List._∷_ 58 (List._∷_ 58 (List._∷_ 80 (List._∷_ 97
-          (List._∷_ 115 (List._∷_ 115 (List._∷_ 101 (List._∷_ 100 List.[])))))))))))))))))))) (Syntax.tcons (Syntax.tyInt Syntax.w64) (Syntax.tcons Syntax.tyBool (Syntax.tcons
-          (Syntax.tyInt Syntax.w64) Syntax.tnil)))) Syntax.tnil) (Syntax.ttcons Syntax.tnil (Syntax.ttcons (Syntax.tcons (Syntax.tyStruct (List._∷_ 116 (List._∷_ 121 (List._∷_ 112
-          (List._∷_ 101 (List._∷_ 115 (List._∷_ 58 (List._∷_ 58 (List._∷_ 82 (List._∷_ 101 (List._∷_ 102 (List._∷_ 117 (List._∷_ 115 (List._∷_ 97 (List._∷_ 108 List.[]))))))))))))))
-          (Syntax.tcons (Syntax.tyInt Syntax.w32) (Syntax.tcons (Syntax.tyInt Syntax.w64) Syntax.tnil))) Syntax.tnil) Syntax.ttnil)))),
+          (List._∷_ 115 (List._∷_ 115 (List._∷_ 101 (List._∷_ 100 List.[])))))))))))))))))))) (Syntax.tcons (Syntax.tyInt Syntax.w64) (Syntax.tcons (Syntax.tyInt Syntax.w16)
+          (Syntax.tcons Syntax.tyBool (Syntax.tcons Syntax.tyBool (Syntax.tcons (Syntax.tyInt Syntax.w64) Syntax.tnil)))))) Syntax.tnil) (Syntax.ttcons Syntax.tnil (Syntax.ttcons
+          (Syntax.tcons (Syntax.tyStruct (List._∷_ 116 (List._∷_ 121 (List._∷_ 112 (List._∷_ 101 (List._∷_ 115 (List._∷_ 58 (List._∷_ 58 (List._∷_ 82 (List._∷_ 101 (List._∷_ 102
+          (List._∷_ 117 (List._∷_ 115 (List._∷_ 97 (List._∷_ 108 List.[])))))))))))))) (Syntax.tcons (Syntax.tyInt Syntax.w32) (Syntax.tcons (Syntax.tyInt Syntax.w64) Syntax.tnil)))
+          Syntax.tnil) Syntax.ttnil)))),
     ) (List._∷_ (
       8,
-      Rows.any-gone (Syntax.tyStruct
-          (List._∷_ 104 (List._∷_ 101 (List._∷_ 97 (List._∷_ 100 (List._∷_ 101 (List._∷_ 114 (List._∷_ 58 (List._∷_ 58 (List._∷_ 119 (List._∷_ 97 (List._∷_ 108 (List._∷_ 107 (List._∷_ 58
-          (List._∷_ 58 (List._∷_ 80 (List._∷_ 97 (List._∷_ 115 (List._∷_ 115 (List._∷_ 101 (List._∷_ 100 List.[])))))))))))))))))))) (Syntax.tcons (Syntax.tyInt Syntax.w64) (Syntax.tcons
-          Syntax.tyBool (Syntax.tcons (Syntax.tyInt Syntax.w64) Syntax.tnil)))),
-    ) (List._∷_ (9, Rows.any-gone (Syntax.tyInt Syntax.w64)) (List._∷_ (10, Rows.any-gone Syntax.tyBool)
-    (List._∷_ (11, Rows.any-gone (Syntax.tyRef Syntax.erased Syntax.mut LentTilePartEntry.pointee)) (List._∷_ (
+      Rows.any-gone (Syntax.tyStruct (List._∷_ 104 (List._∷_ 101 (List._∷_ 97 (List._∷_ 100 (List._∷_ 101 (List._∷_ 114 (List._∷_ 58
+          (List._∷_ 58 (List._∷_ 119 (List._∷_ 97 (List._∷_ 108 (List._∷_ 107 (List._∷_ 58 (List._∷_ 58 (List._∷_ 80 (List._∷_ 97 (List._∷_ 115 (List._∷_ 115 (List._∷_ 101 (List._∷_ 100
+          List.[])))))))))))))))))))) (Syntax.tcons (Syntax.tyInt Syntax.w64) (Syntax.tcons (Syntax.tyInt Syntax.w16) (Syntax.tcons Syntax.tyBool (Syntax.tcons Syntax.tyBool
+          (Syntax.tcons (Syntax.tyInt Syntax.w64) Syntax.tnil)))))),
+    ) (List._∷_ (9, Rows.any-gone (Syntax.tyInt Syntax.w64)) (List._∷_ (10, Rows.any-gone Syntax.tyBool) (List._∷_ (
+      11,
+      Rows.any-gone (Syntax.tyRef Syntax.erased Syntax.mut LentTilePartEntry.pointee),
+    ) (List._∷_ (
       12,
-      Rows.any-gone (Syntax.tyStruct (List._∷_ 38 (List._∷_ 91
-          (List._∷_ 93 List.[]))) (Syntax.tcons (Syntax.tyRef Syntax.erased Syntax.mut LentTilePartEntry.pointee) (Syntax.tcons (Syntax.tyInt Syntax.w64) Syntax.tnil))),
-    )
-    List.[]))))))))))))
+      Rows.any-gone (Syntax.tyStruct (List._∷_ 38 (List._∷_ 91 (List._∷_ 93 List.[])))
+          (Syntax.tcons (Syntax.tyRef Syntax.erased Syntax.mut LentTilePartEntry.pointee) (Syntax.tcons (Syntax.tyInt Syntax.w64) Syntax.tnil))),
+    ) List.[]))))))))))))
 
 abbrev pub t6 : List.List Row.Entry
 t6 = List._∷_ (0, Rows.any-gone Syntax.tyUnit) (List._∷_ (
@@ -544,14 +555,16 @@ t6 = List._∷_ (0, Rows.any-gone Syntax.tyUnit) (List._∷_ (
       Rows.any-gone (Syntax.tyStruct
           (List._∷_ 104 (List._∷_ 101 (List._∷_ 97 (List._∷_ 100 (List._∷_ 101 (List._∷_ 114 (List._∷_ 58 (List._∷_ 58 (List._∷_ 119 (List._∷_ 97 (List._∷_ 108 (List._∷_ 107 (List._∷_ 58
           (List._∷_ 58 (List._∷_ 80 (List._∷_ 97 (List._∷_ 115 (List._∷_ 115 (List._∷_ 101 (List._∷_ 100 List.[])))))))))))))))))))) (Syntax.tcons (Syntax.tyInt Syntax.w64) (Syntax.tcons
-          Syntax.tyBool (Syntax.tcons (Syntax.tyInt Syntax.w64) Syntax.tnil)))),
-    ) (List._∷_ (9, Rows.any-gone (Syntax.tyInt Syntax.w64)) (List._∷_ (10, Rows.any-gone Syntax.tyBool)
-    (List._∷_ (11, Rows.any-gone (Syntax.tyRef Syntax.erased Syntax.mut LentTilePartEntry.pointee)) (List._∷_ (
+          (Syntax.tyInt Syntax.w16) (Syntax.tcons Syntax.tyBool (Syntax.tcons Syntax.tyBool (Syntax.tcons (Syntax.tyInt Syntax.w64) Syntax.tnil)))))),
+    ) (List._∷_ (
+      9,
+      Rows.any-gone
+          (Syntax.tyInt Syntax.w64),
+    ) (List._∷_ (10, Rows.any-gone Syntax.tyBool) (List._∷_ (11, Rows.any-gone (Syntax.tyRef Syntax.erased Syntax.mut LentTilePartEntry.pointee)) (List._∷_ (
       12,
-      Rows.any-gone (Syntax.tyStruct (List._∷_ 38 (List._∷_ 91
-          (List._∷_ 93 List.[]))) (Syntax.tcons (Syntax.tyRef Syntax.erased Syntax.mut LentTilePartEntry.pointee) (Syntax.tcons (Syntax.tyInt Syntax.w64) Syntax.tnil))),
-    )
-    List.[]))))))))))))
+      Rows.any-gone (Syntax.tyStruct (List._∷_ 38 (List._∷_ 91 (List._∷_ 93 List.[]))) (Syntax.tcons (Syntax.tyRef Syntax.erased Syntax.mut LentTilePartEntry.pointee)
+          (Syntax.tcons (Syntax.tyInt Syntax.w64) Syntax.tnil))),
+    ) List.[]))))))))))))
 
 abbrev pub t7 : List.List Row.Entry
 t7 = List._∷_ (0, Rows.any-gone Syntax.tyUnit) (List._∷_ (
@@ -574,23 +587,21 @@ t7 = List._∷_ (0, Rows.any-gone Syntax.tyUnit) (List._∷_ (
           101 (List._∷_ 114 (List._∷_ 58 (List._∷_ 58 (List._∷_ 119 (List._∷_ 97 (List._∷_ 108 (List._∷_ 107 (List._∷_ 58 (List._∷_ 58 (List._∷_ 87 (List._∷_ 97 (List._∷_ 108 (List._∷_
           107 (List._∷_ 83 (List._∷_ 116 (List._∷_ 101 (List._∷_ 112 List.[])))))))))))))))))))))) (Syntax.ttcons (Syntax.tcons (Syntax.tyStruct (List._∷_ 104 (List._∷_ 101 (List._∷_ 97
           (List._∷_ 100 (List._∷_ 101 (List._∷_ 114 (List._∷_ 58 (List._∷_ 58 (List._∷_ 119 (List._∷_ 97 (List._∷_ 108 (List._∷_ 107 (List._∷_ 58 (List._∷_ 58 (List._∷_ 80 (List._∷_ 97
-          (List._∷_ 115 (List._∷_ 115 (List._∷_ 101 (List._∷_ 100 List.[])))))))))))))))))))) (Syntax.tcons (Syntax.tyInt Syntax.w64) (Syntax.tcons Syntax.tyBool (Syntax.tcons
-          (Syntax.tyInt Syntax.w64) Syntax.tnil)))) Syntax.tnil) (Syntax.ttcons Syntax.tnil (Syntax.ttcons (Syntax.tcons (Syntax.tyStruct (List._∷_ 116 (List._∷_ 121 (List._∷_ 112
-          (List._∷_ 101 (List._∷_ 115 (List._∷_ 58 (List._∷_ 58 (List._∷_ 82 (List._∷_ 101 (List._∷_ 102 (List._∷_ 117 (List._∷_ 115 (List._∷_ 97 (List._∷_ 108 List.[]))))))))))))))
-          (Syntax.tcons (Syntax.tyInt Syntax.w32) (Syntax.tcons (Syntax.tyInt Syntax.w64) Syntax.tnil))) Syntax.tnil) Syntax.ttnil)))),
-    ) (List._∷_ (
-      8,
-      Rows.whole (Declared'.row
-          Passed.the-type),
-    ) (List._∷_ (9, Rows.any-gone (Syntax.tyInt Syntax.w64)) (List._∷_ (10, Rows.any-gone Syntax.tyBool) (List._∷_ (
-      11,
-      Rows.any-gone (Syntax.tyRef Syntax.erased
-          Syntax.mut LentTilePartEntry.pointee),
-    ) (List._∷_ (
+          (List._∷_ 115 (List._∷_ 115 (List._∷_ 101 (List._∷_ 100 List.[])))))))))))))))))))) (Syntax.tcons (Syntax.tyInt Syntax.w64) (Syntax.tcons (Syntax.tyInt Syntax.w16)
+          (Syntax.tcons Syntax.tyBool (Syntax.tcons Syntax.tyBool (Syntax.tcons (Syntax.tyInt Syntax.w64) Syntax.tnil)))))) Syntax.tnil) (Syntax.ttcons Syntax.tnil (Syntax.ttcons
+          (Syntax.tcons (Syntax.tyStruct (List._∷_ 116 (List._∷_ 121 (List._∷_ 112 (List._∷_ 101 (List._∷_ 115 (List._∷_ 58 (List._∷_ 58 (List._∷_ 82 (List._∷_ 101 (List._∷_ 102
+          (List._∷_ 117 (List._∷_ 115 (List._∷_ 97 (List._∷_ 108 List.[])))))))))))))) (Syntax.tcons (Syntax.tyInt Syntax.w32) (Syntax.tcons (Syntax.tyInt Syntax.w64) Syntax.tnil)))
+          Syntax.tnil) Syntax.ttnil)))),
+    ) (List._∷_ (8, Rows.whole (Declared'.row Passed.the-type)) (List._∷_ (9, Rows.any-gone (Syntax.tyInt Syntax.w64)) (List._∷_ (
+      10,
+      Rows.any-gone
+          Syntax.tyBool,
+    ) (List._∷_ (11, Rows.any-gone (Syntax.tyRef Syntax.erased Syntax.mut LentTilePartEntry.pointee)) (List._∷_ (
       12,
-      Rows.any-gone (Syntax.tyStruct (List._∷_ 38 (List._∷_ 91 (List._∷_ 93 List.[]))) (Syntax.tcons (Syntax.tyRef Syntax.erased
-          Syntax.mut LentTilePartEntry.pointee) (Syntax.tcons (Syntax.tyInt Syntax.w64) Syntax.tnil))),
-    ) List.[]))))))))))))
+      Rows.any-gone (Syntax.tyStruct (List._∷_ 38
+          (List._∷_ 91 (List._∷_ 93 List.[]))) (Syntax.tcons (Syntax.tyRef Syntax.erased Syntax.mut LentTilePartEntry.pointee) (Syntax.tcons (Syntax.tyInt Syntax.w64) Syntax.tnil))),
+    )
+    List.[]))))))))))))
 
 abbrev pub t8 : List.List Row.Entry
 t8 = List._∷_ (0, Rows.any-gone Syntax.tyUnit) (List._∷_ (
@@ -612,14 +623,16 @@ t8 = List._∷_ (0, Rows.any-gone Syntax.tyUnit) (List._∷_ (
       Rows.any-gone (Syntax.tyStruct
           (List._∷_ 104 (List._∷_ 101 (List._∷_ 97 (List._∷_ 100 (List._∷_ 101 (List._∷_ 114 (List._∷_ 58 (List._∷_ 58 (List._∷_ 119 (List._∷_ 97 (List._∷_ 108 (List._∷_ 107 (List._∷_ 58
           (List._∷_ 58 (List._∷_ 80 (List._∷_ 97 (List._∷_ 115 (List._∷_ 115 (List._∷_ 101 (List._∷_ 100 List.[])))))))))))))))))))) (Syntax.tcons (Syntax.tyInt Syntax.w64) (Syntax.tcons
-          Syntax.tyBool (Syntax.tcons (Syntax.tyInt Syntax.w64) Syntax.tnil)))),
-    ) (List._∷_ (9, Rows.any-gone (Syntax.tyInt Syntax.w64)) (List._∷_ (10, Rows.any-gone Syntax.tyBool)
-    (List._∷_ (11, Rows.any-gone (Syntax.tyRef Syntax.erased Syntax.mut LentTilePartEntry.pointee)) (List._∷_ (
+          (Syntax.tyInt Syntax.w16) (Syntax.tcons Syntax.tyBool (Syntax.tcons Syntax.tyBool (Syntax.tcons (Syntax.tyInt Syntax.w64) Syntax.tnil)))))),
+    ) (List._∷_ (
+      9,
+      Rows.any-gone
+          (Syntax.tyInt Syntax.w64),
+    ) (List._∷_ (10, Rows.any-gone Syntax.tyBool) (List._∷_ (11, Rows.any-gone (Syntax.tyRef Syntax.erased Syntax.mut LentTilePartEntry.pointee)) (List._∷_ (
       12,
-      Rows.any-gone (Syntax.tyStruct (List._∷_ 38 (List._∷_ 91
-          (List._∷_ 93 List.[]))) (Syntax.tcons (Syntax.tyRef Syntax.erased Syntax.mut LentTilePartEntry.pointee) (Syntax.tcons (Syntax.tyInt Syntax.w64) Syntax.tnil))),
-    )
-    List.[]))))))))))))
+      Rows.any-gone (Syntax.tyStruct (List._∷_ 38 (List._∷_ 91 (List._∷_ 93 List.[]))) (Syntax.tcons (Syntax.tyRef Syntax.erased Syntax.mut LentTilePartEntry.pointee)
+          (Syntax.tcons (Syntax.tyInt Syntax.w64) Syntax.tnil))),
+    ) List.[]))))))))))))
 
 abbrev pub t9 : List.List Row.Entry
 t9 = List._∷_ (0, Rows.any-gone Syntax.tyUnit) (List._∷_ (
@@ -674,13 +687,16 @@ t10 = List._∷_ (0, Rows.any-gone Syntax.tyUnit) (List._∷_ (
       8,
       Rows.any-gone (Syntax.tyStruct (List._∷_ 104 (List._∷_ 101 (List._∷_ 97 (List._∷_ 100 (List._∷_ 101 (List._∷_ 114 (List._∷_ 58 (List._∷_ 58 (List._∷_ 119 (List._∷_ 97 (List._∷_
           108 (List._∷_ 107 (List._∷_ 58 (List._∷_ 58 (List._∷_ 80 (List._∷_ 97 (List._∷_ 115 (List._∷_ 115 (List._∷_ 101 (List._∷_ 100 List.[])))))))))))))))))))) (Syntax.tcons
-          (Syntax.tyInt Syntax.w64) (Syntax.tcons Syntax.tyBool (Syntax.tcons (Syntax.tyInt Syntax.w64) Syntax.tnil)))),
-    ) (List._∷_ (9, Rows.any-gone (Syntax.tyInt Syntax.w64)) (List._∷_
-    (10, Rows.any-gone Syntax.tyBool) (List._∷_ (11, Rows.any-gone (Syntax.tyRef Syntax.erased Syntax.mut LentTilePartEntry.pointee)) (List._∷_ (
+          (Syntax.tyInt Syntax.w64) (Syntax.tcons (Syntax.tyInt Syntax.w16) (Syntax.tcons Syntax.tyBool (Syntax.tcons Syntax.tyBool (Syntax.tcons (Syntax.tyInt Syntax.w64)
+          Syntax.tnil)))))),
+    ) (List._∷_ (9, Rows.any-gone (Syntax.tyInt Syntax.w64)) (List._∷_ (10, Rows.any-gone Syntax.tyBool) (List._∷_ (
+      11,
+      Rows.any-gone (Syntax.tyRef Syntax.erased
+          Syntax.mut LentTilePartEntry.pointee),
+    ) (List._∷_ (
       12,
-      Rows.any-gone (Syntax.tyStruct
-          (List._∷_ 38 (List._∷_ 91 (List._∷_ 93 List.[]))) (Syntax.tcons (Syntax.tyRef Syntax.erased Syntax.mut LentTilePartEntry.pointee) (Syntax.tcons (Syntax.tyInt Syntax.w64)
-          Syntax.tnil))),
+      Rows.any-gone (Syntax.tyStruct (List._∷_ 38 (List._∷_ 91 (List._∷_ 93 List.[]))) (Syntax.tcons (Syntax.tyRef Syntax.erased
+          Syntax.mut LentTilePartEntry.pointee) (Syntax.tcons (Syntax.tyInt Syntax.w64) Syntax.tnil))),
     ) List.[]))))))))))))
 
 abbrev pub t11 : List.List Row.Entry
@@ -710,21 +726,23 @@ t11 = List._∷_ (0, Rows.any-gone Syntax.tyUnit) (List._∷_ (
           (List._∷_ 97 (List._∷_ 108 (List._∷_ 107 (List._∷_ 83 (List._∷_ 116 (List._∷_ 101 (List._∷_ 112 List.[])))))))))))))))))))))) (Syntax.ttcons (Syntax.tcons (Syntax.tyStruct
           (List._∷_ 104 (List._∷_ 101 (List._∷_ 97 (List._∷_ 100 (List._∷_ 101 (List._∷_ 114 (List._∷_ 58 (List._∷_ 58 (List._∷_ 119 (List._∷_ 97 (List._∷_ 108 (List._∷_ 107 (List._∷_ 58
           (List._∷_ 58 (List._∷_ 80 (List._∷_ 97 (List._∷_ 115 (List._∷_ 115 (List._∷_ 101 (List._∷_ 100 List.[])))))))))))))))))))) (Syntax.tcons (Syntax.tyInt Syntax.w64) (Syntax.tcons
-          Syntax.tyBool (Syntax.tcons (Syntax.tyInt Syntax.w64) Syntax.tnil)))) Syntax.tnil) (Syntax.ttcons Syntax.tnil (Syntax.ttcons (Syntax.tcons (Syntax.tyStruct (List._∷_ 116
-          (List._∷_ 121 (List._∷_ 112 (List._∷_ 101 (List._∷_ 115 (List._∷_ 58 (List._∷_ 58 (List._∷_ 82 (List._∷_ 101 (List._∷_ 102 (List._∷_ 117 (List._∷_ 115 (List._∷_ 97 (List._∷_
-          108 List.[])))))))))))))) (Syntax.tcons (Syntax.tyInt Syntax.w32) (Syntax.tcons (Syntax.tyInt Syntax.w64) Syntax.tnil))) Syntax.tnil) Syntax.ttnil)))),
+          (Syntax.tyInt Syntax.w16) (Syntax.tcons Syntax.tyBool (Syntax.tcons Syntax.tyBool (Syntax.tcons (Syntax.tyInt Syntax.w64) Syntax.tnil)))))) Syntax.tnil) (Syntax.ttcons
+          Syntax.tnil (Syntax.ttcons (Syntax.tcons (Syntax.tyStruct (List._∷_ 116 (List._∷_ 121 (List._∷_ 112 (List._∷_ 101 (List._∷_ 115 (List._∷_ 58 (List._∷_ 58 (List._∷_ 82 (List._∷_
+          101 (List._∷_ 102 (List._∷_ 117 (List._∷_ 115 (List._∷_ 97 (List._∷_ 108 List.[])))))))))))))) (Syntax.tcons (Syntax.tyInt Syntax.w32) (Syntax.tcons (Syntax.tyInt Syntax.w64)
+          Syntax.tnil))) Syntax.tnil) Syntax.ttnil)))),
     ) (List._∷_ (
       8,
-      Rows.any-gone (Syntax.tyStruct (List._∷_ 104 (List._∷_ 101 (List._∷_ 97 (List._∷_ 100 (List._∷_ 101 (List._∷_ 114 (List._∷_ 58 (List._∷_ 58 (List._∷_ 119 (List._∷_ 97 (List._∷_
-          108 (List._∷_ 107 (List._∷_ 58 (List._∷_ 58 (List._∷_ 80 (List._∷_ 97 (List._∷_ 115 (List._∷_ 115 (List._∷_ 101 (List._∷_ 100 List.[])))))))))))))))))))) (Syntax.tcons
-          (Syntax.tyInt Syntax.w64) (Syntax.tcons Syntax.tyBool (Syntax.tcons (Syntax.tyInt Syntax.w64) Syntax.tnil)))),
-    ) (List._∷_ (9, Rows.any-gone (Syntax.tyInt Syntax.w64)) (List._∷_
-    (10, Rows.any-gone Syntax.tyBool) (List._∷_ (11, Rows.any-gone (Syntax.tyRef Syntax.erased Syntax.mut LentTilePartEntry.pointee)) (List._∷_ (
+      Rows.any-gone (Syntax.tyStruct (List._∷_ 104 (List._∷_ 101 (List._∷_ 97 (List._∷_ 100 (List._∷_ 101 (List._∷_ 114
+          (List._∷_ 58 (List._∷_ 58 (List._∷_ 119 (List._∷_ 97 (List._∷_ 108 (List._∷_ 107 (List._∷_ 58 (List._∷_ 58 (List._∷_ 80 (List._∷_ 97 (List._∷_ 115 (List._∷_ 115 (List._∷_ 101
+          (List._∷_ 100 List.[])))))))))))))))))))) (Syntax.tcons (Syntax.tyInt Syntax.w64) (Syntax.tcons (Syntax.tyInt Syntax.w16) (Syntax.tcons Syntax.tyBool (Syntax.tcons
+          Syntax.tyBool (Syntax.tcons (Syntax.tyInt Syntax.w64) Syntax.tnil)))))),
+    ) (List._∷_ (9, Rows.any-gone (Syntax.tyInt Syntax.w64)) (List._∷_ (10, Rows.any-gone Syntax.tyBool)
+    (List._∷_ (11, Rows.any-gone (Syntax.tyRef Syntax.erased Syntax.mut LentTilePartEntry.pointee)) (List._∷_ (
       12,
-      Rows.any-gone (Syntax.tyStruct
-          (List._∷_ 38 (List._∷_ 91 (List._∷_ 93 List.[]))) (Syntax.tcons (Syntax.tyRef Syntax.erased Syntax.mut LentTilePartEntry.pointee) (Syntax.tcons (Syntax.tyInt Syntax.w64)
-          Syntax.tnil))),
-    ) List.[]))))))))))))
+      Rows.any-gone (Syntax.tyStruct (List._∷_ 38 (List._∷_ 91
+          (List._∷_ 93 List.[]))) (Syntax.tcons (Syntax.tyRef Syntax.erased Syntax.mut LentTilePartEntry.pointee) (Syntax.tcons (Syntax.tyInt Syntax.w64) Syntax.tnil))),
+    )
+    List.[]))))))))))))
 
 abbrev pub t12 : List.List Row.Entry
 t12 = List._∷_ (0, Rows.sc-here Row.sUnit) (List._∷_ (1, Rows.sslice (Referent.rtF (Referent.fInt Syntax.w8)) (Syntax.tyRef (Syntax.named 0) Syntax.imm (Syntax.tyInt Syntax.w8)) 0)
@@ -749,21 +767,23 @@ t12 = List._∷_ (0, Rows.sc-here Row.sUnit) (List._∷_ (1, Rows.sslice (Refere
           (List._∷_ 108 (List._∷_ 107 (List._∷_ 83 (List._∷_ 116 (List._∷_ 101 (List._∷_ 112 List.[])))))))))))))))))))))) (Syntax.ttcons (Syntax.tcons (Syntax.tyStruct (List._∷_ 104
           (List._∷_ 101 (List._∷_ 97 (List._∷_ 100 (List._∷_ 101 (List._∷_ 114 (List._∷_ 58 (List._∷_ 58 (List._∷_ 119 (List._∷_ 97 (List._∷_ 108 (List._∷_ 107 (List._∷_ 58 (List._∷_ 58
           (List._∷_ 80 (List._∷_ 97 (List._∷_ 115 (List._∷_ 115 (List._∷_ 101 (List._∷_ 100 List.[])))))))))))))))))))) (Syntax.tcons (Syntax.tyInt Syntax.w64) (Syntax.tcons
-          Syntax.tyBool (Syntax.tcons (Syntax.tyInt Syntax.w64) Syntax.tnil)))) Syntax.tnil) (Syntax.ttcons Syntax.tnil (Syntax.ttcons (Syntax.tcons (Syntax.tyStruct (List._∷_ 116
-          (List._∷_ 121 (List._∷_ 112 (List._∷_ 101 (List._∷_ 115 (List._∷_ 58 (List._∷_ 58 (List._∷_ 82 (List._∷_ 101 (List._∷_ 102 (List._∷_ 117 (List._∷_ 115 (List._∷_ 97 (List._∷_
-          108 List.[])))))))))))))) (Syntax.tcons (Syntax.tyInt Syntax.w32) (Syntax.tcons (Syntax.tyInt Syntax.w64) Syntax.tnil))) Syntax.tnil) Syntax.ttnil)))),
+          (Syntax.tyInt Syntax.w16) (Syntax.tcons Syntax.tyBool (Syntax.tcons Syntax.tyBool (Syntax.tcons (Syntax.tyInt Syntax.w64) Syntax.tnil)))))) Syntax.tnil) (Syntax.ttcons
+          Syntax.tnil (Syntax.ttcons (Syntax.tcons (Syntax.tyStruct (List._∷_ 116 (List._∷_ 121 (List._∷_ 112 (List._∷_ 101 (List._∷_ 115 (List._∷_ 58 (List._∷_ 58 (List._∷_ 82 (List._∷_
+          101 (List._∷_ 102 (List._∷_ 117 (List._∷_ 115 (List._∷_ 97 (List._∷_ 108 List.[])))))))))))))) (Syntax.tcons (Syntax.tyInt Syntax.w32) (Syntax.tcons (Syntax.tyInt Syntax.w64)
+          Syntax.tnil))) Syntax.tnil) Syntax.ttnil)))),
     ) (List._∷_ (
       8,
-      Rows.any-gone (Syntax.tyStruct (List._∷_ 104 (List._∷_ 101 (List._∷_ 97 (List._∷_ 100 (List._∷_ 101 (List._∷_ 114 (List._∷_ 58 (List._∷_ 58 (List._∷_ 119 (List._∷_ 97 (List._∷_
-          108 (List._∷_ 107 (List._∷_ 58 (List._∷_ 58 (List._∷_ 80 (List._∷_ 97 (List._∷_ 115 (List._∷_ 115 (List._∷_ 101 (List._∷_ 100 List.[])))))))))))))))))))) (Syntax.tcons
-          (Syntax.tyInt Syntax.w64) (Syntax.tcons Syntax.tyBool (Syntax.tcons (Syntax.tyInt Syntax.w64) Syntax.tnil)))),
-    ) (List._∷_ (9, Rows.any-gone (Syntax.tyInt Syntax.w64)) (List._∷_
-    (10, Rows.any-gone Syntax.tyBool) (List._∷_ (11, Rows.any-gone (Syntax.tyRef Syntax.erased Syntax.mut LentTilePartEntry.pointee)) (List._∷_ (
+      Rows.any-gone (Syntax.tyStruct (List._∷_ 104 (List._∷_ 101 (List._∷_ 97 (List._∷_ 100 (List._∷_ 101 (List._∷_ 114
+          (List._∷_ 58 (List._∷_ 58 (List._∷_ 119 (List._∷_ 97 (List._∷_ 108 (List._∷_ 107 (List._∷_ 58 (List._∷_ 58 (List._∷_ 80 (List._∷_ 97 (List._∷_ 115 (List._∷_ 115 (List._∷_ 101
+          (List._∷_ 100 List.[])))))))))))))))))))) (Syntax.tcons (Syntax.tyInt Syntax.w64) (Syntax.tcons (Syntax.tyInt Syntax.w16) (Syntax.tcons Syntax.tyBool (Syntax.tcons
+          Syntax.tyBool (Syntax.tcons (Syntax.tyInt Syntax.w64) Syntax.tnil)))))),
+    ) (List._∷_ (9, Rows.any-gone (Syntax.tyInt Syntax.w64)) (List._∷_ (10, Rows.any-gone Syntax.tyBool)
+    (List._∷_ (11, Rows.any-gone (Syntax.tyRef Syntax.erased Syntax.mut LentTilePartEntry.pointee)) (List._∷_ (
       12,
-      Rows.any-gone (Syntax.tyStruct
-          (List._∷_ 38 (List._∷_ 91 (List._∷_ 93 List.[]))) (Syntax.tcons (Syntax.tyRef Syntax.erased Syntax.mut LentTilePartEntry.pointee) (Syntax.tcons (Syntax.tyInt Syntax.w64)
-          Syntax.tnil))),
-    ) List.[]))))))))))))
+      Rows.any-gone (Syntax.tyStruct (List._∷_ 38 (List._∷_ 91
+          (List._∷_ 93 List.[]))) (Syntax.tcons (Syntax.tyRef Syntax.erased Syntax.mut LentTilePartEntry.pointee) (Syntax.tcons (Syntax.tyInt Syntax.w64) Syntax.tnil))),
+    )
+    List.[]))))))))))))
 
 abbrev pub t13 : List.List Row.Entry
 t13 = List._∷_ (0, Rows.sc-here Row.sUnit) (List._∷_ (1, Rows.sslice (Referent.rtF (Referent.fInt Syntax.w8)) (Syntax.tyRef (Syntax.named 0) Syntax.imm (Syntax.tyInt Syntax.w8)) 0)
@@ -788,21 +808,23 @@ t13 = List._∷_ (0, Rows.sc-here Row.sUnit) (List._∷_ (1, Rows.sslice (Refere
           (List._∷_ 108 (List._∷_ 107 (List._∷_ 83 (List._∷_ 116 (List._∷_ 101 (List._∷_ 112 List.[])))))))))))))))))))))) (Syntax.ttcons (Syntax.tcons (Syntax.tyStruct (List._∷_ 104
           (List._∷_ 101 (List._∷_ 97 (List._∷_ 100 (List._∷_ 101 (List._∷_ 114 (List._∷_ 58 (List._∷_ 58 (List._∷_ 119 (List._∷_ 97 (List._∷_ 108 (List._∷_ 107 (List._∷_ 58 (List._∷_ 58
           (List._∷_ 80 (List._∷_ 97 (List._∷_ 115 (List._∷_ 115 (List._∷_ 101 (List._∷_ 100 List.[])))))))))))))))))))) (Syntax.tcons (Syntax.tyInt Syntax.w64) (Syntax.tcons
-          Syntax.tyBool (Syntax.tcons (Syntax.tyInt Syntax.w64) Syntax.tnil)))) Syntax.tnil) (Syntax.ttcons Syntax.tnil (Syntax.ttcons (Syntax.tcons (Syntax.tyStruct (List._∷_ 116
-          (List._∷_ 121 (List._∷_ 112 (List._∷_ 101 (List._∷_ 115 (List._∷_ 58 (List._∷_ 58 (List._∷_ 82 (List._∷_ 101 (List._∷_ 102 (List._∷_ 117 (List._∷_ 115 (List._∷_ 97 (List._∷_
-          108 List.[])))))))))))))) (Syntax.tcons (Syntax.tyInt Syntax.w32) (Syntax.tcons (Syntax.tyInt Syntax.w64) Syntax.tnil))) Syntax.tnil) Syntax.ttnil)))),
+          (Syntax.tyInt Syntax.w16) (Syntax.tcons Syntax.tyBool (Syntax.tcons Syntax.tyBool (Syntax.tcons (Syntax.tyInt Syntax.w64) Syntax.tnil)))))) Syntax.tnil) (Syntax.ttcons
+          Syntax.tnil (Syntax.ttcons (Syntax.tcons (Syntax.tyStruct (List._∷_ 116 (List._∷_ 121 (List._∷_ 112 (List._∷_ 101 (List._∷_ 115 (List._∷_ 58 (List._∷_ 58 (List._∷_ 82 (List._∷_
+          101 (List._∷_ 102 (List._∷_ 117 (List._∷_ 115 (List._∷_ 97 (List._∷_ 108 List.[])))))))))))))) (Syntax.tcons (Syntax.tyInt Syntax.w32) (Syntax.tcons (Syntax.tyInt Syntax.w64)
+          Syntax.tnil))) Syntax.tnil) Syntax.ttnil)))),
     ) (List._∷_ (
       8,
-      Rows.any-gone (Syntax.tyStruct (List._∷_ 104 (List._∷_ 101 (List._∷_ 97 (List._∷_ 100 (List._∷_ 101 (List._∷_ 114 (List._∷_ 58 (List._∷_ 58 (List._∷_ 119 (List._∷_ 97 (List._∷_
-          108 (List._∷_ 107 (List._∷_ 58 (List._∷_ 58 (List._∷_ 80 (List._∷_ 97 (List._∷_ 115 (List._∷_ 115 (List._∷_ 101 (List._∷_ 100 List.[])))))))))))))))))))) (Syntax.tcons
-          (Syntax.tyInt Syntax.w64) (Syntax.tcons Syntax.tyBool (Syntax.tcons (Syntax.tyInt Syntax.w64) Syntax.tnil)))),
-    ) (List._∷_ (9, Rows.any-gone (Syntax.tyInt Syntax.w64)) (List._∷_
-    (10, Rows.any-gone Syntax.tyBool) (List._∷_ (11, Rows.any-gone (Syntax.tyRef Syntax.erased Syntax.mut LentTilePartEntry.pointee)) (List._∷_ (
+      Rows.any-gone (Syntax.tyStruct (List._∷_ 104 (List._∷_ 101 (List._∷_ 97 (List._∷_ 100 (List._∷_ 101 (List._∷_ 114
+          (List._∷_ 58 (List._∷_ 58 (List._∷_ 119 (List._∷_ 97 (List._∷_ 108 (List._∷_ 107 (List._∷_ 58 (List._∷_ 58 (List._∷_ 80 (List._∷_ 97 (List._∷_ 115 (List._∷_ 115 (List._∷_ 101
+          (List._∷_ 100 List.[])))))))))))))))))))) (Syntax.tcons (Syntax.tyInt Syntax.w64) (Syntax.tcons (Syntax.tyInt Syntax.w16) (Syntax.tcons Syntax.tyBool (Syntax.tcons
+          Syntax.tyBool (Syntax.tcons (Syntax.tyInt Syntax.w64) Syntax.tnil)))))),
+    ) (List._∷_ (9, Rows.any-gone (Syntax.tyInt Syntax.w64)) (List._∷_ (10, Rows.any-gone Syntax.tyBool)
+    (List._∷_ (11, Rows.any-gone (Syntax.tyRef Syntax.erased Syntax.mut LentTilePartEntry.pointee)) (List._∷_ (
       12,
-      Rows.any-gone (Syntax.tyStruct
-          (List._∷_ 38 (List._∷_ 91 (List._∷_ 93 List.[]))) (Syntax.tcons (Syntax.tyRef Syntax.erased Syntax.mut LentTilePartEntry.pointee) (Syntax.tcons (Syntax.tyInt Syntax.w64)
-          Syntax.tnil))),
-    ) List.[]))))))))))))
+      Rows.any-gone (Syntax.tyStruct (List._∷_ 38 (List._∷_ 91
+          (List._∷_ 93 List.[]))) (Syntax.tcons (Syntax.tyRef Syntax.erased Syntax.mut LentTilePartEntry.pointee) (Syntax.tcons (Syntax.tyInt Syntax.w64) Syntax.tnil))),
+    )
+    List.[]))))))))))))
 
 abbrev pub t14 : List.List Row.Entry
 t14 = List._∷_ (0, Rows.any-gone Syntax.tyUnit) (List._∷_ (
@@ -825,23 +847,21 @@ t14 = List._∷_ (0, Rows.any-gone Syntax.tyUnit) (List._∷_ (
           101 (List._∷_ 114 (List._∷_ 58 (List._∷_ 58 (List._∷_ 119 (List._∷_ 97 (List._∷_ 108 (List._∷_ 107 (List._∷_ 58 (List._∷_ 58 (List._∷_ 87 (List._∷_ 97 (List._∷_ 108 (List._∷_
           107 (List._∷_ 83 (List._∷_ 116 (List._∷_ 101 (List._∷_ 112 List.[])))))))))))))))))))))) (Syntax.ttcons (Syntax.tcons (Syntax.tyStruct (List._∷_ 104 (List._∷_ 101 (List._∷_ 97
           (List._∷_ 100 (List._∷_ 101 (List._∷_ 114 (List._∷_ 58 (List._∷_ 58 (List._∷_ 119 (List._∷_ 97 (List._∷_ 108 (List._∷_ 107 (List._∷_ 58 (List._∷_ 58 (List._∷_ 80 (List._∷_ 97
-          (List._∷_ 115 (List._∷_ 115 (List._∷_ 101 (List._∷_ 100 List.[])))))))))))))))))))) (Syntax.tcons (Syntax.tyInt Syntax.w64) (Syntax.tcons Syntax.tyBool (Syntax.tcons
-          (Syntax.tyInt Syntax.w64) Syntax.tnil)))) Syntax.tnil) (Syntax.ttcons Syntax.tnil (Syntax.ttcons (Syntax.tcons (Syntax.tyStruct (List._∷_ 116 (List._∷_ 121 (List._∷_ 112
-          (List._∷_ 101 (List._∷_ 115 (List._∷_ 58 (List._∷_ 58 (List._∷_ 82 (List._∷_ 101 (List._∷_ 102 (List._∷_ 117 (List._∷_ 115 (List._∷_ 97 (List._∷_ 108 List.[]))))))))))))))
-          (Syntax.tcons (Syntax.tyInt Syntax.w32) (Syntax.tcons (Syntax.tyInt Syntax.w64) Syntax.tnil))) Syntax.tnil) Syntax.ttnil)))),
-    ) (List._∷_ (
-      8,
-      Rows.whole (Declared'.row
-          Passed.the-type),
-    ) (List._∷_ (9, Rows.any-gone (Syntax.tyInt Syntax.w64)) (List._∷_ (10, Rows.sc-here Row.sBool) (List._∷_ (
-      11,
-      Rows.any-gone (Syntax.tyRef Syntax.erased
-          Syntax.mut LentTilePartEntry.pointee),
-    ) (List._∷_ (
+          (List._∷_ 115 (List._∷_ 115 (List._∷_ 101 (List._∷_ 100 List.[])))))))))))))))))))) (Syntax.tcons (Syntax.tyInt Syntax.w64) (Syntax.tcons (Syntax.tyInt Syntax.w16)
+          (Syntax.tcons Syntax.tyBool (Syntax.tcons Syntax.tyBool (Syntax.tcons (Syntax.tyInt Syntax.w64) Syntax.tnil)))))) Syntax.tnil) (Syntax.ttcons Syntax.tnil (Syntax.ttcons
+          (Syntax.tcons (Syntax.tyStruct (List._∷_ 116 (List._∷_ 121 (List._∷_ 112 (List._∷_ 101 (List._∷_ 115 (List._∷_ 58 (List._∷_ 58 (List._∷_ 82 (List._∷_ 101 (List._∷_ 102
+          (List._∷_ 117 (List._∷_ 115 (List._∷_ 97 (List._∷_ 108 List.[])))))))))))))) (Syntax.tcons (Syntax.tyInt Syntax.w32) (Syntax.tcons (Syntax.tyInt Syntax.w64) Syntax.tnil)))
+          Syntax.tnil) Syntax.ttnil)))),
+    ) (List._∷_ (8, Rows.whole (Declared'.row Passed.the-type)) (List._∷_ (9, Rows.any-gone (Syntax.tyInt Syntax.w64)) (List._∷_ (
+      10,
+      Rows.sc-here
+          Row.sBool,
+    ) (List._∷_ (11, Rows.any-gone (Syntax.tyRef Syntax.erased Syntax.mut LentTilePartEntry.pointee)) (List._∷_ (
       12,
-      Rows.any-gone (Syntax.tyStruct (List._∷_ 38 (List._∷_ 91 (List._∷_ 93 List.[]))) (Syntax.tcons (Syntax.tyRef Syntax.erased
-          Syntax.mut LentTilePartEntry.pointee) (Syntax.tcons (Syntax.tyInt Syntax.w64) Syntax.tnil))),
-    ) List.[]))))))))))))
+      Rows.any-gone (Syntax.tyStruct (List._∷_ 38 (List._∷_
+          91 (List._∷_ 93 List.[]))) (Syntax.tcons (Syntax.tyRef Syntax.erased Syntax.mut LentTilePartEntry.pointee) (Syntax.tcons (Syntax.tyInt Syntax.w64) Syntax.tnil))),
+    )
+    List.[]))))))))))))
 
 abbrev pub t15 : List.List Row.Entry
 t15 = List._∷_ (0, Rows.any-gone Syntax.tyUnit) (List._∷_ (
@@ -864,23 +884,21 @@ t15 = List._∷_ (0, Rows.any-gone Syntax.tyUnit) (List._∷_ (
           101 (List._∷_ 114 (List._∷_ 58 (List._∷_ 58 (List._∷_ 119 (List._∷_ 97 (List._∷_ 108 (List._∷_ 107 (List._∷_ 58 (List._∷_ 58 (List._∷_ 87 (List._∷_ 97 (List._∷_ 108 (List._∷_
           107 (List._∷_ 83 (List._∷_ 116 (List._∷_ 101 (List._∷_ 112 List.[])))))))))))))))))))))) (Syntax.ttcons (Syntax.tcons (Syntax.tyStruct (List._∷_ 104 (List._∷_ 101 (List._∷_ 97
           (List._∷_ 100 (List._∷_ 101 (List._∷_ 114 (List._∷_ 58 (List._∷_ 58 (List._∷_ 119 (List._∷_ 97 (List._∷_ 108 (List._∷_ 107 (List._∷_ 58 (List._∷_ 58 (List._∷_ 80 (List._∷_ 97
-          (List._∷_ 115 (List._∷_ 115 (List._∷_ 101 (List._∷_ 100 List.[])))))))))))))))))))) (Syntax.tcons (Syntax.tyInt Syntax.w64) (Syntax.tcons Syntax.tyBool (Syntax.tcons
-          (Syntax.tyInt Syntax.w64) Syntax.tnil)))) Syntax.tnil) (Syntax.ttcons Syntax.tnil (Syntax.ttcons (Syntax.tcons (Syntax.tyStruct (List._∷_ 116 (List._∷_ 121 (List._∷_ 112
-          (List._∷_ 101 (List._∷_ 115 (List._∷_ 58 (List._∷_ 58 (List._∷_ 82 (List._∷_ 101 (List._∷_ 102 (List._∷_ 117 (List._∷_ 115 (List._∷_ 97 (List._∷_ 108 List.[]))))))))))))))
-          (Syntax.tcons (Syntax.tyInt Syntax.w32) (Syntax.tcons (Syntax.tyInt Syntax.w64) Syntax.tnil))) Syntax.tnil) Syntax.ttnil)))),
-    ) (List._∷_ (
-      8,
-      Rows.whole (Declared'.row
-          Passed.the-type),
-    ) (List._∷_ (9, Rows.any-gone (Syntax.tyInt Syntax.w64)) (List._∷_ (10, Rows.any-gone Syntax.tyBool) (List._∷_ (
-      11,
-      Rows.any-gone (Syntax.tyRef Syntax.erased
-          Syntax.mut LentTilePartEntry.pointee),
-    ) (List._∷_ (
+          (List._∷_ 115 (List._∷_ 115 (List._∷_ 101 (List._∷_ 100 List.[])))))))))))))))))))) (Syntax.tcons (Syntax.tyInt Syntax.w64) (Syntax.tcons (Syntax.tyInt Syntax.w16)
+          (Syntax.tcons Syntax.tyBool (Syntax.tcons Syntax.tyBool (Syntax.tcons (Syntax.tyInt Syntax.w64) Syntax.tnil)))))) Syntax.tnil) (Syntax.ttcons Syntax.tnil (Syntax.ttcons
+          (Syntax.tcons (Syntax.tyStruct (List._∷_ 116 (List._∷_ 121 (List._∷_ 112 (List._∷_ 101 (List._∷_ 115 (List._∷_ 58 (List._∷_ 58 (List._∷_ 82 (List._∷_ 101 (List._∷_ 102
+          (List._∷_ 117 (List._∷_ 115 (List._∷_ 97 (List._∷_ 108 List.[])))))))))))))) (Syntax.tcons (Syntax.tyInt Syntax.w32) (Syntax.tcons (Syntax.tyInt Syntax.w64) Syntax.tnil)))
+          Syntax.tnil) Syntax.ttnil)))),
+    ) (List._∷_ (8, Rows.whole (Declared'.row Passed.the-type)) (List._∷_ (9, Rows.any-gone (Syntax.tyInt Syntax.w64)) (List._∷_ (
+      10,
+      Rows.any-gone
+          Syntax.tyBool,
+    ) (List._∷_ (11, Rows.any-gone (Syntax.tyRef Syntax.erased Syntax.mut LentTilePartEntry.pointee)) (List._∷_ (
       12,
-      Rows.any-gone (Syntax.tyStruct (List._∷_ 38 (List._∷_ 91 (List._∷_ 93 List.[]))) (Syntax.tcons (Syntax.tyRef Syntax.erased
-          Syntax.mut LentTilePartEntry.pointee) (Syntax.tcons (Syntax.tyInt Syntax.w64) Syntax.tnil))),
-    ) List.[]))))))))))))
+      Rows.any-gone (Syntax.tyStruct (List._∷_ 38
+          (List._∷_ 91 (List._∷_ 93 List.[]))) (Syntax.tcons (Syntax.tyRef Syntax.erased Syntax.mut LentTilePartEntry.pointee) (Syntax.tcons (Syntax.tyInt Syntax.w64) Syntax.tnil))),
+    )
+    List.[]))))))))))))
 
 abbrev pub t16 : List.List Row.Entry
 t16 = List._∷_ (0, Rows.any-gone Syntax.tyUnit) (List._∷_ (
@@ -903,23 +921,21 @@ t16 = List._∷_ (0, Rows.any-gone Syntax.tyUnit) (List._∷_ (
           101 (List._∷_ 114 (List._∷_ 58 (List._∷_ 58 (List._∷_ 119 (List._∷_ 97 (List._∷_ 108 (List._∷_ 107 (List._∷_ 58 (List._∷_ 58 (List._∷_ 87 (List._∷_ 97 (List._∷_ 108 (List._∷_
           107 (List._∷_ 83 (List._∷_ 116 (List._∷_ 101 (List._∷_ 112 List.[])))))))))))))))))))))) (Syntax.ttcons (Syntax.tcons (Syntax.tyStruct (List._∷_ 104 (List._∷_ 101 (List._∷_ 97
           (List._∷_ 100 (List._∷_ 101 (List._∷_ 114 (List._∷_ 58 (List._∷_ 58 (List._∷_ 119 (List._∷_ 97 (List._∷_ 108 (List._∷_ 107 (List._∷_ 58 (List._∷_ 58 (List._∷_ 80 (List._∷_ 97
-          (List._∷_ 115 (List._∷_ 115 (List._∷_ 101 (List._∷_ 100 List.[])))))))))))))))))))) (Syntax.tcons (Syntax.tyInt Syntax.w64) (Syntax.tcons Syntax.tyBool (Syntax.tcons
-          (Syntax.tyInt Syntax.w64) Syntax.tnil)))) Syntax.tnil) (Syntax.ttcons Syntax.tnil (Syntax.ttcons (Syntax.tcons (Syntax.tyStruct (List._∷_ 116 (List._∷_ 121 (List._∷_ 112
-          (List._∷_ 101 (List._∷_ 115 (List._∷_ 58 (List._∷_ 58 (List._∷_ 82 (List._∷_ 101 (List._∷_ 102 (List._∷_ 117 (List._∷_ 115 (List._∷_ 97 (List._∷_ 108 List.[]))))))))))))))
-          (Syntax.tcons (Syntax.tyInt Syntax.w32) (Syntax.tcons (Syntax.tyInt Syntax.w64) Syntax.tnil))) Syntax.tnil) Syntax.ttnil)))),
-    ) (List._∷_ (
-      8,
-      Rows.whole (Declared'.row
-          Passed.the-type),
-    ) (List._∷_ (9, Rows.sc-here (Row.sInt Syntax.w64)) (List._∷_ (10, Rows.any-gone Syntax.tyBool) (List._∷_ (
-      11,
-      Rows.any-gone (Syntax.tyRef Syntax.erased
-          Syntax.mut LentTilePartEntry.pointee),
-    ) (List._∷_ (
+          (List._∷_ 115 (List._∷_ 115 (List._∷_ 101 (List._∷_ 100 List.[])))))))))))))))))))) (Syntax.tcons (Syntax.tyInt Syntax.w64) (Syntax.tcons (Syntax.tyInt Syntax.w16)
+          (Syntax.tcons Syntax.tyBool (Syntax.tcons Syntax.tyBool (Syntax.tcons (Syntax.tyInt Syntax.w64) Syntax.tnil)))))) Syntax.tnil) (Syntax.ttcons Syntax.tnil (Syntax.ttcons
+          (Syntax.tcons (Syntax.tyStruct (List._∷_ 116 (List._∷_ 121 (List._∷_ 112 (List._∷_ 101 (List._∷_ 115 (List._∷_ 58 (List._∷_ 58 (List._∷_ 82 (List._∷_ 101 (List._∷_ 102
+          (List._∷_ 117 (List._∷_ 115 (List._∷_ 97 (List._∷_ 108 List.[])))))))))))))) (Syntax.tcons (Syntax.tyInt Syntax.w32) (Syntax.tcons (Syntax.tyInt Syntax.w64) Syntax.tnil)))
+          Syntax.tnil) Syntax.ttnil)))),
+    ) (List._∷_ (8, Rows.whole (Declared'.row Passed.the-type)) (List._∷_ (9, Rows.sc-here (Row.sInt Syntax.w64)) (List._∷_ (
+      10,
+      Rows.any-gone
+          Syntax.tyBool,
+    ) (List._∷_ (11, Rows.any-gone (Syntax.tyRef Syntax.erased Syntax.mut LentTilePartEntry.pointee)) (List._∷_ (
       12,
-      Rows.any-gone (Syntax.tyStruct (List._∷_ 38 (List._∷_ 91 (List._∷_ 93 List.[]))) (Syntax.tcons (Syntax.tyRef Syntax.erased
-          Syntax.mut LentTilePartEntry.pointee) (Syntax.tcons (Syntax.tyInt Syntax.w64) Syntax.tnil))),
-    ) List.[]))))))))))))
+      Rows.any-gone (Syntax.tyStruct (List._∷_ 38
+          (List._∷_ 91 (List._∷_ 93 List.[]))) (Syntax.tcons (Syntax.tyRef Syntax.erased Syntax.mut LentTilePartEntry.pointee) (Syntax.tcons (Syntax.tyInt Syntax.w64) Syntax.tnil))),
+    )
+    List.[]))))))))))))
 
 abbrev pub t17 : List.List Row.Entry
 t17 = List._∷_ (0, Rows.any-gone Syntax.tyUnit) (List._∷_ (
@@ -945,22 +961,20 @@ t17 = List._∷_ (0, Rows.any-gone Syntax.tyUnit) (List._∷_ (
       100 (List._∷_ 101 (List._∷_ 114 (List._∷_ 58 (List._∷_ 58 (List._∷_ 119 (List._∷_ 97 (List._∷_ 108 (List._∷_ 107 (List._∷_ 58 (List._∷_ 58 (List._∷_ 87 (List._∷_ 97 (List._∷_
       108 (List._∷_ 107 (List._∷_ 83 (List._∷_ 116 (List._∷_ 101 (List._∷_ 112 List.[])))))))))))))))))))))) (Syntax.ttcons (Syntax.tcons (Syntax.tyStruct (List._∷_ 104 (List._∷_ 101
       (List._∷_ 97 (List._∷_ 100 (List._∷_ 101 (List._∷_ 114 (List._∷_ 58 (List._∷_ 58 (List._∷_ 119 (List._∷_ 97 (List._∷_ 108 (List._∷_ 107 (List._∷_ 58 (List._∷_ 58 (List._∷_ 80
-      (List._∷_ 97 (List._∷_ 115 (List._∷_ 115 (List._∷_ 101 (List._∷_ 100 List.[])))))))))))))))))))) (Syntax.tcons (Syntax.tyInt Syntax.w64) (Syntax.tcons Syntax.tyBool
-      (Syntax.tcons (Syntax.tyInt Syntax.w64) Syntax.tnil)))) Syntax.tnil) (Syntax.ttcons Syntax.tnil (Syntax.ttcons (Syntax.tcons (Syntax.tyStruct (List._∷_ 116 (List._∷_ 121
-      (List._∷_ 112 (List._∷_ 101 (List._∷_ 115 (List._∷_ 58 (List._∷_ 58 (List._∷_ 82 (List._∷_ 101 (List._∷_ 102 (List._∷_ 117 (List._∷_ 115 (List._∷_ 97 (List._∷_ 108
-      List.[])))))))))))))) (Syntax.tcons (Syntax.tyInt Syntax.w32) (Syntax.tcons (Syntax.tyInt Syntax.w64) Syntax.tnil))) Syntax.tnil) Syntax.ttnil)))),
-) (List._∷_ (
-  8,
-  Rows.whole
-      (Declared'.row Passed.the-type),
-) (List._∷_ (9, Rows.sc-here (Row.sInt Syntax.w64)) (List._∷_ (10, Rows.any-gone Syntax.tyBool) (List._∷_ (
-  11,
-  Relend.msptr LentTilePartEntry.row
-      (Syntax.tyRef Syntax.erased Syntax.mut LentTilePartEntry.pointee) 2,
-) (List._∷_ (
+      (List._∷_ 97 (List._∷_ 115 (List._∷_ 115 (List._∷_ 101 (List._∷_ 100 List.[])))))))))))))))))))) (Syntax.tcons (Syntax.tyInt Syntax.w64) (Syntax.tcons (Syntax.tyInt Syntax.w16)
+      (Syntax.tcons Syntax.tyBool (Syntax.tcons Syntax.tyBool (Syntax.tcons (Syntax.tyInt Syntax.w64) Syntax.tnil)))))) Syntax.tnil) (Syntax.ttcons Syntax.tnil (Syntax.ttcons
+      (Syntax.tcons (Syntax.tyStruct (List._∷_ 116 (List._∷_ 121 (List._∷_ 112 (List._∷_ 101 (List._∷_ 115 (List._∷_ 58 (List._∷_ 58 (List._∷_ 82 (List._∷_ 101 (List._∷_ 102
+      (List._∷_ 117 (List._∷_ 115 (List._∷_ 97 (List._∷_ 108 List.[])))))))))))))) (Syntax.tcons (Syntax.tyInt Syntax.w32) (Syntax.tcons (Syntax.tyInt Syntax.w64) Syntax.tnil)))
+      Syntax.tnil) Syntax.ttnil)))),
+) (List._∷_ (8, Rows.whole (Declared'.row Passed.the-type)) (List._∷_ (9, Rows.sc-here (Row.sInt Syntax.w64)) (List._∷_ (
+  10,
+  Rows.any-gone
+      Syntax.tyBool,
+) (List._∷_ (11, Relend.msptr LentTilePartEntry.row (Syntax.tyRef Syntax.erased Syntax.mut LentTilePartEntry.pointee) 2) (List._∷_ (
   12,
-  Rows.any-gone (Syntax.tyStruct (List._∷_ 38 (List._∷_ 91 (List._∷_ 93 List.[])))
-      (Syntax.tcons (Syntax.tyRef Syntax.erased Syntax.mut LentTilePartEntry.pointee) (Syntax.tcons (Syntax.tyInt Syntax.w64) Syntax.tnil))),
+  Rows.any-gone
+      (Syntax.tyStruct (List._∷_ 38 (List._∷_ 91 (List._∷_ 93 List.[]))) (Syntax.tcons (Syntax.tyRef Syntax.erased Syntax.mut LentTilePartEntry.pointee) (Syntax.tcons (Syntax.tyInt
+      Syntax.w64) Syntax.tnil))),
 ) List.[]))))))))))))
 
 abbrev pub t18 : List.List Row.Entry
@@ -987,20 +1001,20 @@ t18 = List._∷_ (0, Rows.any-gone Syntax.tyUnit) (List._∷_ (
       100 (List._∷_ 101 (List._∷_ 114 (List._∷_ 58 (List._∷_ 58 (List._∷_ 119 (List._∷_ 97 (List._∷_ 108 (List._∷_ 107 (List._∷_ 58 (List._∷_ 58 (List._∷_ 87 (List._∷_ 97 (List._∷_
       108 (List._∷_ 107 (List._∷_ 83 (List._∷_ 116 (List._∷_ 101 (List._∷_ 112 List.[])))))))))))))))))))))) (Syntax.ttcons (Syntax.tcons (Syntax.tyStruct (List._∷_ 104 (List._∷_ 101
       (List._∷_ 97 (List._∷_ 100 (List._∷_ 101 (List._∷_ 114 (List._∷_ 58 (List._∷_ 58 (List._∷_ 119 (List._∷_ 97 (List._∷_ 108 (List._∷_ 107 (List._∷_ 58 (List._∷_ 58 (List._∷_ 80
-      (List._∷_ 97 (List._∷_ 115 (List._∷_ 115 (List._∷_ 101 (List._∷_ 100 List.[])))))))))))))))))))) (Syntax.tcons (Syntax.tyInt Syntax.w64) (Syntax.tcons Syntax.tyBool
-      (Syntax.tcons (Syntax.tyInt Syntax.w64) Syntax.tnil)))) Syntax.tnil) (Syntax.ttcons Syntax.tnil (Syntax.ttcons (Syntax.tcons (Syntax.tyStruct (List._∷_ 116 (List._∷_ 121
-      (List._∷_ 112 (List._∷_ 101 (List._∷_ 115 (List._∷_ 58 (List._∷_ 58 (List._∷_ 82 (List._∷_ 101 (List._∷_ 102 (List._∷_ 117 (List._∷_ 115 (List._∷_ 97 (List._∷_ 108
-      List.[])))))))))))))) (Syntax.tcons (Syntax.tyInt Syntax.w32) (Syntax.tcons (Syntax.tyInt Syntax.w64) Syntax.tnil))) Syntax.tnil) Syntax.ttnil)))),
-) (List._∷_ (
-  8,
-  Rows.whole
-      (Declared'.row Passed.the-type),
-) (List._∷_ (9, Rows.sc-here (Row.sInt Syntax.w64)) (List._∷_ (10, Rows.any-gone Syntax.tyBool) (List._∷_ (
-  11,
-  Rows.any-gone (Syntax.tyRef
-      Syntax.erased Syntax.mut LentTilePartEntry.pointee),
-) (List._∷_ (12, Mut.mslice LentTilePartEntry.row (Syntax.tyRef Syntax.erased Syntax.mut LentTilePartEntry.pointee) 2)
-    List.[]))))))))))))
+      (List._∷_ 97 (List._∷_ 115 (List._∷_ 115 (List._∷_ 101 (List._∷_ 100 List.[])))))))))))))))))))) (Syntax.tcons (Syntax.tyInt Syntax.w64) (Syntax.tcons (Syntax.tyInt Syntax.w16)
+      (Syntax.tcons Syntax.tyBool (Syntax.tcons Syntax.tyBool (Syntax.tcons (Syntax.tyInt Syntax.w64) Syntax.tnil)))))) Syntax.tnil) (Syntax.ttcons Syntax.tnil (Syntax.ttcons
+      (Syntax.tcons (Syntax.tyStruct (List._∷_ 116 (List._∷_ 121 (List._∷_ 112 (List._∷_ 101 (List._∷_ 115 (List._∷_ 58 (List._∷_ 58 (List._∷_ 82 (List._∷_ 101 (List._∷_ 102
+      (List._∷_ 117 (List._∷_ 115 (List._∷_ 97 (List._∷_ 108 List.[])))))))))))))) (Syntax.tcons (Syntax.tyInt Syntax.w32) (Syntax.tcons (Syntax.tyInt Syntax.w64) Syntax.tnil)))
+      Syntax.tnil) Syntax.ttnil)))),
+) (List._∷_ (8, Rows.whole (Declared'.row Passed.the-type)) (List._∷_ (9, Rows.sc-here (Row.sInt Syntax.w64)) (List._∷_ (
+  10,
+  Rows.any-gone
+      Syntax.tyBool,
+) (List._∷_ (11, Rows.any-gone (Syntax.tyRef Syntax.erased Syntax.mut LentTilePartEntry.pointee)) (List._∷_ (
+  12,
+  Mut.mslice LentTilePartEntry.row (Syntax.tyRef
+      Syntax.erased Syntax.mut LentTilePartEntry.pointee) 2,
+) List.[]))))))))))))
 
 abbrev pub t19 : List.List Row.Entry
 t19 = List._∷_ (0, Rows.any-gone Syntax.tyUnit) (List._∷_ (
@@ -1026,20 +1040,20 @@ t19 = List._∷_ (0, Rows.any-gone Syntax.tyUnit) (List._∷_ (
       100 (List._∷_ 101 (List._∷_ 114 (List._∷_ 58 (List._∷_ 58 (List._∷_ 119 (List._∷_ 97 (List._∷_ 108 (List._∷_ 107 (List._∷_ 58 (List._∷_ 58 (List._∷_ 87 (List._∷_ 97 (List._∷_
       108 (List._∷_ 107 (List._∷_ 83 (List._∷_ 116 (List._∷_ 101 (List._∷_ 112 List.[])))))))))))))))))))))) (Syntax.ttcons (Syntax.tcons (Syntax.tyStruct (List._∷_ 104 (List._∷_ 101
       (List._∷_ 97 (List._∷_ 100 (List._∷_ 101 (List._∷_ 114 (List._∷_ 58 (List._∷_ 58 (List._∷_ 119 (List._∷_ 97 (List._∷_ 108 (List._∷_ 107 (List._∷_ 58 (List._∷_ 58 (List._∷_ 80
-      (List._∷_ 97 (List._∷_ 115 (List._∷_ 115 (List._∷_ 101 (List._∷_ 100 List.[])))))))))))))))))))) (Syntax.tcons (Syntax.tyInt Syntax.w64) (Syntax.tcons Syntax.tyBool
-      (Syntax.tcons (Syntax.tyInt Syntax.w64) Syntax.tnil)))) Syntax.tnil) (Syntax.ttcons Syntax.tnil (Syntax.ttcons (Syntax.tcons (Syntax.tyStruct (List._∷_ 116 (List._∷_ 121
-      (List._∷_ 112 (List._∷_ 101 (List._∷_ 115 (List._∷_ 58 (List._∷_ 58 (List._∷_ 82 (List._∷_ 101 (List._∷_ 102 (List._∷_ 117 (List._∷_ 115 (List._∷_ 97 (List._∷_ 108
-      List.[])))))))))))))) (Syntax.tcons (Syntax.tyInt Syntax.w32) (Syntax.tcons (Syntax.tyInt Syntax.w64) Syntax.tnil))) Syntax.tnil) Syntax.ttnil)))),
-) (List._∷_ (
-  8,
-  Rows.whole
-      (Declared'.row Passed.the-type),
-) (List._∷_ (9, Rows.sc-here (Row.sInt Syntax.w64)) (List._∷_ (10, Rows.any-gone Syntax.tyBool) (List._∷_ (
-  11,
-  Rows.any-gone (Syntax.tyRef
+      (List._∷_ 97 (List._∷_ 115 (List._∷_ 115 (List._∷_ 101 (List._∷_ 100 List.[])))))))))))))))))))) (Syntax.tcons (Syntax.tyInt Syntax.w64) (Syntax.tcons (Syntax.tyInt Syntax.w16)
+      (Syntax.tcons Syntax.tyBool (Syntax.tcons Syntax.tyBool (Syntax.tcons (Syntax.tyInt Syntax.w64) Syntax.tnil)))))) Syntax.tnil) (Syntax.ttcons Syntax.tnil (Syntax.ttcons
+      (Syntax.tcons (Syntax.tyStruct (List._∷_ 116 (List._∷_ 121 (List._∷_ 112 (List._∷_ 101 (List._∷_ 115 (List._∷_ 58 (List._∷_ 58 (List._∷_ 82 (List._∷_ 101 (List._∷_ 102
+      (List._∷_ 117 (List._∷_ 115 (List._∷_ 97 (List._∷_ 108 List.[])))))))))))))) (Syntax.tcons (Syntax.tyInt Syntax.w32) (Syntax.tcons (Syntax.tyInt Syntax.w64) Syntax.tnil)))
+      Syntax.tnil) Syntax.ttnil)))),
+) (List._∷_ (8, Rows.whole (Declared'.row Passed.the-type)) (List._∷_ (9, Rows.sc-here (Row.sInt Syntax.w64)) (List._∷_ (
+  10,
+  Rows.any-gone
+      Syntax.tyBool,
+) (List._∷_ (11, Rows.any-gone (Syntax.tyRef Syntax.erased Syntax.mut LentTilePartEntry.pointee)) (List._∷_ (
+  12,
+  Mut.msleft LentTilePartEntry.row (Syntax.tyRef
       Syntax.erased Syntax.mut LentTilePartEntry.pointee),
-) (List._∷_ (12, Mut.msleft LentTilePartEntry.row (Syntax.tyRef Syntax.erased Syntax.mut LentTilePartEntry.pointee))
-    List.[]))))))))))))
+) List.[]))))))))))))
 
 abbrev pub t20 : List.List Row.Entry
 t20 = List._∷_ (0, Rows.any-gone Syntax.tyUnit) (List._∷_ (
@@ -1065,20 +1079,20 @@ t20 = List._∷_ (0, Rows.any-gone Syntax.tyUnit) (List._∷_ (
       100 (List._∷_ 101 (List._∷_ 114 (List._∷_ 58 (List._∷_ 58 (List._∷_ 119 (List._∷_ 97 (List._∷_ 108 (List._∷_ 107 (List._∷_ 58 (List._∷_ 58 (List._∷_ 87 (List._∷_ 97 (List._∷_
       108 (List._∷_ 107 (List._∷_ 83 (List._∷_ 116 (List._∷_ 101 (List._∷_ 112 List.[])))))))))))))))))))))) (Syntax.ttcons (Syntax.tcons (Syntax.tyStruct (List._∷_ 104 (List._∷_ 101
       (List._∷_ 97 (List._∷_ 100 (List._∷_ 101 (List._∷_ 114 (List._∷_ 58 (List._∷_ 58 (List._∷_ 119 (List._∷_ 97 (List._∷_ 108 (List._∷_ 107 (List._∷_ 58 (List._∷_ 58 (List._∷_ 80
-      (List._∷_ 97 (List._∷_ 115 (List._∷_ 115 (List._∷_ 101 (List._∷_ 100 List.[])))))))))))))))))))) (Syntax.tcons (Syntax.tyInt Syntax.w64) (Syntax.tcons Syntax.tyBool
-      (Syntax.tcons (Syntax.tyInt Syntax.w64) Syntax.tnil)))) Syntax.tnil) (Syntax.ttcons Syntax.tnil (Syntax.ttcons (Syntax.tcons (Syntax.tyStruct (List._∷_ 116 (List._∷_ 121
-      (List._∷_ 112 (List._∷_ 101 (List._∷_ 115 (List._∷_ 58 (List._∷_ 58 (List._∷_ 82 (List._∷_ 101 (List._∷_ 102 (List._∷_ 117 (List._∷_ 115 (List._∷_ 97 (List._∷_ 108
-      List.[])))))))))))))) (Syntax.tcons (Syntax.tyInt Syntax.w32) (Syntax.tcons (Syntax.tyInt Syntax.w64) Syntax.tnil))) Syntax.tnil) Syntax.ttnil)))),
-) (List._∷_ (
-  8,
-  Rows.whole
-      (Declared'.row Passed.the-type),
-) (List._∷_ (9, Rows.sc-here (Row.sInt Syntax.w64)) (List._∷_ (10, Rows.any-gone Syntax.tyBool) (List._∷_ (
-  11,
-  Rows.any-gone (Syntax.tyRef
+      (List._∷_ 97 (List._∷_ 115 (List._∷_ 115 (List._∷_ 101 (List._∷_ 100 List.[])))))))))))))))))))) (Syntax.tcons (Syntax.tyInt Syntax.w64) (Syntax.tcons (Syntax.tyInt Syntax.w16)
+      (Syntax.tcons Syntax.tyBool (Syntax.tcons Syntax.tyBool (Syntax.tcons (Syntax.tyInt Syntax.w64) Syntax.tnil)))))) Syntax.tnil) (Syntax.ttcons Syntax.tnil (Syntax.ttcons
+      (Syntax.tcons (Syntax.tyStruct (List._∷_ 116 (List._∷_ 121 (List._∷_ 112 (List._∷_ 101 (List._∷_ 115 (List._∷_ 58 (List._∷_ 58 (List._∷_ 82 (List._∷_ 101 (List._∷_ 102
+      (List._∷_ 117 (List._∷_ 115 (List._∷_ 97 (List._∷_ 108 List.[])))))))))))))) (Syntax.tcons (Syntax.tyInt Syntax.w32) (Syntax.tcons (Syntax.tyInt Syntax.w64) Syntax.tnil)))
+      Syntax.tnil) Syntax.ttnil)))),
+) (List._∷_ (8, Rows.whole (Declared'.row Passed.the-type)) (List._∷_ (9, Rows.sc-here (Row.sInt Syntax.w64)) (List._∷_ (
+  10,
+  Rows.any-gone
+      Syntax.tyBool,
+) (List._∷_ (11, Rows.any-gone (Syntax.tyRef Syntax.erased Syntax.mut LentTilePartEntry.pointee)) (List._∷_ (
+  12,
+  Mut.msleft LentTilePartEntry.row (Syntax.tyRef
       Syntax.erased Syntax.mut LentTilePartEntry.pointee),
-) (List._∷_ (12, Mut.msleft LentTilePartEntry.row (Syntax.tyRef Syntax.erased Syntax.mut LentTilePartEntry.pointee))
-    List.[]))))))))))))
+) List.[]))))))))))))
 
 abbrev pub t21 : List.List Row.Entry
 t21 = List._∷_ (0, Rows.any-gone Syntax.tyUnit) (List._∷_ (
@@ -1101,23 +1115,21 @@ t21 = List._∷_ (0, Rows.any-gone Syntax.tyUnit) (List._∷_ (
           101 (List._∷_ 114 (List._∷_ 58 (List._∷_ 58 (List._∷_ 119 (List._∷_ 97 (List._∷_ 108 (List._∷_ 107 (List._∷_ 58 (List._∷_ 58 (List._∷_ 87 (List._∷_ 97 (List._∷_ 108 (List._∷_
           107 (List._∷_ 83 (List._∷_ 116 (List._∷_ 101 (List._∷_ 112 List.[])))))))))))))))))))))) (Syntax.ttcons (Syntax.tcons (Syntax.tyStruct (List._∷_ 104 (List._∷_ 101 (List._∷_ 97
           (List._∷_ 100 (List._∷_ 101 (List._∷_ 114 (List._∷_ 58 (List._∷_ 58 (List._∷_ 119 (List._∷_ 97 (List._∷_ 108 (List._∷_ 107 (List._∷_ 58 (List._∷_ 58 (List._∷_ 80 (List._∷_ 97
-          (List._∷_ 115 (List._∷_ 115 (List._∷_ 101 (List._∷_ 100 List.[])))))))))))))))))))) (Syntax.tcons (Syntax.tyInt Syntax.w64) (Syntax.tcons Syntax.tyBool (Syntax.tcons
-          (Syntax.tyInt Syntax.w64) Syntax.tnil)))) Syntax.tnil) (Syntax.ttcons Syntax.tnil (Syntax.ttcons (Syntax.tcons (Syntax.tyStruct (List._∷_ 116 (List._∷_ 121 (List._∷_ 112
-          (List._∷_ 101 (List._∷_ 115 (List._∷_ 58 (List._∷_ 58 (List._∷_ 82 (List._∷_ 101 (List._∷_ 102 (List._∷_ 117 (List._∷_ 115 (List._∷_ 97 (List._∷_ 108 List.[]))))))))))))))
-          (Syntax.tcons (Syntax.tyInt Syntax.w32) (Syntax.tcons (Syntax.tyInt Syntax.w64) Syntax.tnil))) Syntax.tnil) Syntax.ttnil)))),
-    ) (List._∷_ (
-      8,
-      Rows.whole (Declared'.row
-          Passed.the-type),
-    ) (List._∷_ (9, Rows.sc-here (Row.sInt Syntax.w64)) (List._∷_ (10, Rows.any-gone Syntax.tyBool) (List._∷_ (
-      11,
-      Rows.any-gone (Syntax.tyRef Syntax.erased
-          Syntax.mut LentTilePartEntry.pointee),
-    ) (List._∷_ (
+          (List._∷_ 115 (List._∷_ 115 (List._∷_ 101 (List._∷_ 100 List.[])))))))))))))))))))) (Syntax.tcons (Syntax.tyInt Syntax.w64) (Syntax.tcons (Syntax.tyInt Syntax.w16)
+          (Syntax.tcons Syntax.tyBool (Syntax.tcons Syntax.tyBool (Syntax.tcons (Syntax.tyInt Syntax.w64) Syntax.tnil)))))) Syntax.tnil) (Syntax.ttcons Syntax.tnil (Syntax.ttcons
+          (Syntax.tcons (Syntax.tyStruct (List._∷_ 116 (List._∷_ 121 (List._∷_ 112 (List._∷_ 101 (List._∷_ 115 (List._∷_ 58 (List._∷_ 58 (List._∷_ 82 (List._∷_ 101 (List._∷_ 102
+          (List._∷_ 117 (List._∷_ 115 (List._∷_ 97 (List._∷_ 108 List.[])))))))))))))) (Syntax.tcons (Syntax.tyInt Syntax.w32) (Syntax.tcons (Syntax.tyInt Syntax.w64) Syntax.tnil)))
+          Syntax.tnil) Syntax.ttnil)))),
+    ) (List._∷_ (8, Rows.whole (Declared'.row Passed.the-type)) (List._∷_ (9, Rows.sc-here (Row.sInt Syntax.w64)) (List._∷_ (
+      10,
+      Rows.any-gone
+          Syntax.tyBool,
+    ) (List._∷_ (11, Rows.any-gone (Syntax.tyRef Syntax.erased Syntax.mut LentTilePartEntry.pointee)) (List._∷_ (
       12,
-      Rows.any-gone (Syntax.tyStruct (List._∷_ 38 (List._∷_ 91 (List._∷_ 93 List.[]))) (Syntax.tcons (Syntax.tyRef Syntax.erased
-          Syntax.mut LentTilePartEntry.pointee) (Syntax.tcons (Syntax.tyInt Syntax.w64) Syntax.tnil))),
-    ) List.[]))))))))))))
+      Rows.any-gone (Syntax.tyStruct (List._∷_ 38
+          (List._∷_ 91 (List._∷_ 93 List.[]))) (Syntax.tcons (Syntax.tyRef Syntax.erased Syntax.mut LentTilePartEntry.pointee) (Syntax.tcons (Syntax.tyInt Syntax.w64) Syntax.tnil))),
+    )
+    List.[]))))))))))))
 
 abbrev pub t22 : List.List Row.Entry
 t22 = List._∷_ (0, Rows.any-gone Syntax.tyUnit) (List._∷_ (
@@ -1140,23 +1152,21 @@ t22 = List._∷_ (0, Rows.any-gone Syntax.tyUnit) (List._∷_ (
           101 (List._∷_ 114 (List._∷_ 58 (List._∷_ 58 (List._∷_ 119 (List._∷_ 97 (List._∷_ 108 (List._∷_ 107 (List._∷_ 58 (List._∷_ 58 (List._∷_ 87 (List._∷_ 97 (List._∷_ 108 (List._∷_
           107 (List._∷_ 83 (List._∷_ 116 (List._∷_ 101 (List._∷_ 112 List.[])))))))))))))))))))))) (Syntax.ttcons (Syntax.tcons (Syntax.tyStruct (List._∷_ 104 (List._∷_ 101 (List._∷_ 97
           (List._∷_ 100 (List._∷_ 101 (List._∷_ 114 (List._∷_ 58 (List._∷_ 58 (List._∷_ 119 (List._∷_ 97 (List._∷_ 108 (List._∷_ 107 (List._∷_ 58 (List._∷_ 58 (List._∷_ 80 (List._∷_ 97
-          (List._∷_ 115 (List._∷_ 115 (List._∷_ 101 (List._∷_ 100 List.[])))))))))))))))))))) (Syntax.tcons (Syntax.tyInt Syntax.w64) (Syntax.tcons Syntax.tyBool (Syntax.tcons
-          (Syntax.tyInt Syntax.w64) Syntax.tnil)))) Syntax.tnil) (Syntax.ttcons Syntax.tnil (Syntax.ttcons (Syntax.tcons (Syntax.tyStruct (List._∷_ 116 (List._∷_ 121 (List._∷_ 112
-          (List._∷_ 101 (List._∷_ 115 (List._∷_ 58 (List._∷_ 58 (List._∷_ 82 (List._∷_ 101 (List._∷_ 102 (List._∷_ 117 (List._∷_ 115 (List._∷_ 97 (List._∷_ 108 List.[]))))))))))))))
-          (Syntax.tcons (Syntax.tyInt Syntax.w32) (Syntax.tcons (Syntax.tyInt Syntax.w64) Syntax.tnil))) Syntax.tnil) Syntax.ttnil)))),
-    ) (List._∷_ (
-      8,
-      Rows.whole (Declared'.row
-          Passed.the-type),
-    ) (List._∷_ (9, Rows.any-gone (Syntax.tyInt Syntax.w64)) (List._∷_ (10, Rows.sc-here Row.sBool) (List._∷_ (
-      11,
-      Rows.any-gone (Syntax.tyRef Syntax.erased
-          Syntax.mut LentTilePartEntry.pointee),
-    ) (List._∷_ (
+          (List._∷_ 115 (List._∷_ 115 (List._∷_ 101 (List._∷_ 100 List.[])))))))))))))))))))) (Syntax.tcons (Syntax.tyInt Syntax.w64) (Syntax.tcons (Syntax.tyInt Syntax.w16)
+          (Syntax.tcons Syntax.tyBool (Syntax.tcons Syntax.tyBool (Syntax.tcons (Syntax.tyInt Syntax.w64) Syntax.tnil)))))) Syntax.tnil) (Syntax.ttcons Syntax.tnil (Syntax.ttcons
+          (Syntax.tcons (Syntax.tyStruct (List._∷_ 116 (List._∷_ 121 (List._∷_ 112 (List._∷_ 101 (List._∷_ 115 (List._∷_ 58 (List._∷_ 58 (List._∷_ 82 (List._∷_ 101 (List._∷_ 102
+          (List._∷_ 117 (List._∷_ 115 (List._∷_ 97 (List._∷_ 108 List.[])))))))))))))) (Syntax.tcons (Syntax.tyInt Syntax.w32) (Syntax.tcons (Syntax.tyInt Syntax.w64) Syntax.tnil)))
+          Syntax.tnil) Syntax.ttnil)))),
+    ) (List._∷_ (8, Rows.whole (Declared'.row Passed.the-type)) (List._∷_ (9, Rows.any-gone (Syntax.tyInt Syntax.w64)) (List._∷_ (
+      10,
+      Rows.sc-here
+          Row.sBool,
+    ) (List._∷_ (11, Rows.any-gone (Syntax.tyRef Syntax.erased Syntax.mut LentTilePartEntry.pointee)) (List._∷_ (
       12,
-      Rows.any-gone (Syntax.tyStruct (List._∷_ 38 (List._∷_ 91 (List._∷_ 93 List.[]))) (Syntax.tcons (Syntax.tyRef Syntax.erased
-          Syntax.mut LentTilePartEntry.pointee) (Syntax.tcons (Syntax.tyInt Syntax.w64) Syntax.tnil))),
-    ) List.[]))))))))))))
+      Rows.any-gone (Syntax.tyStruct (List._∷_ 38 (List._∷_
+          91 (List._∷_ 93 List.[]))) (Syntax.tcons (Syntax.tyRef Syntax.erased Syntax.mut LentTilePartEntry.pointee) (Syntax.tcons (Syntax.tyInt Syntax.w64) Syntax.tnil))),
+    )
+    List.[]))))))))))))
 
 abbrev pub T0 : Row.Cx
 T0 = record { locals = t0; slots = List.[] }
@@ -1316,10 +1326,10 @@ module _ (claims· : Claims) where
       (List._∷_ 97 (List._∷_ 108 (List._∷_ 107 (List._∷_ 58 (List._∷_ 58 (List._∷_ 87 (List._∷_ 97 (List._∷_ 108 (List._∷_ 107 (List._∷_ 83 (List._∷_ 116 (List._∷_ 101 (List._∷_
       112 List.[])))))))))))))))))))))) (Syntax.ttcons (Syntax.tcons (Syntax.tyStruct (List._∷_ 104 (List._∷_ 101 (List._∷_ 97 (List._∷_ 100 (List._∷_ 101 (List._∷_ 114 (List._∷_
       58 (List._∷_ 58 (List._∷_ 119 (List._∷_ 97 (List._∷_ 108 (List._∷_ 107 (List._∷_ 58 (List._∷_ 58 (List._∷_ 80 (List._∷_ 97 (List._∷_ 115 (List._∷_ 115 (List._∷_ 101 (List._∷_
-      100 List.[])))))))))))))))))))) (Syntax.tcons (Syntax.tyInt Syntax.w64) (Syntax.tcons Syntax.tyBool (Syntax.tcons (Syntax.tyInt Syntax.w64) Syntax.tnil)))) Syntax.tnil)
-      (Syntax.ttcons Syntax.tnil (Syntax.ttcons (Syntax.tcons (Syntax.tyStruct (List._∷_ 116 (List._∷_ 121 (List._∷_ 112 (List._∷_ 101 (List._∷_ 115 (List._∷_ 58 (List._∷_ 58
-      (List._∷_ 82 (List._∷_ 101 (List._∷_ 102 (List._∷_ 117 (List._∷_ 115 (List._∷_ 97 (List._∷_ 108 List.[])))))))))))))) (Syntax.tcons (Syntax.tyInt Syntax.w32) (Syntax.tcons
-      (Syntax.tyInt Syntax.w64) Syntax.tnil))) Syntax.tnil) Syntax.ttnil))))
+      100 List.[])))))))))))))))))))) (Syntax.tcons (Syntax.tyInt Syntax.w64) (Syntax.tcons (Syntax.tyInt Syntax.w16) (Syntax.tcons Syntax.tyBool (Syntax.tcons Syntax.tyBool
+      (Syntax.tcons (Syntax.tyInt Syntax.w64) Syntax.tnil)))))) Syntax.tnil) (Syntax.ttcons Syntax.tnil (Syntax.ttcons (Syntax.tcons (Syntax.tyStruct (List._∷_ 116 (List._∷_ 121
+      (List._∷_ 112 (List._∷_ 101 (List._∷_ 115 (List._∷_ 58 (List._∷_ 58 (List._∷_ 82 (List._∷_ 101 (List._∷_ 102 (List._∷_ 117 (List._∷_ 115 (List._∷_ 97 (List._∷_ 108
+      List.[])))))))))))))) (Syntax.tcons (Syntax.tyInt Syntax.w32) (Syntax.tcons (Syntax.tyInt Syntax.w64) Syntax.tnil))) Syntax.tnil) Syntax.ttnil))))
 
   abbrev s6 : Typed.Both T7 T9
   s6 = Known.k-enum-known WalkStep.enum 0 T7 7 λ x. x
@@ -1335,10 +1345,10 @@ module _ (claims· : Claims) where
       (List._∷_ 108 (List._∷_ 107 (List._∷_ 58 (List._∷_ 58 (List._∷_ 87 (List._∷_ 97 (List._∷_ 108 (List._∷_ 107 (List._∷_ 83 (List._∷_ 116 (List._∷_ 101 (List._∷_ 112
       List.[])))))))))))))))))))))) (Syntax.ttcons (Syntax.tcons (Syntax.tyStruct (List._∷_ 104 (List._∷_ 101 (List._∷_ 97 (List._∷_ 100 (List._∷_ 101 (List._∷_ 114 (List._∷_ 58
       (List._∷_ 58 (List._∷_ 119 (List._∷_ 97 (List._∷_ 108 (List._∷_ 107 (List._∷_ 58 (List._∷_ 58 (List._∷_ 80 (List._∷_ 97 (List._∷_ 115 (List._∷_ 115 (List._∷_ 101 (List._∷_
-      100 List.[])))))))))))))))))))) (Syntax.tcons (Syntax.tyInt Syntax.w64) (Syntax.tcons Syntax.tyBool (Syntax.tcons (Syntax.tyInt Syntax.w64) Syntax.tnil)))) Syntax.tnil)
-      (Syntax.ttcons Syntax.tnil (Syntax.ttcons (Syntax.tcons (Syntax.tyStruct (List._∷_ 116 (List._∷_ 121 (List._∷_ 112 (List._∷_ 101 (List._∷_ 115 (List._∷_ 58 (List._∷_ 58
-      (List._∷_ 82 (List._∷_ 101 (List._∷_ 102 (List._∷_ 117 (List._∷_ 115 (List._∷_ 97 (List._∷_ 108 List.[])))))))))))))) (Syntax.tcons (Syntax.tyInt Syntax.w32) (Syntax.tcons
-      (Syntax.tyInt Syntax.w64) Syntax.tnil))) Syntax.tnil) Syntax.ttnil))))
+      100 List.[])))))))))))))))))))) (Syntax.tcons (Syntax.tyInt Syntax.w64) (Syntax.tcons (Syntax.tyInt Syntax.w16) (Syntax.tcons Syntax.tyBool (Syntax.tcons Syntax.tyBool
+      (Syntax.tcons (Syntax.tyInt Syntax.w64) Syntax.tnil)))))) Syntax.tnil) (Syntax.ttcons Syntax.tnil (Syntax.ttcons (Syntax.tcons (Syntax.tyStruct (List._∷_ 116 (List._∷_ 121
+      (List._∷_ 112 (List._∷_ 101 (List._∷_ 115 (List._∷_ 58 (List._∷_ 58 (List._∷_ 82 (List._∷_ 101 (List._∷_ 102 (List._∷_ 117 (List._∷_ 115 (List._∷_ 97 (List._∷_ 108
+      List.[])))))))))))))) (Syntax.tcons (Syntax.tyInt Syntax.w32) (Syntax.tcons (Syntax.tyInt Syntax.w64) Syntax.tnil))) Syntax.tnil) Syntax.ttnil))))
 
   abbrev s10 : Typed.Mo T7 → Typed.Mo T13
   s10 = Scalar.n-room T7 6 (Syntax.tyStruct (List._∷_ 116 (List._∷_ 121 (List._∷_ 112 (List._∷_ 101 (List._∷_ 115 (List._∷_ 58 (List._∷_ 58 (List._∷_ 67 (List._∷_ 111 (List._∷_ 100
@@ -1350,10 +1360,10 @@ module _ (claims· : Claims) where
       (List._∷_ 108 (List._∷_ 107 (List._∷_ 58 (List._∷_ 58 (List._∷_ 87 (List._∷_ 97 (List._∷_ 108 (List._∷_ 107 (List._∷_ 83 (List._∷_ 116 (List._∷_ 101 (List._∷_ 112
       List.[])))))))))))))))))))))) (Syntax.ttcons (Syntax.tcons (Syntax.tyStruct (List._∷_ 104 (List._∷_ 101 (List._∷_ 97 (List._∷_ 100 (List._∷_ 101 (List._∷_ 114 (List._∷_ 58
       (List._∷_ 58 (List._∷_ 119 (List._∷_ 97 (List._∷_ 108 (List._∷_ 107 (List._∷_ 58 (List._∷_ 58 (List._∷_ 80 (List._∷_ 97 (List._∷_ 115 (List._∷_ 115 (List._∷_ 101 (List._∷_
-      100 List.[])))))))))))))))))))) (Syntax.tcons (Syntax.tyInt Syntax.w64) (Syntax.tcons Syntax.tyBool (Syntax.tcons (Syntax.tyInt Syntax.w64) Syntax.tnil)))) Syntax.tnil)
-      (Syntax.ttcons Syntax.tnil (Syntax.ttcons (Syntax.tcons (Syntax.tyStruct (List._∷_ 116 (List._∷_ 121 (List._∷_ 112 (List._∷_ 101 (List._∷_ 115 (List._∷_ 58 (List._∷_ 58
-      (List._∷_ 82 (List._∷_ 101 (List._∷_ 102 (List._∷_ 117 (List._∷_ 115 (List._∷_ 97 (List._∷_ 108 List.[])))))))))))))) (Syntax.tcons (Syntax.tyInt Syntax.w32) (Syntax.tcons
-      (Syntax.tyInt Syntax.w64) Syntax.tnil))) Syntax.tnil) Syntax.ttnil))))
+      100 List.[])))))))))))))))))))) (Syntax.tcons (Syntax.tyInt Syntax.w64) (Syntax.tcons (Syntax.tyInt Syntax.w16) (Syntax.tcons Syntax.tyBool (Syntax.tcons Syntax.tyBool
+      (Syntax.tcons (Syntax.tyInt Syntax.w64) Syntax.tnil)))))) Syntax.tnil) (Syntax.ttcons Syntax.tnil (Syntax.ttcons (Syntax.tcons (Syntax.tyStruct (List._∷_ 116 (List._∷_ 121
+      (List._∷_ 112 (List._∷_ 101 (List._∷_ 115 (List._∷_ 58 (List._∷_ 58 (List._∷_ 82 (List._∷_ 101 (List._∷_ 102 (List._∷_ 117 (List._∷_ 115 (List._∷_ 97 (List._∷_ 108
+      List.[])))))))))))))) (Syntax.tcons (Syntax.tyInt Syntax.w32) (Syntax.tcons (Syntax.tyInt Syntax.w64) Syntax.tnil))) Syntax.tnil) Syntax.ttnil))))
 
   abbrev s12 : Typed.Mo T14 → Typed.Mo T15
   s12 = Scalar.n-use T14 Scalar.oUnit 0 (Rows.sc-here Row.sUnit) (Row.sUnit .of)
@@ -1365,14 +1375,14 @@ module _ (claims· : Claims) where
   s14 = Scalar.n-room T16 5 (Syntax.tyInt Syntax.w64)
 
   abbrev s15 : Typed.Mo T8 → Typed.Mo T18
-  s15 = Scalar.n-use T8 (Scalar.oFld 8 (List._∷_ (Syntax.field 1) List.[]) Syntax.tyBool 8 (Reads.fieldV Passed.the-type Laws.the-laws 1)) 10 (Rows.sc-here Row.sBool) (Row.sBool
+  s15 = Scalar.n-use T8 (Scalar.oFld 8 (List._∷_ (Syntax.field 3) List.[]) Syntax.tyBool 11 (Reads.fieldV Passed.the-type Laws.the-laws 3)) 10 (Rows.sc-here Row.sBool) (Row.sBool
       .of)
 
   abbrev s16 : Typed.Mo T18 → Typed.Mo T20
   s16 = Scalar.n-room T18 10 Syntax.tyBool
 
   abbrev s17 : Typed.Mo T20 → Typed.Mo T21
-  s17 = Scalar.n-use T20 (Scalar.oFld 8 (List._∷_ (Syntax.field 2) List.[]) (Syntax.tyInt Syntax.w64) 16 (Reads.fieldV Passed.the-type Laws.the-laws 2)) 9 (Rows.sc-here (Row.sInt
+  s17 = Scalar.n-use T20 (Scalar.oFld 8 (List._∷_ (Syntax.field 4) List.[]) (Syntax.tyInt Syntax.w64) 16 (Reads.fieldV Passed.the-type Laws.the-laws 4)) 9 (Rows.sc-here (Row.sInt
       Syntax.w64)) (Row.sInt Syntax.w64 .of)
 
   abbrev s19 : Typed.Gives T21 T23
@@ -1436,7 +1446,8 @@ module _ (claims· : Claims) where
   abbrev s31 : Typed.Mo T34 → Typed.Mo T35
   s31 = Scalar.n-room T34 8 (Syntax.tyStruct (List._∷_ 104 (List._∷_ 101 (List._∷_ 97 (List._∷_ 100 (List._∷_ 101 (List._∷_ 114 (List._∷_ 58 (List._∷_ 58 (List._∷_ 119 (List._∷_ 97
       (List._∷_ 108 (List._∷_ 107 (List._∷_ 58 (List._∷_ 58 (List._∷_ 80 (List._∷_ 97 (List._∷_ 115 (List._∷_ 115 (List._∷_ 101 (List._∷_ 100 List.[]))))))))))))))))))))
-      (Syntax.tcons (Syntax.tyInt Syntax.w64) (Syntax.tcons Syntax.tyBool (Syntax.tcons (Syntax.tyInt Syntax.w64) Syntax.tnil))))
+      (Syntax.tcons (Syntax.tyInt Syntax.w64) (Syntax.tcons (Syntax.tyInt Syntax.w16) (Syntax.tcons Syntax.tyBool (Syntax.tcons Syntax.tyBool (Syntax.tcons (Syntax.tyInt
+      Syntax.w64) Syntax.tnil))))))
 
   abbrev put0 : List.List (LentTilePartEntry.row .Denot) × Rows.sc-here (Row.sInt Syntax.w64) .Mod × Rows.sc-here (Row.sInt Syntax.w64) .Mod × Rows.whole (Declared'.row
       CodestreamOffset.the-type) .Mod → Typed.Mo T6 → Typed.Mo T6
@@ -1606,19 +1617,19 @@ module _ (claims· : Claims) where
               (List._∷_ 107 (List._∷_ 58 (List._∷_ 58 (List._∷_ 87 (List._∷_ 97 (List._∷_ 108 (List._∷_ 107 (List._∷_ 83 (List._∷_ 116 (List._∷_ 101 (List._∷_ 112
               List.[])))))))))))))))))))))) (Syntax.ttcons (Syntax.tcons (Syntax.tyStruct (List._∷_ 104 (List._∷_ 101 (List._∷_ 97 (List._∷_ 100 (List._∷_ 101 (List._∷_ 114 (List._∷_
               58 (List._∷_ 58 (List._∷_ 119 (List._∷_ 97 (List._∷_ 108 (List._∷_ 107 (List._∷_ 58 (List._∷_ 58 (List._∷_ 80 (List._∷_ 97 (List._∷_ 115 (List._∷_ 115 (List._∷_ 101
-              (List._∷_ 100 List.[])))))))))))))))))))) (Syntax.tcons (Syntax.tyInt Syntax.w64) (Syntax.tcons Syntax.tyBool (Syntax.tcons (Syntax.tyInt Syntax.w64) Syntax.tnil))))
-              Syntax.tnil) (Syntax.ttcons Syntax.tnil (Syntax.ttcons (Syntax.tcons (Syntax.tyStruct (List._∷_ 116 (List._∷_ 121 (List._∷_ 112 (List._∷_ 101 (List._∷_ 115 (List._∷_ 58
-              (List._∷_ 58 (List._∷_ 82 (List._∷_ 101 (List._∷_ 102 (List._∷_ 117 (List._∷_ 115 (List._∷_ 97 (List._∷_ 108 List.[])))))))))))))) (Syntax.tcons (Syntax.tyInt
-              Syntax.w32) (Syntax.tcons (Syntax.tyInt Syntax.w64) Syntax.tnil))) Syntax.tnil) Syntax.ttnil)))),
-        ) (List._∷_ (8, Rows.whole (Declared'.row Passed.the-type)) (List._∷_
-            (9, Rows.sc-here (Row.sInt Syntax.w64)) (List._∷_ (10, Rows.any-gone Syntax.tyBool) (List._∷_ (
+              (List._∷_ 100 List.[])))))))))))))))))))) (Syntax.tcons (Syntax.tyInt Syntax.w64) (Syntax.tcons (Syntax.tyInt Syntax.w16) (Syntax.tcons Syntax.tyBool (Syntax.tcons
+              Syntax.tyBool (Syntax.tcons (Syntax.tyInt Syntax.w64) Syntax.tnil)))))) Syntax.tnil) (Syntax.ttcons Syntax.tnil (Syntax.ttcons (Syntax.tcons (Syntax.tyStruct (List._∷_
+              116 (List._∷_ 121 (List._∷_ 112 (List._∷_ 101 (List._∷_ 115 (List._∷_ 58 (List._∷_ 58 (List._∷_ 82 (List._∷_ 101 (List._∷_ 102 (List._∷_ 117 (List._∷_ 115 (List._∷_ 97
+              (List._∷_ 108 List.[])))))))))))))) (Syntax.tcons (Syntax.tyInt Syntax.w32) (Syntax.tcons (Syntax.tyInt Syntax.w64) Syntax.tnil))) Syntax.tnil) Syntax.ttnil)))),
+        )
+            (List._∷_ (8, Rows.whole (Declared'.row Passed.the-type)) (List._∷_ (9, Rows.sc-here (Row.sInt Syntax.w64)) (List._∷_ (10, Rows.any-gone Syntax.tyBool) (List._∷_ (
               11,
-              Relend.msptr LentTilePartEntry.row (Syntax.tyRef Syntax.erased
-                  Syntax.mut LentTilePartEntry.pointee) 2,
+              Relend.msptr LentTilePartEntry.row (Syntax.tyRef Syntax.erased Syntax.mut LentTilePartEntry.pointee) 2,
             ) (List._∷_ (
               12,
-              Rows.any-gone (Syntax.tyStruct (List._∷_ 38 (List._∷_ 91 (List._∷_ 93 List.[]))) (Syntax.tcons (Syntax.tyRef
-                  Syntax.erased Syntax.mut LentTilePartEntry.pointee) (Syntax.tcons (Syntax.tyInt Syntax.w64) Syntax.tnil))),
+              Rows.any-gone (Syntax.tyStruct (List._∷_ 38
+                  (List._∷_ 91 (List._∷_ 93 List.[]))) (Syntax.tcons (Syntax.tyRef Syntax.erased Syntax.mut LentTilePartEntry.pointee) (Syntax.tcons (Syntax.tyInt Syntax.w64)
+                  Syntax.tnil))),
             ) List.[]))))))))))))
 
         abbrev g18 : List.List Row.Entry
@@ -1646,16 +1657,19 @@ module _ (claims· : Claims) where
               (List._∷_ 107 (List._∷_ 58 (List._∷_ 58 (List._∷_ 87 (List._∷_ 97 (List._∷_ 108 (List._∷_ 107 (List._∷_ 83 (List._∷_ 116 (List._∷_ 101 (List._∷_ 112
               List.[])))))))))))))))))))))) (Syntax.ttcons (Syntax.tcons (Syntax.tyStruct (List._∷_ 104 (List._∷_ 101 (List._∷_ 97 (List._∷_ 100 (List._∷_ 101 (List._∷_ 114 (List._∷_
               58 (List._∷_ 58 (List._∷_ 119 (List._∷_ 97 (List._∷_ 108 (List._∷_ 107 (List._∷_ 58 (List._∷_ 58 (List._∷_ 80 (List._∷_ 97 (List._∷_ 115 (List._∷_ 115 (List._∷_ 101
-              (List._∷_ 100 List.[])))))))))))))))))))) (Syntax.tcons (Syntax.tyInt Syntax.w64) (Syntax.tcons Syntax.tyBool (Syntax.tcons (Syntax.tyInt Syntax.w64) Syntax.tnil))))
-              Syntax.tnil) (Syntax.ttcons Syntax.tnil (Syntax.ttcons (Syntax.tcons (Syntax.tyStruct (List._∷_ 116 (List._∷_ 121 (List._∷_ 112 (List._∷_ 101 (List._∷_ 115 (List._∷_ 58
-              (List._∷_ 58 (List._∷_ 82 (List._∷_ 101 (List._∷_ 102 (List._∷_ 117 (List._∷_ 115 (List._∷_ 97 (List._∷_ 108 List.[])))))))))))))) (Syntax.tcons (Syntax.tyInt
-              Syntax.w32) (Syntax.tcons (Syntax.tyInt Syntax.w64) Syntax.tnil))) Syntax.tnil) Syntax.ttnil)))),
-        ) (List._∷_ (8, Rows.whole (Declared'.row Passed.the-type)) (List._∷_
-            (9, Rows.sc-here (Row.sInt Syntax.w64)) (List._∷_ (10, Rows.any-gone Syntax.tyBool) (List._∷_ (
+              (List._∷_ 100 List.[])))))))))))))))))))) (Syntax.tcons (Syntax.tyInt Syntax.w64) (Syntax.tcons (Syntax.tyInt Syntax.w16) (Syntax.tcons Syntax.tyBool (Syntax.tcons
+              Syntax.tyBool (Syntax.tcons (Syntax.tyInt Syntax.w64) Syntax.tnil)))))) Syntax.tnil) (Syntax.ttcons Syntax.tnil (Syntax.ttcons (Syntax.tcons (Syntax.tyStruct (List._∷_
+              116 (List._∷_ 121 (List._∷_ 112 (List._∷_ 101 (List._∷_ 115 (List._∷_ 58 (List._∷_ 58 (List._∷_ 82 (List._∷_ 101 (List._∷_ 102 (List._∷_ 117 (List._∷_ 115 (List._∷_ 97
+              (List._∷_ 108 List.[])))))))))))))) (Syntax.tcons (Syntax.tyInt Syntax.w32) (Syntax.tcons (Syntax.tyInt Syntax.w64) Syntax.tnil))) Syntax.tnil) Syntax.ttnil)))),
+        )
+            (List._∷_ (8, Rows.whole (Declared'.row Passed.the-type)) (List._∷_ (9, Rows.sc-here (Row.sInt Syntax.w64)) (List._∷_ (10, Rows.any-gone Syntax.tyBool) (List._∷_ (
               11,
-              Rows.any-gone (Syntax.tyRef Syntax.erased Syntax.mut
-                  LentTilePartEntry.pointee),
-            ) (List._∷_ (12, Mut.mslice LentTilePartEntry.row (Syntax.tyRef Syntax.erased Syntax.mut LentTilePartEntry.pointee) 2) List.[]))))))))))))
+              Rows.any-gone (Syntax.tyRef Syntax.erased Syntax.mut LentTilePartEntry.pointee),
+            ) (List._∷_ (
+              12,
+              Mut.mslice LentTilePartEntry.row (Syntax.tyRef Syntax.erased Syntax.mut
+                  LentTilePartEntry.pointee) 2,
+            ) List.[]))))))))))))
 
         abbrev g19 : List.List Row.Entry
         g19 = List._∷_ (0, Rows.any-gone Syntax.tyUnit) (List._∷_ (
@@ -1682,16 +1696,19 @@ module _ (claims· : Claims) where
               (List._∷_ 107 (List._∷_ 58 (List._∷_ 58 (List._∷_ 87 (List._∷_ 97 (List._∷_ 108 (List._∷_ 107 (List._∷_ 83 (List._∷_ 116 (List._∷_ 101 (List._∷_ 112
               List.[])))))))))))))))))))))) (Syntax.ttcons (Syntax.tcons (Syntax.tyStruct (List._∷_ 104 (List._∷_ 101 (List._∷_ 97 (List._∷_ 100 (List._∷_ 101 (List._∷_ 114 (List._∷_
               58 (List._∷_ 58 (List._∷_ 119 (List._∷_ 97 (List._∷_ 108 (List._∷_ 107 (List._∷_ 58 (List._∷_ 58 (List._∷_ 80 (List._∷_ 97 (List._∷_ 115 (List._∷_ 115 (List._∷_ 101
-              (List._∷_ 100 List.[])))))))))))))))))))) (Syntax.tcons (Syntax.tyInt Syntax.w64) (Syntax.tcons Syntax.tyBool (Syntax.tcons (Syntax.tyInt Syntax.w64) Syntax.tnil))))
-              Syntax.tnil) (Syntax.ttcons Syntax.tnil (Syntax.ttcons (Syntax.tcons (Syntax.tyStruct (List._∷_ 116 (List._∷_ 121 (List._∷_ 112 (List._∷_ 101 (List._∷_ 115 (List._∷_ 58
-              (List._∷_ 58 (List._∷_ 82 (List._∷_ 101 (List._∷_ 102 (List._∷_ 117 (List._∷_ 115 (List._∷_ 97 (List._∷_ 108 List.[])))))))))))))) (Syntax.tcons (Syntax.tyInt
-              Syntax.w32) (Syntax.tcons (Syntax.tyInt Syntax.w64) Syntax.tnil))) Syntax.tnil) Syntax.ttnil)))),
-        ) (List._∷_ (8, Rows.whole (Declared'.row Passed.the-type)) (List._∷_
-            (9, Rows.sc-here (Row.sInt Syntax.w64)) (List._∷_ (10, Rows.any-gone Syntax.tyBool) (List._∷_ (
+              (List._∷_ 100 List.[])))))))))))))))))))) (Syntax.tcons (Syntax.tyInt Syntax.w64) (Syntax.tcons (Syntax.tyInt Syntax.w16) (Syntax.tcons Syntax.tyBool (Syntax.tcons
+              Syntax.tyBool (Syntax.tcons (Syntax.tyInt Syntax.w64) Syntax.tnil)))))) Syntax.tnil) (Syntax.ttcons Syntax.tnil (Syntax.ttcons (Syntax.tcons (Syntax.tyStruct (List._∷_
+              116 (List._∷_ 121 (List._∷_ 112 (List._∷_ 101 (List._∷_ 115 (List._∷_ 58 (List._∷_ 58 (List._∷_ 82 (List._∷_ 101 (List._∷_ 102 (List._∷_ 117 (List._∷_ 115 (List._∷_ 97
+              (List._∷_ 108 List.[])))))))))))))) (Syntax.tcons (Syntax.tyInt Syntax.w32) (Syntax.tcons (Syntax.tyInt Syntax.w64) Syntax.tnil))) Syntax.tnil) Syntax.ttnil)))),
+        )
+            (List._∷_ (8, Rows.whole (Declared'.row Passed.the-type)) (List._∷_ (9, Rows.sc-here (Row.sInt Syntax.w64)) (List._∷_ (10, Rows.any-gone Syntax.tyBool) (List._∷_ (
               11,
-              Rows.any-gone (Syntax.tyRef Syntax.erased Syntax.mut
+              Rows.any-gone (Syntax.tyRef Syntax.erased Syntax.mut LentTilePartEntry.pointee),
+            ) (List._∷_ (
+              12,
+              Mut.msleft LentTilePartEntry.row (Syntax.tyRef Syntax.erased Syntax.mut
                   LentTilePartEntry.pointee),
-            ) (List._∷_ (12, Mut.msleft LentTilePartEntry.row (Syntax.tyRef Syntax.erased Syntax.mut LentTilePartEntry.pointee)) List.[]))))))))))))
+            ) List.[]))))))))))))
 
         abbrev g20 : List.List Row.Entry
         g20 = List._∷_ (0, Rows.any-gone Syntax.tyUnit) (List._∷_ (
@@ -1717,16 +1734,19 @@ module _ (claims· : Claims) where
               (List._∷_ 108 (List._∷_ 107 (List._∷_ 58 (List._∷_ 58 (List._∷_ 87 (List._∷_ 97 (List._∷_ 108 (List._∷_ 107 (List._∷_ 83 (List._∷_ 116 (List._∷_ 101 (List._∷_ 112
               List.[])))))))))))))))))))))) (Syntax.ttcons (Syntax.tcons (Syntax.tyStruct (List._∷_ 104 (List._∷_ 101 (List._∷_ 97 (List._∷_ 100 (List._∷_ 101 (List._∷_ 114 (List._∷_
               58 (List._∷_ 58 (List._∷_ 119 (List._∷_ 97 (List._∷_ 108 (List._∷_ 107 (List._∷_ 58 (List._∷_ 58 (List._∷_ 80 (List._∷_ 97 (List._∷_ 115 (List._∷_ 115 (List._∷_ 101
-              (List._∷_ 100 List.[])))))))))))))))))))) (Syntax.tcons (Syntax.tyInt Syntax.w64) (Syntax.tcons Syntax.tyBool (Syntax.tcons (Syntax.tyInt Syntax.w64) Syntax.tnil))))
-              Syntax.tnil) (Syntax.ttcons Syntax.tnil (Syntax.ttcons (Syntax.tcons (Syntax.tyStruct (List._∷_ 116 (List._∷_ 121 (List._∷_ 112 (List._∷_ 101 (List._∷_ 115 (List._∷_ 58
-              (List._∷_ 58 (List._∷_ 82 (List._∷_ 101 (List._∷_ 102 (List._∷_ 117 (List._∷_ 115 (List._∷_ 97 (List._∷_ 108 List.[])))))))))))))) (Syntax.tcons (Syntax.tyInt
-              Syntax.w32) (Syntax.tcons (Syntax.tyInt Syntax.w64) Syntax.tnil))) Syntax.tnil) Syntax.ttnil)))),
-        ) (List._∷_ (8, Rows.whole (Declared'.row Passed.the-type)) (List._∷_
-            (9, Rows.sc-here (Row.sInt Syntax.w64)) (List._∷_ (10, Rows.any-gone Syntax.tyBool) (List._∷_ (
+              (List._∷_ 100 List.[])))))))))))))))))))) (Syntax.tcons (Syntax.tyInt Syntax.w64) (Syntax.tcons (Syntax.tyInt Syntax.w16) (Syntax.tcons Syntax.tyBool (Syntax.tcons
+              Syntax.tyBool (Syntax.tcons (Syntax.tyInt Syntax.w64) Syntax.tnil)))))) Syntax.tnil) (Syntax.ttcons Syntax.tnil (Syntax.ttcons (Syntax.tcons (Syntax.tyStruct (List._∷_
+              116 (List._∷_ 121 (List._∷_ 112 (List._∷_ 101 (List._∷_ 115 (List._∷_ 58 (List._∷_ 58 (List._∷_ 82 (List._∷_ 101 (List._∷_ 102 (List._∷_ 117 (List._∷_ 115 (List._∷_ 97
+              (List._∷_ 108 List.[])))))))))))))) (Syntax.tcons (Syntax.tyInt Syntax.w32) (Syntax.tcons (Syntax.tyInt Syntax.w64) Syntax.tnil))) Syntax.tnil) Syntax.ttnil)))),
+        )
+            (List._∷_ (8, Rows.whole (Declared'.row Passed.the-type)) (List._∷_ (9, Rows.sc-here (Row.sInt Syntax.w64)) (List._∷_ (10, Rows.any-gone Syntax.tyBool) (List._∷_ (
               11,
-              Rows.any-gone (Syntax.tyRef Syntax.erased Syntax.mut
+              Rows.any-gone (Syntax.tyRef Syntax.erased Syntax.mut LentTilePartEntry.pointee),
+            ) (List._∷_ (
+              12,
+              Mut.msleft LentTilePartEntry.row (Syntax.tyRef Syntax.erased Syntax.mut
                   LentTilePartEntry.pointee),
-            ) (List._∷_ (12, Mut.msleft LentTilePartEntry.row (Syntax.tyRef Syntax.erased Syntax.mut LentTilePartEntry.pointee)) List.[]))))))))))))
+            ) List.[]))))))))))))
 
         abbrev G0 : Row.Cx
         G0 = record { locals = t0; slots = List._∷_ (Row.lease (κs .0) (qs .0)) (List._∷_ (Row.lease (κs .1 .0) (qs .1 .0)) (List._∷_ Row.off List.[])) }
@@ -1865,35 +1885,37 @@ module _ (claims· : Claims) where
               Passed.the-type Laws.the-laws 𝓤 H A W) (Laws'4.makes Passed.the-type Laws.the-plain 𝓤 H A) G10 8 (Scalar.oFld 7 (List._∷_ (Syntax.variant 0) (List._∷_ (Syntax.field
               1) List.[])) (Syntax.tyStruct (List._∷_ 104 (List._∷_ 101 (List._∷_ 97 (List._∷_ 100 (List._∷_ 101 (List._∷_ 114 (List._∷_ 58 (List._∷_ 58 (List._∷_ 119 (List._∷_ 97
               (List._∷_ 108 (List._∷_ 107 (List._∷_ 58 (List._∷_ 58 (List._∷_ 80 (List._∷_ 97 (List._∷_ 115 (List._∷_ 115 (List._∷_ 101 (List._∷_ 100 List.[]))))))))))))))))))))
-              (Syntax.tcons (Syntax.tyInt Syntax.w64) (Syntax.tcons Syntax.tyBool (Syntax.tcons (Syntax.tyInt Syntax.w64) Syntax.tnil)))) 8 λ v. Laws'4.val Passed.the-type
-              Laws.the-laws (v .0)) (λ m. m .1 .1 .1 .1 .1 .1 .1 .0 .0) (λ m. Laws'3.Fields (Declared.variants WalkStep.the-type) (Laws'3.spellss (WalkStep.enum .parts)
-              Laws'.the-laws) (WalkStep.the-type .to (Known.at WalkStep.enum 0 (m .1 .1 .1 .1 .1 .1 .1 .0)))) (Reads'.room-gone 𝓤 H A (Syntax.tyStruct (List._∷_ 104 (List._∷_ 101
-              (List._∷_ 97 (List._∷_ 100 (List._∷_ 101 (List._∷_ 114 (List._∷_ 58 (List._∷_ 58 (List._∷_ 119 (List._∷_ 97 (List._∷_ 108 (List._∷_ 107 (List._∷_ 58 (List._∷_ 58
-              (List._∷_ 80 (List._∷_ 97 (List._∷_ 115 (List._∷_ 115 (List._∷_ 101 (List._∷_ 100 List.[])))))))))))))))))))) (Syntax.tcons (Syntax.tyInt Syntax.w64) (Syntax.tcons
-              Syntax.tyBool (Syntax.tcons (Syntax.tyInt Syntax.w64) Syntax.tnil))))) (
-                Match.reads-payload 𝓤 H A W WalkStep.enum Laws'.the-laws 0 Path'.refl Path'.refl (λ v.
-                    Val.vcons (Laws'4.val Passed.the-type Laws.the-laws (v .0)) Val.vnil) (λ v. Path'.refl) 0 (Syntax.tyStruct (List._∷_ 104 (List._∷_ 101 (List._∷_ 97 (List._∷_ 100
-                    (List._∷_ 101 (List._∷_ 114 (List._∷_ 58 (List._∷_ 58 (List._∷_ 119 (List._∷_ 97 (List._∷_ 108 (List._∷_ 107 (List._∷_ 58 (List._∷_ 58 (List._∷_ 80 (List._∷_ 97
-                    (List._∷_ 115 (List._∷_ 115 (List._∷_ 101 (List._∷_ 100 List.[])))))))))))))))))))) (Syntax.tcons (Syntax.tyInt Syntax.w64) (Syntax.tcons Syntax.tyBool (Syntax.tcons
-                    (Syntax.tyInt Syntax.w64) Syntax.tnil)))) 8 Path'.refl,
+              (Syntax.tcons (Syntax.tyInt Syntax.w64) (Syntax.tcons (Syntax.tyInt Syntax.w16) (Syntax.tcons Syntax.tyBool (Syntax.tcons Syntax.tyBool (Syntax.tcons (Syntax.tyInt
+              Syntax.w64) Syntax.tnil)))))) 8 λ v. Laws'4.val Passed.the-type Laws.the-laws (v .0)) (λ m. m .1 .1 .1 .1 .1 .1 .1 .0 .0) (λ m. Laws'3.Fields (Declared.variants
+              WalkStep.the-type) (Laws'3.spellss (WalkStep.enum .parts) Laws'.the-laws) (WalkStep.the-type .to (Known.at WalkStep.enum 0 (m .1 .1 .1 .1 .1 .1 .1 .0))))
+              (Reads'.room-gone 𝓤 H A (Syntax.tyStruct (List._∷_ 104 (List._∷_ 101 (List._∷_ 97 (List._∷_ 100 (List._∷_ 101 (List._∷_ 114 (List._∷_ 58 (List._∷_ 58 (List._∷_ 119
+              (List._∷_ 97 (List._∷_ 108 (List._∷_ 107 (List._∷_ 58 (List._∷_ 58 (List._∷_ 80 (List._∷_ 97 (List._∷_ 115 (List._∷_ 115 (List._∷_ 101 (List._∷_ 100
+              List.[])))))))))))))))))))) (Syntax.tcons (Syntax.tyInt Syntax.w64) (Syntax.tcons (Syntax.tyInt Syntax.w16) (Syntax.tcons Syntax.tyBool (Syntax.tcons Syntax.tyBool
+              (Syntax.tcons (Syntax.tyInt Syntax.w64) Syntax.tnil))))))) (
+                Match.reads-payload 𝓤 H A W WalkStep.enum Laws'.the-laws 0 Path'.refl Path'.refl (λ v. Val.vcons
+                    (Laws'4.val Passed.the-type Laws.the-laws (v .0)) Val.vnil) (λ v. Path'.refl) 0 (Syntax.tyStruct (List._∷_ 104 (List._∷_ 101 (List._∷_ 97 (List._∷_ 100 (List._∷_ 101
+                    (List._∷_ 114 (List._∷_ 58 (List._∷_ 58 (List._∷_ 119 (List._∷_ 97 (List._∷_ 108 (List._∷_ 107 (List._∷_ 58 (List._∷_ 58 (List._∷_ 80 (List._∷_ 97 (List._∷_ 115
+                    (List._∷_ 115 (List._∷_ 101 (List._∷_ 100 List.[])))))))))))))))))))) (Syntax.tcons (Syntax.tyInt Syntax.w64) (Syntax.tcons (Syntax.tyInt Syntax.w16) (Syntax.tcons
+                    Syntax.tyBool (Syntax.tcons Syntax.tyBool (Syntax.tcons (Syntax.tyInt Syntax.w64) Syntax.tnil)))))) 8 Path'.refl,
                 Path'.refl,
-              ) Path'.refl (λ ρ m. Make.tells-row 𝓤 H A W E ρ (Row.out 8 (G10 .locals)) m 7 (Laws'3.Fields
-              (Declared.variants WalkStep.the-type) (Laws'3.spellss (WalkStep.enum .parts) Laws'.the-laws) (WalkStep.the-type .to (Known.at WalkStep.enum 0 (m .1 .1 .1 .1 .1 .1 .1
-              .0)))) (Known.known-is 𝓤 H A W E WalkStep.enum 0 Laws'.the-laws ρ 7 (m .1 .1 .1 .1 .1 .1 .1 .0))) (λ m k wa. Path'.refl) λ m k wa. k .0) (Scalar.g-room 𝓤 H A W E G11
-              7 (Syntax.tyEnum (List._∷_ 104 (List._∷_ 101 (List._∷_ 97 (List._∷_ 100 (List._∷_ 101 (List._∷_ 114 (List._∷_ 58 (List._∷_ 58 (List._∷_ 119 (List._∷_ 97 (List._∷_ 108
-              (List._∷_ 107 (List._∷_ 58 (List._∷_ 58 (List._∷_ 87 (List._∷_ 97 (List._∷_ 108 (List._∷_ 107 (List._∷_ 83 (List._∷_ 116 (List._∷_ 101 (List._∷_ 112
-              List.[])))))))))))))))))))))) (Syntax.ttcons (Syntax.tcons (Syntax.tyStruct (List._∷_ 104 (List._∷_ 101 (List._∷_ 97 (List._∷_ 100 (List._∷_ 101 (List._∷_ 114
-              (List._∷_ 58 (List._∷_ 58 (List._∷_ 119 (List._∷_ 97 (List._∷_ 108 (List._∷_ 107 (List._∷_ 58 (List._∷_ 58 (List._∷_ 80 (List._∷_ 97 (List._∷_ 115 (List._∷_ 115
-              (List._∷_ 101 (List._∷_ 100 List.[])))))))))))))))))))) (Syntax.tcons (Syntax.tyInt Syntax.w64) (Syntax.tcons Syntax.tyBool (Syntax.tcons (Syntax.tyInt Syntax.w64)
-              Syntax.tnil)))) Syntax.tnil) (Syntax.ttcons Syntax.tnil (Syntax.ttcons (Syntax.tcons (Syntax.tyStruct (List._∷_ 116 (List._∷_ 121 (List._∷_ 112 (List._∷_ 101
-              (List._∷_ 115 (List._∷_ 58 (List._∷_ 58 (List._∷_ 82 (List._∷_ 101 (List._∷_ 102 (List._∷_ 117 (List._∷_ 115 (List._∷_ 97 (List._∷_ 108 List.[]))))))))))))))
-              (Syntax.tcons (Syntax.tyInt Syntax.w32) (Syntax.tcons (Syntax.tyInt Syntax.w64) Syntax.tnil))) Syntax.tnil) Syntax.ttnil)))) (Local.room-whole 𝓤 H A W (Known.Known
-              WalkStep.enum 0) (Syntax.tyEnum (List._∷_ 104 (List._∷_ 101 (List._∷_ 97 (List._∷_ 100 (List._∷_ 101 (List._∷_ 114 (List._∷_ 58 (List._∷_ 58 (List._∷_ 119 (List._∷_
-              97 (List._∷_ 108 (List._∷_ 107 (List._∷_ 58 (List._∷_ 58 (List._∷_ 87 (List._∷_ 97 (List._∷_ 108 (List._∷_ 107 (List._∷_ 83 (List._∷_ 116 (List._∷_ 101 (List._∷_ 112
-              List.[])))))))))))))))))))))) (Syntax.ttcons (Syntax.tcons (Syntax.tyStruct (List._∷_ 104 (List._∷_ 101 (List._∷_ 97 (List._∷_ 100 (List._∷_ 101 (List._∷_ 114
-              (List._∷_ 58 (List._∷_ 58 (List._∷_ 119 (List._∷_ 97 (List._∷_ 108 (List._∷_ 107 (List._∷_ 58 (List._∷_ 58 (List._∷_ 80 (List._∷_ 97 (List._∷_ 115 (List._∷_ 115
-              (List._∷_ 101 (List._∷_ 100 List.[])))))))))))))))))))) (Syntax.tcons (Syntax.tyInt Syntax.w64) (Syntax.tcons Syntax.tyBool (Syntax.tcons (Syntax.tyInt Syntax.w64)
-              Syntax.tnil)))) Syntax.tnil) (Syntax.ttcons Syntax.tnil (Syntax.ttcons (Syntax.tcons (Syntax.tyStruct (List._∷_ 116 (List._∷_ 121 (List._∷_ 112 (List._∷_ 101
+              ) Path'.refl (λ ρ m. Make.tells-row 𝓤 H A
+              W E ρ (Row.out 8 (G10 .locals)) m 7 (Laws'3.Fields (Declared.variants WalkStep.the-type) (Laws'3.spellss (WalkStep.enum .parts) Laws'.the-laws) (WalkStep.the-type .to
+              (Known.at WalkStep.enum 0 (m .1 .1 .1 .1 .1 .1 .1 .0)))) (Known.known-is 𝓤 H A W E WalkStep.enum 0 Laws'.the-laws ρ 7 (m .1 .1 .1 .1 .1 .1 .1 .0))) (λ m k wa.
+              Path'.refl) λ m k wa. k .0) (Scalar.g-room 𝓤 H A W E G11 7 (Syntax.tyEnum (List._∷_ 104 (List._∷_ 101 (List._∷_ 97 (List._∷_ 100 (List._∷_ 101 (List._∷_ 114 (List._∷_
+              58 (List._∷_ 58 (List._∷_ 119 (List._∷_ 97 (List._∷_ 108 (List._∷_ 107 (List._∷_ 58 (List._∷_ 58 (List._∷_ 87 (List._∷_ 97 (List._∷_ 108 (List._∷_ 107 (List._∷_ 83
+              (List._∷_ 116 (List._∷_ 101 (List._∷_ 112 List.[])))))))))))))))))))))) (Syntax.ttcons (Syntax.tcons (Syntax.tyStruct (List._∷_ 104 (List._∷_ 101 (List._∷_ 97
+              (List._∷_ 100 (List._∷_ 101 (List._∷_ 114 (List._∷_ 58 (List._∷_ 58 (List._∷_ 119 (List._∷_ 97 (List._∷_ 108 (List._∷_ 107 (List._∷_ 58 (List._∷_ 58 (List._∷_ 80
+              (List._∷_ 97 (List._∷_ 115 (List._∷_ 115 (List._∷_ 101 (List._∷_ 100 List.[])))))))))))))))))))) (Syntax.tcons (Syntax.tyInt Syntax.w64) (Syntax.tcons (Syntax.tyInt
+              Syntax.w16) (Syntax.tcons Syntax.tyBool (Syntax.tcons Syntax.tyBool (Syntax.tcons (Syntax.tyInt Syntax.w64) Syntax.tnil)))))) Syntax.tnil) (Syntax.ttcons Syntax.tnil
+              (Syntax.ttcons (Syntax.tcons (Syntax.tyStruct (List._∷_ 116 (List._∷_ 121 (List._∷_ 112 (List._∷_ 101 (List._∷_ 115 (List._∷_ 58 (List._∷_ 58 (List._∷_ 82 (List._∷_
+              101 (List._∷_ 102 (List._∷_ 117 (List._∷_ 115 (List._∷_ 97 (List._∷_ 108 List.[])))))))))))))) (Syntax.tcons (Syntax.tyInt Syntax.w32) (Syntax.tcons (Syntax.tyInt
+              Syntax.w64) Syntax.tnil))) Syntax.tnil) Syntax.ttnil)))) (Local.room-whole 𝓤 H A W (Known.Known WalkStep.enum 0) (Syntax.tyEnum (List._∷_ 104 (List._∷_ 101 (List._∷_
+              97 (List._∷_ 100 (List._∷_ 101 (List._∷_ 114 (List._∷_ 58 (List._∷_ 58 (List._∷_ 119 (List._∷_ 97 (List._∷_ 108 (List._∷_ 107 (List._∷_ 58 (List._∷_ 58 (List._∷_ 87
+              (List._∷_ 97 (List._∷_ 108 (List._∷_ 107 (List._∷_ 83 (List._∷_ 116 (List._∷_ 101 (List._∷_ 112 List.[])))))))))))))))))))))) (Syntax.ttcons (Syntax.tcons
+              (Syntax.tyStruct (List._∷_ 104 (List._∷_ 101 (List._∷_ 97 (List._∷_ 100 (List._∷_ 101 (List._∷_ 114 (List._∷_ 58 (List._∷_ 58 (List._∷_ 119 (List._∷_ 97 (List._∷_ 108
+              (List._∷_ 107 (List._∷_ 58 (List._∷_ 58 (List._∷_ 80 (List._∷_ 97 (List._∷_ 115 (List._∷_ 115 (List._∷_ 101 (List._∷_ 100 List.[])))))))))))))))))))) (Syntax.tcons
+              (Syntax.tyInt Syntax.w64) (Syntax.tcons (Syntax.tyInt Syntax.w16) (Syntax.tcons Syntax.tyBool (Syntax.tcons Syntax.tyBool (Syntax.tcons (Syntax.tyInt Syntax.w64)
+              Syntax.tnil)))))) Syntax.tnil) (Syntax.ttcons Syntax.tnil (Syntax.ttcons (Syntax.tcons (Syntax.tyStruct (List._∷_ 116 (List._∷_ 121 (List._∷_ 112 (List._∷_ 101
               (List._∷_ 115 (List._∷_ 58 (List._∷_ 58 (List._∷_ 82 (List._∷_ 101 (List._∷_ 102 (List._∷_ 117 (List._∷_ 115 (List._∷_ 97 (List._∷_ 108 List.[]))))))))))))))
               (Syntax.tcons (Syntax.tyInt Syntax.w32) (Syntax.tcons (Syntax.tyInt Syntax.w64) Syntax.tnil))) Syntax.tnil) Syntax.ttnil)))) Path'.refl)))
 
@@ -1926,15 +1948,16 @@ module _ (claims· : Claims) where
               (List._∷_ 108 (List._∷_ 107 (List._∷_ 83 (List._∷_ 116 (List._∷_ 101 (List._∷_ 112 List.[])))))))))))))))))))))) (Syntax.ttcons (Syntax.tcons (Syntax.tyStruct
               (List._∷_ 104 (List._∷_ 101 (List._∷_ 97 (List._∷_ 100 (List._∷_ 101 (List._∷_ 114 (List._∷_ 58 (List._∷_ 58 (List._∷_ 119 (List._∷_ 97 (List._∷_ 108 (List._∷_ 107
               (List._∷_ 58 (List._∷_ 58 (List._∷_ 80 (List._∷_ 97 (List._∷_ 115 (List._∷_ 115 (List._∷_ 101 (List._∷_ 100 List.[])))))))))))))))))))) (Syntax.tcons (Syntax.tyInt
-              Syntax.w64) (Syntax.tcons Syntax.tyBool (Syntax.tcons (Syntax.tyInt Syntax.w64) Syntax.tnil)))) Syntax.tnil) (Syntax.ttcons Syntax.tnil (Syntax.ttcons (Syntax.tcons
-              (Syntax.tyStruct (List._∷_ 116 (List._∷_ 121 (List._∷_ 112 (List._∷_ 101 (List._∷_ 115 (List._∷_ 58 (List._∷_ 58 (List._∷_ 82 (List._∷_ 101 (List._∷_ 102 (List._∷_
-              117 (List._∷_ 115 (List._∷_ 97 (List._∷_ 108 List.[])))))))))))))) (Syntax.tcons (Syntax.tyInt Syntax.w32) (Syntax.tcons (Syntax.tyInt Syntax.w64) Syntax.tnil)))
-              Syntax.tnil) Syntax.ttnil)))) (Local.room-whole 𝓤 H A W (Declared.row WalkStep.the-type) (Syntax.tyEnum (List._∷_ 104 (List._∷_ 101 (List._∷_ 97 (List._∷_ 100
-              (List._∷_ 101 (List._∷_ 114 (List._∷_ 58 (List._∷_ 58 (List._∷_ 119 (List._∷_ 97 (List._∷_ 108 (List._∷_ 107 (List._∷_ 58 (List._∷_ 58 (List._∷_ 87 (List._∷_ 97
-              (List._∷_ 108 (List._∷_ 107 (List._∷_ 83 (List._∷_ 116 (List._∷_ 101 (List._∷_ 112 List.[])))))))))))))))))))))) (Syntax.ttcons (Syntax.tcons (Syntax.tyStruct
-              (List._∷_ 104 (List._∷_ 101 (List._∷_ 97 (List._∷_ 100 (List._∷_ 101 (List._∷_ 114 (List._∷_ 58 (List._∷_ 58 (List._∷_ 119 (List._∷_ 97 (List._∷_ 108 (List._∷_ 107
-              (List._∷_ 58 (List._∷_ 58 (List._∷_ 80 (List._∷_ 97 (List._∷_ 115 (List._∷_ 115 (List._∷_ 101 (List._∷_ 100 List.[])))))))))))))))))))) (Syntax.tcons (Syntax.tyInt
-              Syntax.w64) (Syntax.tcons Syntax.tyBool (Syntax.tcons (Syntax.tyInt Syntax.w64) Syntax.tnil)))) Syntax.tnil) (Syntax.ttcons Syntax.tnil (Syntax.ttcons (Syntax.tcons
+              Syntax.w64) (Syntax.tcons (Syntax.tyInt Syntax.w16) (Syntax.tcons Syntax.tyBool (Syntax.tcons Syntax.tyBool (Syntax.tcons (Syntax.tyInt Syntax.w64) Syntax.tnil))))))
+              Syntax.tnil) (Syntax.ttcons Syntax.tnil (Syntax.ttcons (Syntax.tcons (Syntax.tyStruct (List._∷_ 116 (List._∷_ 121 (List._∷_ 112 (List._∷_ 101 (List._∷_ 115 (List._∷_
+              58 (List._∷_ 58 (List._∷_ 82 (List._∷_ 101 (List._∷_ 102 (List._∷_ 117 (List._∷_ 115 (List._∷_ 97 (List._∷_ 108 List.[])))))))))))))) (Syntax.tcons (Syntax.tyInt
+              Syntax.w32) (Syntax.tcons (Syntax.tyInt Syntax.w64) Syntax.tnil))) Syntax.tnil) Syntax.ttnil)))) (Local.room-whole 𝓤 H A W (Declared.row WalkStep.the-type)
+              (Syntax.tyEnum (List._∷_ 104 (List._∷_ 101 (List._∷_ 97 (List._∷_ 100 (List._∷_ 101 (List._∷_ 114 (List._∷_ 58 (List._∷_ 58 (List._∷_ 119 (List._∷_ 97 (List._∷_ 108
+              (List._∷_ 107 (List._∷_ 58 (List._∷_ 58 (List._∷_ 87 (List._∷_ 97 (List._∷_ 108 (List._∷_ 107 (List._∷_ 83 (List._∷_ 116 (List._∷_ 101 (List._∷_ 112
+              List.[])))))))))))))))))))))) (Syntax.ttcons (Syntax.tcons (Syntax.tyStruct (List._∷_ 104 (List._∷_ 101 (List._∷_ 97 (List._∷_ 100 (List._∷_ 101 (List._∷_ 114
+              (List._∷_ 58 (List._∷_ 58 (List._∷_ 119 (List._∷_ 97 (List._∷_ 108 (List._∷_ 107 (List._∷_ 58 (List._∷_ 58 (List._∷_ 80 (List._∷_ 97 (List._∷_ 115 (List._∷_ 115
+              (List._∷_ 101 (List._∷_ 100 List.[])))))))))))))))))))) (Syntax.tcons (Syntax.tyInt Syntax.w64) (Syntax.tcons (Syntax.tyInt Syntax.w16) (Syntax.tcons Syntax.tyBool
+              (Syntax.tcons Syntax.tyBool (Syntax.tcons (Syntax.tyInt Syntax.w64) Syntax.tnil)))))) Syntax.tnil) (Syntax.ttcons Syntax.tnil (Syntax.ttcons (Syntax.tcons
               (Syntax.tyStruct (List._∷_ 116 (List._∷_ 121 (List._∷_ 112 (List._∷_ 101 (List._∷_ 115 (List._∷_ 58 (List._∷_ 58 (List._∷_ 82 (List._∷_ 101 (List._∷_ 102 (List._∷_
               117 (List._∷_ 115 (List._∷_ 97 (List._∷_ 108 List.[])))))))))))))) (Syntax.tcons (Syntax.tyInt Syntax.w32) (Syntax.tcons (Syntax.tyInt Syntax.w64) Syntax.tnil)))
               Syntax.tnil) Syntax.ttnil)))) Path'.refl)) d6
@@ -2107,9 +2130,9 @@ module _ (claims· : Claims) where
           )) d17
 
           d19 : Typed.Typed 𝓤 H A 𝓣 E G20 b18 Δ5 at19
-          d19 = Typed.s-seq 𝓤 H A W 𝓣 E G20 G21 b10 b17 Δ5 (Typed.pass T20 T21 s17) at18 (Scalar.t-use 𝓤 H A W E 𝓣 G20 (Scalar.oFld 8 (List._∷_ (Syntax.field 2) List.[])
-              (Syntax.tyInt Syntax.w64) 16 (Reads.fieldV Passed.the-type Laws.the-laws 2)) 9 (Rows.sc-here (Row.sInt Syntax.w64)) (Syntax.tyInt Syntax.w64) (Row.valS (Row.sInt
-              Syntax.w64)) (Row.sInt Syntax.w64 .of) (Reads.reads-field 𝓤 H A W Passed.the-type Laws.the-laws 2 (Syntax.tyInt Syntax.w64) 16 Path'.refl, Path'.refl)
+          d19 = Typed.s-seq 𝓤 H A W 𝓣 E G20 G21 b10 b17 Δ5 (Typed.pass T20 T21 s17) at18 (Scalar.t-use 𝓤 H A W E 𝓣 G20 (Scalar.oFld 8 (List._∷_ (Syntax.field 4) List.[])
+              (Syntax.tyInt Syntax.w64) 16 (Reads.fieldV Passed.the-type Laws.the-laws 4)) 9 (Rows.sc-here (Row.sInt Syntax.w64)) (Syntax.tyInt Syntax.w64) (Row.valS (Row.sInt
+              Syntax.w64)) (Row.sInt Syntax.w64 .of) (Reads.reads-field 𝓤 H A W Passed.the-type Laws.the-laws 4 (Syntax.tyInt Syntax.w64) 16 Path'.refl, Path'.refl)
               (Reads'.room-gone 𝓤 H A (Syntax.tyInt Syntax.w64)) (Scalar.holds-sc 𝓤 H A W (Row.sInt Syntax.w64)) Path'.refl (λ u. Path'.refl) λ u. tt) d18
 
           d20 : Typed.Typed 𝓤 H A 𝓣 E G18 b18 Δ5 at20
@@ -2138,20 +2161,21 @@ module _ (claims· : Claims) where
               ) (Reads'.room-gone 𝓤 H A (Syntax.tyInt Syntax.w64)) (Scalar.holds-sc 𝓤 H A W
               (Row.sInt Syntax.w64)) Path'.refl (λ u. Path'.refl) λ u. tt) (Scalar.g-room 𝓤 H A W E G34 8 (Syntax.tyStruct (List._∷_ 104 (List._∷_ 101 (List._∷_ 97 (List._∷_ 100
               (List._∷_ 101 (List._∷_ 114 (List._∷_ 58 (List._∷_ 58 (List._∷_ 119 (List._∷_ 97 (List._∷_ 108 (List._∷_ 107 (List._∷_ 58 (List._∷_ 58 (List._∷_ 80 (List._∷_ 97
-              (List._∷_ 115 (List._∷_ 115 (List._∷_ 101 (List._∷_ 100 List.[])))))))))))))))))))) (Syntax.tcons (Syntax.tyInt Syntax.w64) (Syntax.tcons Syntax.tyBool (Syntax.tcons
-              (Syntax.tyInt Syntax.w64) Syntax.tnil)))) (Local.room-whole 𝓤 H A W (Declared'.row Passed.the-type) (Syntax.tyStruct (List._∷_ 104 (List._∷_ 101 (List._∷_ 97
-              (List._∷_ 100 (List._∷_ 101 (List._∷_ 114 (List._∷_ 58 (List._∷_ 58 (List._∷_ 119 (List._∷_ 97 (List._∷_ 108 (List._∷_ 107 (List._∷_ 58 (List._∷_ 58 (List._∷_ 80
-              (List._∷_ 97 (List._∷_ 115 (List._∷_ 115 (List._∷_ 101 (List._∷_ 100 List.[])))))))))))))))))))) (Syntax.tcons (Syntax.tyInt Syntax.w64) (Syntax.tcons Syntax.tyBool
-              (Syntax.tcons (Syntax.tyInt Syntax.w64) Syntax.tnil)))) Path'.refl)))
+              (List._∷_ 115 (List._∷_ 115 (List._∷_ 101 (List._∷_ 100 List.[])))))))))))))))))))) (Syntax.tcons (Syntax.tyInt Syntax.w64) (Syntax.tcons (Syntax.tyInt Syntax.w16)
+              (Syntax.tcons Syntax.tyBool (Syntax.tcons Syntax.tyBool (Syntax.tcons (Syntax.tyInt Syntax.w64) Syntax.tnil)))))) (Local.room-whole 𝓤 H A W (Declared'.row
+              Passed.the-type) (Syntax.tyStruct (List._∷_ 104 (List._∷_ 101 (List._∷_ 97 (List._∷_ 100 (List._∷_ 101 (List._∷_ 114 (List._∷_ 58 (List._∷_ 58 (List._∷_ 119 (List._∷_
+              97 (List._∷_ 108 (List._∷_ 107 (List._∷_ 58 (List._∷_ 58 (List._∷_ 80 (List._∷_ 97 (List._∷_ 115 (List._∷_ 115 (List._∷_ 101 (List._∷_ 100 List.[]))))))))))))))))))))
+              (Syntax.tcons (Syntax.tyInt Syntax.w64) (Syntax.tcons (Syntax.tyInt Syntax.w16) (Syntax.tcons Syntax.tyBool (Syntax.tcons Syntax.tyBool (Syntax.tcons (Syntax.tyInt
+              Syntax.w64) Syntax.tnil)))))) Path'.refl)))
 
           d26 : Typed.Typed 𝓤 H A 𝓣 E G18 b22 Δ3 at26
           d26 = Typed.t-seq 𝓤 H A W 𝓣 E G18 G19 b20 b21 Δ3 at24 at25 d24 d25
 
           d27 : Typed.Typed 𝓤 H A 𝓣 E G8 b23 Δ3 at27
-          d27 = Typed.s-seq 𝓤 H A W 𝓣 E G8 G18 b9 b22 Δ3 (Typed.pass T8 T18 s15) at26 (Scalar.t-use 𝓤 H A W E 𝓣 G8 (Scalar.oFld 8 (List._∷_ (Syntax.field 1) List.[]) Syntax.tyBool
-              8 (Reads.fieldV Passed.the-type Laws.the-laws 1)) 10 (Rows.sc-here Row.sBool) Syntax.tyBool (Row.valS Row.sBool) (Row.sBool .of) (
+          d27 = Typed.s-seq 𝓤 H A W 𝓣 E G8 G18 b9 b22 Δ3 (Typed.pass T8 T18 s15) at26 (Scalar.t-use 𝓤 H A W E 𝓣 G8 (Scalar.oFld 8 (List._∷_ (Syntax.field 3) List.[]) Syntax.tyBool
+              11 (Reads.fieldV Passed.the-type Laws.the-laws 3)) 10 (Rows.sc-here Row.sBool) Syntax.tyBool (Row.valS Row.sBool) (Row.sBool .of) (
                 Reads.reads-field 𝓤 H A W
-                    Passed.the-type Laws.the-laws 1 Syntax.tyBool 8 Path'.refl,
+                    Passed.the-type Laws.the-laws 3 Syntax.tyBool 11 Path'.refl,
                 Path'.refl,
               ) (Reads'.room-gone 𝓤 H A Syntax.tyBool) (Scalar.holds-sc 𝓤 H A W Row.sBool) Path'.refl (λ u.
               Path'.refl) λ u. tt) d26
@@ -2174,10 +2198,10 @@ module _ (claims· : Claims) where
               (List._∷_ 97 (List._∷_ 108 (List._∷_ 107 (List._∷_ 83 (List._∷_ 116 (List._∷_ 101 (List._∷_ 112 List.[])))))))))))))))))))))) (Syntax.ttcons (Syntax.tcons
               (Syntax.tyStruct (List._∷_ 104 (List._∷_ 101 (List._∷_ 97 (List._∷_ 100 (List._∷_ 101 (List._∷_ 114 (List._∷_ 58 (List._∷_ 58 (List._∷_ 119 (List._∷_ 97 (List._∷_ 108
               (List._∷_ 107 (List._∷_ 58 (List._∷_ 58 (List._∷_ 80 (List._∷_ 97 (List._∷_ 115 (List._∷_ 115 (List._∷_ 101 (List._∷_ 100 List.[])))))))))))))))))))) (Syntax.tcons
-              (Syntax.tyInt Syntax.w64) (Syntax.tcons Syntax.tyBool (Syntax.tcons (Syntax.tyInt Syntax.w64) Syntax.tnil)))) Syntax.tnil) (Syntax.ttcons Syntax.tnil (Syntax.ttcons
-              (Syntax.tcons (Syntax.tyStruct (List._∷_ 116 (List._∷_ 121 (List._∷_ 112 (List._∷_ 101 (List._∷_ 115 (List._∷_ 58 (List._∷_ 58 (List._∷_ 82 (List._∷_ 101 (List._∷_
-              102 (List._∷_ 117 (List._∷_ 115 (List._∷_ 97 (List._∷_ 108 List.[])))))))))))))) (Syntax.tcons (Syntax.tyInt Syntax.w32) (Syntax.tcons (Syntax.tyInt Syntax.w64)
-              Syntax.tnil))) Syntax.tnil) Syntax.ttnil))))) (tt, tt) Path'.refl) d28
+              (Syntax.tyInt Syntax.w64) (Syntax.tcons (Syntax.tyInt Syntax.w16) (Syntax.tcons Syntax.tyBool (Syntax.tcons Syntax.tyBool (Syntax.tcons (Syntax.tyInt Syntax.w64)
+              Syntax.tnil)))))) Syntax.tnil) (Syntax.ttcons Syntax.tnil (Syntax.ttcons (Syntax.tcons (Syntax.tyStruct (List._∷_ 116 (List._∷_ 121 (List._∷_ 112 (List._∷_ 101
+              (List._∷_ 115 (List._∷_ 58 (List._∷_ 58 (List._∷_ 82 (List._∷_ 101 (List._∷_ 102 (List._∷_ 117 (List._∷_ 115 (List._∷_ 97 (List._∷_ 108 List.[]))))))))))))))
+              (Syntax.tcons (Syntax.tyInt Syntax.w32) (Syntax.tcons (Syntax.tyInt Syntax.w64) Syntax.tnil))) Syntax.tnil) Syntax.ttnil))))) (tt, tt) Path'.refl) d28
 
           d30 : Typed.Typed 𝓤 H A 𝓣 E G6 b26 Δ2 at30
           d30 = Typed.t-loop-by 𝓤 H A W 𝓣 E G6 b25 Δ2 put0 (λ u vs. Inv·0 (Row.get 1 (T6 .locals) u .now) (Row.get 3 (T6 .locals) u .now) (Row.get 4 (T6 .locals) u) (Row.get 5 (T6

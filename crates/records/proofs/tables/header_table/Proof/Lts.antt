@@ -90,13 +90,13 @@ xs = List._∷_ (Syntax.tyArray LentTilePartEntry.spelled 2048) (List._∷_ (Syn
     102 (List._∷_ 111 List.[]))))))))))))))))))))))))))))) (Syntax.tcons (Syntax.tyStruct (List._∷_ 116 (List._∷_ 121 (List._∷_ 112 (List._∷_ 101 (List._∷_ 115 (List._∷_ 58
     (List._∷_ 58 (List._∷_ 67 (List._∷_ 111 (List._∷_ 100 (List._∷_ 101 (List._∷_ 115 (List._∷_ 116 (List._∷_ 114 (List._∷_ 101 (List._∷_ 97 (List._∷_ 109 (List._∷_ 79 (List._∷_
     102 (List._∷_ 102 (List._∷_ 115 (List._∷_ 101 (List._∷_ 116 List.[]))))))))))))))))))))))) (Syntax.tcons (Syntax.tyInt Syntax.w64) Syntax.tnil)) (Syntax.tcons (Syntax.tyInt
-    Syntax.w64) (Syntax.tcons (Syntax.tyInt Syntax.w64) Syntax.tnil)))) Syntax.tnil) (Syntax.ttcons (Syntax.tcons (Syntax.tyStruct (List._∷_ 116 (List._∷_ 121 (List._∷_ 112
-    (List._∷_ 101 (List._∷_ 115 (List._∷_ 58 (List._∷_ 58 (List._∷_ 82 (List._∷_ 101 (List._∷_ 102 (List._∷_ 117 (List._∷_ 115 (List._∷_ 97 (List._∷_ 108 List.[]))))))))))))))
-    (Syntax.tcons (Syntax.tyInt Syntax.w32) (Syntax.tcons (Syntax.tyInt Syntax.w64) Syntax.tnil))) Syntax.tnil) Syntax.ttnil))) (List._∷_ (Syntax.tyArray LentTilePartEntry.spelled
-    2048) (List._∷_ (Syntax.tyRef Syntax.erased Syntax.mut (Syntax.tyArray LentTilePartEntry.pointee 2048)) (List._∷_ (Syntax.tyStruct (List._∷_ 38 (List._∷_ 91 (List._∷_ 93
-    List.[]))) (Syntax.tcons (Syntax.tyRef Syntax.erased Syntax.mut LentTilePartEntry.pointee) (Syntax.tcons (Syntax.tyInt Syntax.w64) Syntax.tnil))) (List._∷_ (Syntax.tyRef
-    Syntax.erased Syntax.mut (Syntax.tyInt Syntax.w8)) (List._∷_ (Syntax.tyStruct (List._∷_ 38 (List._∷_ 91 (List._∷_ 93 List.[]))) (Syntax.tcons (Syntax.tyRef Syntax.erased
-    Syntax.mut (Syntax.tyInt Syntax.w8)) (Syntax.tcons (Syntax.tyInt Syntax.w64) Syntax.tnil))) List.[]))))))
+    Syntax.w64) (Syntax.tcons (Syntax.tyInt Syntax.w64) (Syntax.tcons (Syntax.tyInt Syntax.w64) Syntax.tnil))))) Syntax.tnil) (Syntax.ttcons (Syntax.tcons (Syntax.tyStruct
+    (List._∷_ 116 (List._∷_ 121 (List._∷_ 112 (List._∷_ 101 (List._∷_ 115 (List._∷_ 58 (List._∷_ 58 (List._∷_ 82 (List._∷_ 101 (List._∷_ 102 (List._∷_ 117 (List._∷_ 115 (List._∷_
+    97 (List._∷_ 108 List.[])))))))))))))) (Syntax.tcons (Syntax.tyInt Syntax.w32) (Syntax.tcons (Syntax.tyInt Syntax.w64) Syntax.tnil))) Syntax.tnil) Syntax.ttnil))) (List._∷_
+    (Syntax.tyArray LentTilePartEntry.spelled 2048) (List._∷_ (Syntax.tyRef Syntax.erased Syntax.mut (Syntax.tyArray LentTilePartEntry.pointee 2048)) (List._∷_ (Syntax.tyStruct
+    (List._∷_ 38 (List._∷_ 91 (List._∷_ 93 List.[]))) (Syntax.tcons (Syntax.tyRef Syntax.erased Syntax.mut LentTilePartEntry.pointee) (Syntax.tcons (Syntax.tyInt Syntax.w64)
+    Syntax.tnil))) (List._∷_ (Syntax.tyRef Syntax.erased Syntax.mut (Syntax.tyInt Syntax.w8)) (List._∷_ (Syntax.tyStruct (List._∷_ 38 (List._∷_ 91 (List._∷_ 93 List.[])))
+    (Syntax.tcons (Syntax.tyRef Syntax.erased Syntax.mut (Syntax.tyInt Syntax.w8)) (Syntax.tcons (Syntax.tyInt Syntax.w64) Syntax.tnil))) List.[]))))))
 
 abbrev pub m : Nat.ℕ
 m = 2
@@ -259,51 +259,51 @@ t0 = List._∷_ (
       (List._∷_ 100 (List._∷_ 101 (List._∷_ 114 (List._∷_ 73 (List._∷_ 110 (List._∷_ 102 (List._∷_ 111 List.[]))))))))))))))))))))))))))))) (Syntax.tcons (Syntax.tyStruct (List._∷_
       116 (List._∷_ 121 (List._∷_ 112 (List._∷_ 101 (List._∷_ 115 (List._∷_ 58 (List._∷_ 58 (List._∷_ 67 (List._∷_ 111 (List._∷_ 100 (List._∷_ 101 (List._∷_ 115 (List._∷_ 116
       (List._∷_ 114 (List._∷_ 101 (List._∷_ 97 (List._∷_ 109 (List._∷_ 79 (List._∷_ 102 (List._∷_ 102 (List._∷_ 115 (List._∷_ 101 (List._∷_ 116 List.[])))))))))))))))))))))))
-      (Syntax.tcons (Syntax.tyInt Syntax.w64) Syntax.tnil)) (Syntax.tcons (Syntax.tyInt Syntax.w64) (Syntax.tcons (Syntax.tyInt Syntax.w64) Syntax.tnil)))) Syntax.tnil)
-      (Syntax.ttcons (Syntax.tcons (Syntax.tyStruct (List._∷_ 116 (List._∷_ 121 (List._∷_ 112 (List._∷_ 101 (List._∷_ 115 (List._∷_ 58 (List._∷_ 58 (List._∷_ 82 (List._∷_ 101
-      (List._∷_ 102 (List._∷_ 117 (List._∷_ 115 (List._∷_ 97 (List._∷_ 108 List.[])))))))))))))) (Syntax.tcons (Syntax.tyInt Syntax.w32) (Syntax.tcons (Syntax.tyInt Syntax.w64)
-      Syntax.tnil))) Syntax.tnil) Syntax.ttnil))) (Syntax.tcons (Syntax.tyArray (Syntax.tyStruct (List._∷_ 116 (List._∷_ 121 (List._∷_ 112 (List._∷_ 101 (List._∷_ 115 (List._∷_ 58
-      (List._∷_ 58 (List._∷_ 84 (List._∷_ 105 (List._∷_ 108 (List._∷_ 101 (List._∷_ 80 (List._∷_ 97 (List._∷_ 114 (List._∷_ 116 (List._∷_ 69 (List._∷_ 110 (List._∷_ 116 (List._∷_ 114
-      (List._∷_ 121 List.[])))))))))))))))))))) (Syntax.tcons (Syntax.tyInt Syntax.w16) (Syntax.tcons (Syntax.tyStruct (List._∷_ 116 (List._∷_ 121 (List._∷_ 112 (List._∷_ 101
-      (List._∷_ 115 (List._∷_ 58 (List._∷_ 58 (List._∷_ 67 (List._∷_ 111 (List._∷_ 100 (List._∷_ 101 (List._∷_ 115 (List._∷_ 116 (List._∷_ 114 (List._∷_ 101 (List._∷_ 97 (List._∷_
-      109 (List._∷_ 79 (List._∷_ 102 (List._∷_ 102 (List._∷_ 115 (List._∷_ 101 (List._∷_ 116 List.[]))))))))))))))))))))))) (Syntax.tcons (Syntax.tyInt Syntax.w64) Syntax.tnil))
-      (Syntax.tcons (Syntax.tyInt Syntax.w64) Syntax.tnil)))) 2048) Syntax.tnil))),
+      (Syntax.tcons (Syntax.tyInt Syntax.w64) Syntax.tnil)) (Syntax.tcons (Syntax.tyInt Syntax.w64) (Syntax.tcons (Syntax.tyInt Syntax.w64) (Syntax.tcons (Syntax.tyInt Syntax.w64)
+      Syntax.tnil))))) Syntax.tnil) (Syntax.ttcons (Syntax.tcons (Syntax.tyStruct (List._∷_ 116 (List._∷_ 121 (List._∷_ 112 (List._∷_ 101 (List._∷_ 115 (List._∷_ 58 (List._∷_ 58
+      (List._∷_ 82 (List._∷_ 101 (List._∷_ 102 (List._∷_ 117 (List._∷_ 115 (List._∷_ 97 (List._∷_ 108 List.[])))))))))))))) (Syntax.tcons (Syntax.tyInt Syntax.w32) (Syntax.tcons
+      (Syntax.tyInt Syntax.w64) Syntax.tnil))) Syntax.tnil) Syntax.ttnil))) (Syntax.tcons (Syntax.tyArray (Syntax.tyStruct (List._∷_ 116 (List._∷_ 121 (List._∷_ 112 (List._∷_ 101
+      (List._∷_ 115 (List._∷_ 58 (List._∷_ 58 (List._∷_ 84 (List._∷_ 105 (List._∷_ 108 (List._∷_ 101 (List._∷_ 80 (List._∷_ 97 (List._∷_ 114 (List._∷_ 116 (List._∷_ 69 (List._∷_ 110
+      (List._∷_ 116 (List._∷_ 114 (List._∷_ 121 List.[])))))))))))))))))))) (Syntax.tcons (Syntax.tyInt Syntax.w16) (Syntax.tcons (Syntax.tyStruct (List._∷_ 116 (List._∷_ 121
+      (List._∷_ 112 (List._∷_ 101 (List._∷_ 115 (List._∷_ 58 (List._∷_ 58 (List._∷_ 67 (List._∷_ 111 (List._∷_ 100 (List._∷_ 101 (List._∷_ 115 (List._∷_ 116 (List._∷_ 114 (List._∷_
+      101 (List._∷_ 97 (List._∷_ 109 (List._∷_ 79 (List._∷_ 102 (List._∷_ 102 (List._∷_ 115 (List._∷_ 101 (List._∷_ 116 List.[]))))))))))))))))))))))) (Syntax.tcons (Syntax.tyInt
+      Syntax.w64) Syntax.tnil)) (Syntax.tcons (Syntax.tyInt Syntax.w64) Syntax.tnil)))) 2048) Syntax.tnil))),
 ) (List._∷_ (
   1,
-  Rows'.sslice (Referent.rtF (Referent.fInt Syntax.w8)) (Syntax.tyRef (Syntax.named 0)
-      Syntax.imm (Syntax.tyInt Syntax.w8)) 0,
-) (List._∷_ (2, Mut.mslice (Referent.rtF (Referent.fInt Syntax.w8)) (Syntax.tyRef (Syntax.named 1) Syntax.mut (Syntax.tyInt Syntax.w8)) 1)
-    (List._∷_ (3, Rows'.any-gone (Syntax.tyArray LentTilePartEntry.spelled 2048)) (List._∷_ (
-      4,
-      Rows'.any-gone (Syntax.tyEnum (List._∷_ 104 (List._∷_ 101 (List._∷_ 97 (List._∷_ 100
-          (List._∷_ 101 (List._∷_ 114 (List._∷_ 58 (List._∷_ 58 (List._∷_ 112 (List._∷_ 97 (List._∷_ 114 (List._∷_ 115 (List._∷_ 101 (List._∷_ 58 (List._∷_ 58 (List._∷_ 77 (List._∷_ 97
-          (List._∷_ 105 (List._∷_ 110 (List._∷_ 72 (List._∷_ 101 (List._∷_ 97 (List._∷_ 100 (List._∷_ 101 (List._∷_ 114 List.[]))))))))))))))))))))))))) (Syntax.ttcons (Syntax.tcons
-          (Syntax.tyStruct (List._∷_ 104 (List._∷_ 101 (List._∷_ 97 (List._∷_ 100 (List._∷_ 101 (List._∷_ 114 (List._∷_ 58 (List._∷_ 58 (List._∷_ 112 (List._∷_ 97 (List._∷_ 114 (List._∷_
-          115 (List._∷_ 101 (List._∷_ 58 (List._∷_ 58 (List._∷_ 77 (List._∷_ 97 (List._∷_ 105 (List._∷_ 110 (List._∷_ 72 (List._∷_ 101 (List._∷_ 97 (List._∷_ 100 (List._∷_ 101 (List._∷_
-          114 (List._∷_ 73 (List._∷_ 110 (List._∷_ 102 (List._∷_ 111 List.[]))))))))))))))))))))))))))))) (Syntax.tcons (Syntax.tyStruct (List._∷_ 116 (List._∷_ 121 (List._∷_ 112
-          (List._∷_ 101 (List._∷_ 115 (List._∷_ 58 (List._∷_ 58 (List._∷_ 67 (List._∷_ 111 (List._∷_ 100 (List._∷_ 101 (List._∷_ 115 (List._∷_ 116 (List._∷_ 114 (List._∷_ 101 (List._∷_
-          97 (List._∷_ 109 (List._∷_ 79 (List._∷_ 102 (List._∷_ 102 (List._∷_ 115 (List._∷_ 101 (List._∷_ 116 List.[]))))))))))))))))))))))) (Syntax.tcons (Syntax.tyInt Syntax.w64)
-          Syntax.tnil)) (Syntax.tcons (Syntax.tyInt Syntax.w64) (Syntax.tcons (Syntax.tyInt Syntax.w64) Syntax.tnil)))) Syntax.tnil) (Syntax.ttcons (Syntax.tcons (Syntax.tyStruct
-          (List._∷_ 116 (List._∷_ 121 (List._∷_ 112 (List._∷_ 101 (List._∷_ 115 (List._∷_ 58 (List._∷_ 58 (List._∷_ 82 (List._∷_ 101 (List._∷_ 102 (List._∷_ 117 (List._∷_ 115 (List._∷_
-          97 (List._∷_ 108 List.[])))))))))))))) (Syntax.tcons (Syntax.tyInt Syntax.w32) (Syntax.tcons (Syntax.tyInt Syntax.w64) Syntax.tnil))) Syntax.tnil) Syntax.ttnil))),
-    ) (List._∷_
-    (5, Rows'.any-gone (Syntax.tyArray LentTilePartEntry.spelled 2048)) (List._∷_ (
-      6,
-      Rows'.any-gone (Syntax.tyRef Syntax.erased Syntax.mut (Syntax.tyArray
-          LentTilePartEntry.pointee 2048)),
-    ) (List._∷_ (
-      7,
-      Rows'.any-gone (Syntax.tyStruct (List._∷_ 38 (List._∷_ 91 (List._∷_ 93 List.[]))) (Syntax.tcons (Syntax.tyRef Syntax.erased
-          Syntax.mut LentTilePartEntry.pointee) (Syntax.tcons (Syntax.tyInt Syntax.w64) Syntax.tnil))),
-    ) (List._∷_ (
-      8,
-      Rows'.any-gone (Syntax.tyRef Syntax.erased Syntax.mut (Syntax.tyInt
-          Syntax.w8)),
-    ) (List._∷_ (
-      9,
-      Rows'.any-gone (Syntax.tyStruct (List._∷_ 38 (List._∷_ 91 (List._∷_ 93 List.[]))) (Syntax.tcons (Syntax.tyRef Syntax.erased Syntax.mut (Syntax.tyInt
-          Syntax.w8)) (Syntax.tcons (Syntax.tyInt Syntax.w64) Syntax.tnil))),
-    ) List.[])))))))))
+  Rows'.sslice (Referent.rtF (Referent.fInt Syntax.w8))
+      (Syntax.tyRef (Syntax.named 0) Syntax.imm (Syntax.tyInt Syntax.w8)) 0,
+) (List._∷_ (
+  2,
+  Mut.mslice (Referent.rtF (Referent.fInt Syntax.w8)) (Syntax.tyRef (Syntax.named 1)
+      Syntax.mut (Syntax.tyInt Syntax.w8)) 1,
+) (List._∷_ (3, Rows'.any-gone (Syntax.tyArray LentTilePartEntry.spelled 2048)) (List._∷_ (
+  4,
+  Rows'.any-gone (Syntax.tyEnum (List._∷_ 104
+      (List._∷_ 101 (List._∷_ 97 (List._∷_ 100 (List._∷_ 101 (List._∷_ 114 (List._∷_ 58 (List._∷_ 58 (List._∷_ 112 (List._∷_ 97 (List._∷_ 114 (List._∷_ 115 (List._∷_ 101 (List._∷_ 58
+      (List._∷_ 58 (List._∷_ 77 (List._∷_ 97 (List._∷_ 105 (List._∷_ 110 (List._∷_ 72 (List._∷_ 101 (List._∷_ 97 (List._∷_ 100 (List._∷_ 101 (List._∷_ 114
+      List.[]))))))))))))))))))))))))) (Syntax.ttcons (Syntax.tcons (Syntax.tyStruct (List._∷_ 104 (List._∷_ 101 (List._∷_ 97 (List._∷_ 100 (List._∷_ 101 (List._∷_ 114 (List._∷_ 58
+      (List._∷_ 58 (List._∷_ 112 (List._∷_ 97 (List._∷_ 114 (List._∷_ 115 (List._∷_ 101 (List._∷_ 58 (List._∷_ 58 (List._∷_ 77 (List._∷_ 97 (List._∷_ 105 (List._∷_ 110 (List._∷_ 72
+      (List._∷_ 101 (List._∷_ 97 (List._∷_ 100 (List._∷_ 101 (List._∷_ 114 (List._∷_ 73 (List._∷_ 110 (List._∷_ 102 (List._∷_ 111 List.[]))))))))))))))))))))))))))))) (Syntax.tcons
+      (Syntax.tyStruct (List._∷_ 116 (List._∷_ 121 (List._∷_ 112 (List._∷_ 101 (List._∷_ 115 (List._∷_ 58 (List._∷_ 58 (List._∷_ 67 (List._∷_ 111 (List._∷_ 100 (List._∷_ 101
+      (List._∷_ 115 (List._∷_ 116 (List._∷_ 114 (List._∷_ 101 (List._∷_ 97 (List._∷_ 109 (List._∷_ 79 (List._∷_ 102 (List._∷_ 102 (List._∷_ 115 (List._∷_ 101 (List._∷_ 116
+      List.[]))))))))))))))))))))))) (Syntax.tcons (Syntax.tyInt Syntax.w64) Syntax.tnil)) (Syntax.tcons (Syntax.tyInt Syntax.w64) (Syntax.tcons (Syntax.tyInt Syntax.w64)
+      (Syntax.tcons (Syntax.tyInt Syntax.w64) Syntax.tnil))))) Syntax.tnil) (Syntax.ttcons (Syntax.tcons (Syntax.tyStruct (List._∷_ 116 (List._∷_ 121 (List._∷_ 112 (List._∷_ 101
+      (List._∷_ 115 (List._∷_ 58 (List._∷_ 58 (List._∷_ 82 (List._∷_ 101 (List._∷_ 102 (List._∷_ 117 (List._∷_ 115 (List._∷_ 97 (List._∷_ 108 List.[])))))))))))))) (Syntax.tcons
+      (Syntax.tyInt Syntax.w32) (Syntax.tcons (Syntax.tyInt Syntax.w64) Syntax.tnil))) Syntax.tnil) Syntax.ttnil))),
+) (List._∷_ (
+  5,
+  Rows'.any-gone (Syntax.tyArray
+      LentTilePartEntry.spelled 2048),
+) (List._∷_ (6, Rows'.any-gone (Syntax.tyRef Syntax.erased Syntax.mut (Syntax.tyArray LentTilePartEntry.pointee 2048))) (List._∷_ (
+  7,
+  Rows'.any-gone (Syntax.tyStruct (List._∷_ 38 (List._∷_ 91 (List._∷_ 93 List.[]))) (Syntax.tcons (Syntax.tyRef Syntax.erased Syntax.mut LentTilePartEntry.pointee) (Syntax.tcons
+      (Syntax.tyInt Syntax.w64) Syntax.tnil))),
+) (List._∷_ (8, Rows'.any-gone (Syntax.tyRef Syntax.erased Syntax.mut (Syntax.tyInt Syntax.w8))) (List._∷_ (
+  9,
+  Rows'.any-gone
+      (Syntax.tyStruct (List._∷_ 38 (List._∷_ 91 (List._∷_ 93 List.[]))) (Syntax.tcons (Syntax.tyRef Syntax.erased Syntax.mut (Syntax.tyInt Syntax.w8)) (Syntax.tcons (Syntax.tyInt
+      Syntax.w64) Syntax.tnil))),
+) List.[])))))))))
 
 abbrev pub t1 : List.List Row.Entry
 t1 = List._∷_ (0, Rows'.whole (Declared'.row HeaderTable.the-type)) (List._∷_ (
@@ -321,26 +321,26 @@ t1 = List._∷_ (0, Rows'.whole (Declared'.row HeaderTable.the-type)) (List._∷
           114 (List._∷_ 73 (List._∷_ 110 (List._∷_ 102 (List._∷_ 111 List.[]))))))))))))))))))))))))))))) (Syntax.tcons (Syntax.tyStruct (List._∷_ 116 (List._∷_ 121 (List._∷_ 112
           (List._∷_ 101 (List._∷_ 115 (List._∷_ 58 (List._∷_ 58 (List._∷_ 67 (List._∷_ 111 (List._∷_ 100 (List._∷_ 101 (List._∷_ 115 (List._∷_ 116 (List._∷_ 114 (List._∷_ 101 (List._∷_
           97 (List._∷_ 109 (List._∷_ 79 (List._∷_ 102 (List._∷_ 102 (List._∷_ 115 (List._∷_ 101 (List._∷_ 116 List.[]))))))))))))))))))))))) (Syntax.tcons (Syntax.tyInt Syntax.w64)
-          Syntax.tnil)) (Syntax.tcons (Syntax.tyInt Syntax.w64) (Syntax.tcons (Syntax.tyInt Syntax.w64) Syntax.tnil)))) Syntax.tnil) (Syntax.ttcons (Syntax.tcons (Syntax.tyStruct
-          (List._∷_ 116 (List._∷_ 121 (List._∷_ 112 (List._∷_ 101 (List._∷_ 115 (List._∷_ 58 (List._∷_ 58 (List._∷_ 82 (List._∷_ 101 (List._∷_ 102 (List._∷_ 117 (List._∷_ 115 (List._∷_
-          97 (List._∷_ 108 List.[])))))))))))))) (Syntax.tcons (Syntax.tyInt Syntax.w32) (Syntax.tcons (Syntax.tyInt Syntax.w64) Syntax.tnil))) Syntax.tnil) Syntax.ttnil))),
-    ) (List._∷_
-    (5, Rows'.any-gone (Syntax.tyArray LentTilePartEntry.spelled 2048)) (List._∷_ (
+          Syntax.tnil)) (Syntax.tcons (Syntax.tyInt Syntax.w64) (Syntax.tcons (Syntax.tyInt Syntax.w64) (Syntax.tcons (Syntax.tyInt Syntax.w64) Syntax.tnil))))) Syntax.tnil)
+          (Syntax.ttcons (Syntax.tcons (Syntax.tyStruct (List._∷_ 116 (List._∷_ 121 (List._∷_ 112 (List._∷_ 101 (List._∷_ 115 (List._∷_ 58 (List._∷_ 58 (List._∷_ 82 (List._∷_ 101
+          (List._∷_ 102 (List._∷_ 117 (List._∷_ 115 (List._∷_ 97 (List._∷_ 108 List.[])))))))))))))) (Syntax.tcons (Syntax.tyInt Syntax.w32) (Syntax.tcons (Syntax.tyInt Syntax.w64)
+          Syntax.tnil))) Syntax.tnil) Syntax.ttnil))),
+    ) (List._∷_ (5, Rows'.any-gone (Syntax.tyArray LentTilePartEntry.spelled 2048)) (List._∷_ (
       6,
-      Rows'.any-gone (Syntax.tyRef Syntax.erased Syntax.mut (Syntax.tyArray
-          LentTilePartEntry.pointee 2048)),
+      Rows'.any-gone (Syntax.tyRef
+          Syntax.erased Syntax.mut (Syntax.tyArray LentTilePartEntry.pointee 2048)),
     ) (List._∷_ (
       7,
-      Rows'.any-gone (Syntax.tyStruct (List._∷_ 38 (List._∷_ 91 (List._∷_ 93 List.[]))) (Syntax.tcons (Syntax.tyRef Syntax.erased
-          Syntax.mut LentTilePartEntry.pointee) (Syntax.tcons (Syntax.tyInt Syntax.w64) Syntax.tnil))),
+      Rows'.any-gone (Syntax.tyStruct (List._∷_ 38 (List._∷_ 91 (List._∷_ 93 List.[])))
+          (Syntax.tcons (Syntax.tyRef Syntax.erased Syntax.mut LentTilePartEntry.pointee) (Syntax.tcons (Syntax.tyInt Syntax.w64) Syntax.tnil))),
     ) (List._∷_ (
       8,
-      Rows'.any-gone (Syntax.tyRef Syntax.erased Syntax.mut (Syntax.tyInt
-          Syntax.w8)),
+      Rows'.any-gone
+          (Syntax.tyRef Syntax.erased Syntax.mut (Syntax.tyInt Syntax.w8)),
     ) (List._∷_ (
       9,
-      Rows'.any-gone (Syntax.tyStruct (List._∷_ 38 (List._∷_ 91 (List._∷_ 93 List.[]))) (Syntax.tcons (Syntax.tyRef Syntax.erased Syntax.mut (Syntax.tyInt
-          Syntax.w8)) (Syntax.tcons (Syntax.tyInt Syntax.w64) Syntax.tnil))),
+      Rows'.any-gone (Syntax.tyStruct (List._∷_ 38 (List._∷_ 91 (List._∷_ 93 List.[]))) (Syntax.tcons
+          (Syntax.tyRef Syntax.erased Syntax.mut (Syntax.tyInt Syntax.w8)) (Syntax.tcons (Syntax.tyInt Syntax.w64) Syntax.tnil))),
     ) List.[])))))))))
 
 abbrev pub t2 : List.List Row.Entry
@@ -356,43 +356,49 @@ t2 = List._∷_ (
       (List._∷_ 100 (List._∷_ 101 (List._∷_ 114 (List._∷_ 73 (List._∷_ 110 (List._∷_ 102 (List._∷_ 111 List.[]))))))))))))))))))))))))))))) (Syntax.tcons (Syntax.tyStruct (List._∷_
       116 (List._∷_ 121 (List._∷_ 112 (List._∷_ 101 (List._∷_ 115 (List._∷_ 58 (List._∷_ 58 (List._∷_ 67 (List._∷_ 111 (List._∷_ 100 (List._∷_ 101 (List._∷_ 115 (List._∷_ 116
       (List._∷_ 114 (List._∷_ 101 (List._∷_ 97 (List._∷_ 109 (List._∷_ 79 (List._∷_ 102 (List._∷_ 102 (List._∷_ 115 (List._∷_ 101 (List._∷_ 116 List.[])))))))))))))))))))))))
-      (Syntax.tcons (Syntax.tyInt Syntax.w64) Syntax.tnil)) (Syntax.tcons (Syntax.tyInt Syntax.w64) (Syntax.tcons (Syntax.tyInt Syntax.w64) Syntax.tnil)))) Syntax.tnil)
-      (Syntax.ttcons (Syntax.tcons (Syntax.tyStruct (List._∷_ 116 (List._∷_ 121 (List._∷_ 112 (List._∷_ 101 (List._∷_ 115 (List._∷_ 58 (List._∷_ 58 (List._∷_ 82 (List._∷_ 101
-      (List._∷_ 102 (List._∷_ 117 (List._∷_ 115 (List._∷_ 97 (List._∷_ 108 List.[])))))))))))))) (Syntax.tcons (Syntax.tyInt Syntax.w32) (Syntax.tcons (Syntax.tyInt Syntax.w64)
-      Syntax.tnil))) Syntax.tnil) Syntax.ttnil))) (Syntax.tcons (Syntax.tyArray (Syntax.tyStruct (List._∷_ 116 (List._∷_ 121 (List._∷_ 112 (List._∷_ 101 (List._∷_ 115 (List._∷_ 58
-      (List._∷_ 58 (List._∷_ 84 (List._∷_ 105 (List._∷_ 108 (List._∷_ 101 (List._∷_ 80 (List._∷_ 97 (List._∷_ 114 (List._∷_ 116 (List._∷_ 69 (List._∷_ 110 (List._∷_ 116 (List._∷_ 114
-      (List._∷_ 121 List.[])))))))))))))))))))) (Syntax.tcons (Syntax.tyInt Syntax.w16) (Syntax.tcons (Syntax.tyStruct (List._∷_ 116 (List._∷_ 121 (List._∷_ 112 (List._∷_ 101
-      (List._∷_ 115 (List._∷_ 58 (List._∷_ 58 (List._∷_ 67 (List._∷_ 111 (List._∷_ 100 (List._∷_ 101 (List._∷_ 115 (List._∷_ 116 (List._∷_ 114 (List._∷_ 101 (List._∷_ 97 (List._∷_
-      109 (List._∷_ 79 (List._∷_ 102 (List._∷_ 102 (List._∷_ 115 (List._∷_ 101 (List._∷_ 116 List.[]))))))))))))))))))))))) (Syntax.tcons (Syntax.tyInt Syntax.w64) Syntax.tnil))
-      (Syntax.tcons (Syntax.tyInt Syntax.w64) Syntax.tnil)))) 2048) Syntax.tnil))),
+      (Syntax.tcons (Syntax.tyInt Syntax.w64) Syntax.tnil)) (Syntax.tcons (Syntax.tyInt Syntax.w64) (Syntax.tcons (Syntax.tyInt Syntax.w64) (Syntax.tcons (Syntax.tyInt Syntax.w64)
+      Syntax.tnil))))) Syntax.tnil) (Syntax.ttcons (Syntax.tcons (Syntax.tyStruct (List._∷_ 116 (List._∷_ 121 (List._∷_ 112 (List._∷_ 101 (List._∷_ 115 (List._∷_ 58 (List._∷_ 58
+      (List._∷_ 82 (List._∷_ 101 (List._∷_ 102 (List._∷_ 117 (List._∷_ 115 (List._∷_ 97 (List._∷_ 108 List.[])))))))))))))) (Syntax.tcons (Syntax.tyInt Syntax.w32) (Syntax.tcons
+      (Syntax.tyInt Syntax.w64) Syntax.tnil))) Syntax.tnil) Syntax.ttnil))) (Syntax.tcons (Syntax.tyArray (Syntax.tyStruct (List._∷_ 116 (List._∷_ 121 (List._∷_ 112 (List._∷_ 101
+      (List._∷_ 115 (List._∷_ 58 (List._∷_ 58 (List._∷_ 84 (List._∷_ 105 (List._∷_ 108 (List._∷_ 101 (List._∷_ 80 (List._∷_ 97 (List._∷_ 114 (List._∷_ 116 (List._∷_ 69 (List._∷_ 110
+      (List._∷_ 116 (List._∷_ 114 (List._∷_ 121 List.[])))))))))))))))))))) (Syntax.tcons (Syntax.tyInt Syntax.w16) (Syntax.tcons (Syntax.tyStruct (List._∷_ 116 (List._∷_ 121
+      (List._∷_ 112 (List._∷_ 101 (List._∷_ 115 (List._∷_ 58 (List._∷_ 58 (List._∷_ 67 (List._∷_ 111 (List._∷_ 100 (List._∷_ 101 (List._∷_ 115 (List._∷_ 116 (List._∷_ 114 (List._∷_
+      101 (List._∷_ 97 (List._∷_ 109 (List._∷_ 79 (List._∷_ 102 (List._∷_ 102 (List._∷_ 115 (List._∷_ 101 (List._∷_ 116 List.[]))))))))))))))))))))))) (Syntax.tcons (Syntax.tyInt
+      Syntax.w64) Syntax.tnil)) (Syntax.tcons (Syntax.tyInt Syntax.w64) Syntax.tnil)))) 2048) Syntax.tnil))),
 ) (List._∷_ (
   1,
-  Rows'.sslice (Referent.rtF (Referent.fInt Syntax.w8)) (Syntax.tyRef (Syntax.named 0)
-      Syntax.imm (Syntax.tyInt Syntax.w8)) 0,
-) (List._∷_ (2, Mut.mslice (Referent.rtF (Referent.fInt Syntax.w8)) (Syntax.tyRef (Syntax.named 1) Syntax.mut (Syntax.tyInt Syntax.w8)) 1)
-    (List._∷_ (3, Rows'.any-gone (Syntax.tyArray LentTilePartEntry.spelled 2048)) (List._∷_ (
-      4,
-      Rows'.any-gone (Syntax.tyEnum (List._∷_ 104 (List._∷_ 101 (List._∷_ 97 (List._∷_ 100
-          (List._∷_ 101 (List._∷_ 114 (List._∷_ 58 (List._∷_ 58 (List._∷_ 112 (List._∷_ 97 (List._∷_ 114 (List._∷_ 115 (List._∷_ 101 (List._∷_ 58 (List._∷_ 58 (List._∷_ 77 (List._∷_ 97
-          (List._∷_ 105 (List._∷_ 110 (List._∷_ 72 (List._∷_ 101 (List._∷_ 97 (List._∷_ 100 (List._∷_ 101 (List._∷_ 114 List.[]))))))))))))))))))))))))) (Syntax.ttcons (Syntax.tcons
-          (Syntax.tyStruct (List._∷_ 104 (List._∷_ 101 (List._∷_ 97 (List._∷_ 100 (List._∷_ 101 (List._∷_ 114 (List._∷_ 58 (List._∷_ 58 (List._∷_ 112 (List._∷_ 97 (List._∷_ 114 (List._∷_
-          115 (List._∷_ 101 (List._∷_ 58 (List._∷_ 58 (List._∷_ 77 (List._∷_ 97 (List._∷_ 105 (List._∷_ 110 (List._∷_ 72 (List._∷_ 101 (List._∷_ 97 (List._∷_ 100 (List._∷_ 101 (List._∷_
-          114 (List._∷_ 73 (List._∷_ 110 (List._∷_ 102 (List._∷_ 111 List.[]))))))))))))))))))))))))))))) (Syntax.tcons (Syntax.tyStruct (List._∷_ 116 (List._∷_ 121 (List._∷_ 112
-          (List._∷_ 101 (List._∷_ 115 (List._∷_ 58 (List._∷_ 58 (List._∷_ 67 (List._∷_ 111 (List._∷_ 100 (List._∷_ 101 (List._∷_ 115 (List._∷_ 116 (List._∷_ 114 (List._∷_ 101 (List._∷_
-          97 (List._∷_ 109 (List._∷_ 79 (List._∷_ 102 (List._∷_ 102 (List._∷_ 115 (List._∷_ 101 (List._∷_ 116 List.[]))))))))))))))))))))))) (Syntax.tcons (Syntax.tyInt Syntax.w64)
-          Syntax.tnil)) (Syntax.tcons (Syntax.tyInt Syntax.w64) (Syntax.tcons (Syntax.tyInt Syntax.w64) Syntax.tnil)))) Syntax.tnil) (Syntax.ttcons (Syntax.tcons (Syntax.tyStruct
-          (List._∷_ 116 (List._∷_ 121 (List._∷_ 112 (List._∷_ 101 (List._∷_ 115 (List._∷_ 58 (List._∷_ 58 (List._∷_ 82 (List._∷_ 101 (List._∷_ 102 (List._∷_ 117 (List._∷_ 115 (List._∷_
-          97 (List._∷_ 108 List.[])))))))))))))) (Syntax.tcons (Syntax.tyInt Syntax.w32) (Syntax.tcons (Syntax.tyInt Syntax.w64) Syntax.tnil))) Syntax.tnil) Syntax.ttnil))),
-    ) (List._∷_
-    (5, Rows.arrF LentTilePartEntry.row 2048 0) (List._∷_ (6, Rows'.any-gone (Syntax.tyRef Syntax.erased Syntax.mut (Syntax.tyArray LentTilePartEntry.pointee 2048))) (List._∷_ (
+  Rows'.sslice (Referent.rtF (Referent.fInt Syntax.w8))
+      (Syntax.tyRef (Syntax.named 0) Syntax.imm (Syntax.tyInt Syntax.w8)) 0,
+) (List._∷_ (
+  2,
+  Mut.mslice (Referent.rtF (Referent.fInt Syntax.w8)) (Syntax.tyRef (Syntax.named 1)
+      Syntax.mut (Syntax.tyInt Syntax.w8)) 1,
+) (List._∷_ (3, Rows'.any-gone (Syntax.tyArray LentTilePartEntry.spelled 2048)) (List._∷_ (
+  4,
+  Rows'.any-gone (Syntax.tyEnum (List._∷_ 104
+      (List._∷_ 101 (List._∷_ 97 (List._∷_ 100 (List._∷_ 101 (List._∷_ 114 (List._∷_ 58 (List._∷_ 58 (List._∷_ 112 (List._∷_ 97 (List._∷_ 114 (List._∷_ 115 (List._∷_ 101 (List._∷_ 58
+      (List._∷_ 58 (List._∷_ 77 (List._∷_ 97 (List._∷_ 105 (List._∷_ 110 (List._∷_ 72 (List._∷_ 101 (List._∷_ 97 (List._∷_ 100 (List._∷_ 101 (List._∷_ 114
+      List.[]))))))))))))))))))))))))) (Syntax.ttcons (Syntax.tcons (Syntax.tyStruct (List._∷_ 104 (List._∷_ 101 (List._∷_ 97 (List._∷_ 100 (List._∷_ 101 (List._∷_ 114 (List._∷_ 58
+      (List._∷_ 58 (List._∷_ 112 (List._∷_ 97 (List._∷_ 114 (List._∷_ 115 (List._∷_ 101 (List._∷_ 58 (List._∷_ 58 (List._∷_ 77 (List._∷_ 97 (List._∷_ 105 (List._∷_ 110 (List._∷_ 72
+      (List._∷_ 101 (List._∷_ 97 (List._∷_ 100 (List._∷_ 101 (List._∷_ 114 (List._∷_ 73 (List._∷_ 110 (List._∷_ 102 (List._∷_ 111 List.[]))))))))))))))))))))))))))))) (Syntax.tcons
+      (Syntax.tyStruct (List._∷_ 116 (List._∷_ 121 (List._∷_ 112 (List._∷_ 101 (List._∷_ 115 (List._∷_ 58 (List._∷_ 58 (List._∷_ 67 (List._∷_ 111 (List._∷_ 100 (List._∷_ 101
+      (List._∷_ 115 (List._∷_ 116 (List._∷_ 114 (List._∷_ 101 (List._∷_ 97 (List._∷_ 109 (List._∷_ 79 (List._∷_ 102 (List._∷_ 102 (List._∷_ 115 (List._∷_ 101 (List._∷_ 116
+      List.[]))))))))))))))))))))))) (Syntax.tcons (Syntax.tyInt Syntax.w64) Syntax.tnil)) (Syntax.tcons (Syntax.tyInt Syntax.w64) (Syntax.tcons (Syntax.tyInt Syntax.w64)
+      (Syntax.tcons (Syntax.tyInt Syntax.w64) Syntax.tnil))))) Syntax.tnil) (Syntax.ttcons (Syntax.tcons (Syntax.tyStruct (List._∷_ 116 (List._∷_ 121 (List._∷_ 112 (List._∷_ 101
+      (List._∷_ 115 (List._∷_ 58 (List._∷_ 58 (List._∷_ 82 (List._∷_ 101 (List._∷_ 102 (List._∷_ 117 (List._∷_ 115 (List._∷_ 97 (List._∷_ 108 List.[])))))))))))))) (Syntax.tcons
+      (Syntax.tyInt Syntax.w32) (Syntax.tcons (Syntax.tyInt Syntax.w64) Syntax.tnil))) Syntax.tnil) Syntax.ttnil))),
+) (List._∷_ (5, Rows.arrF LentTilePartEntry.row 2048 0) (List._∷_
+    (6, Rows'.any-gone (Syntax.tyRef Syntax.erased Syntax.mut (Syntax.tyArray LentTilePartEntry.pointee 2048))) (List._∷_ (
       7,
-      Rows'.any-gone (Syntax.tyStruct (List._∷_ 38 (List._∷_ 91 (List._∷_ 93 List.[]))) (Syntax.tcons (Syntax.tyRef Syntax.erased Syntax.mut LentTilePartEntry.pointee) (Syntax.tcons
-          (Syntax.tyInt Syntax.w64) Syntax.tnil))),
-    ) (List._∷_ (8, Rows'.any-gone (Syntax.tyRef Syntax.erased Syntax.mut (Syntax.tyInt Syntax.w8))) (List._∷_ (
+      Rows'.any-gone (Syntax.tyStruct (List._∷_ 38 (List._∷_
+          91 (List._∷_ 93 List.[]))) (Syntax.tcons (Syntax.tyRef Syntax.erased Syntax.mut LentTilePartEntry.pointee) (Syntax.tcons (Syntax.tyInt Syntax.w64) Syntax.tnil))),
+    ) (List._∷_ (
+      8,
+      Rows'.any-gone (Syntax.tyRef Syntax.erased Syntax.mut (Syntax.tyInt Syntax.w8)),
+    ) (List._∷_ (
       9,
-      Rows'.any-gone
-          (Syntax.tyStruct (List._∷_ 38 (List._∷_ 91 (List._∷_ 93 List.[]))) (Syntax.tcons (Syntax.tyRef Syntax.erased Syntax.mut (Syntax.tyInt Syntax.w8)) (Syntax.tcons (Syntax.tyInt
-          Syntax.w64) Syntax.tnil))),
+      Rows'.any-gone (Syntax.tyStruct (List._∷_ 38 (List._∷_ 91 (List._∷_ 93 List.[])))
+          (Syntax.tcons (Syntax.tyRef Syntax.erased Syntax.mut (Syntax.tyInt Syntax.w8)) (Syntax.tcons (Syntax.tyInt Syntax.w64) Syntax.tnil))),
     ) List.[])))))))))
 
 abbrev pub t3 : List.List Row.Entry
@@ -408,48 +414,54 @@ t3 = List._∷_ (
       (List._∷_ 100 (List._∷_ 101 (List._∷_ 114 (List._∷_ 73 (List._∷_ 110 (List._∷_ 102 (List._∷_ 111 List.[]))))))))))))))))))))))))))))) (Syntax.tcons (Syntax.tyStruct (List._∷_
       116 (List._∷_ 121 (List._∷_ 112 (List._∷_ 101 (List._∷_ 115 (List._∷_ 58 (List._∷_ 58 (List._∷_ 67 (List._∷_ 111 (List._∷_ 100 (List._∷_ 101 (List._∷_ 115 (List._∷_ 116
       (List._∷_ 114 (List._∷_ 101 (List._∷_ 97 (List._∷_ 109 (List._∷_ 79 (List._∷_ 102 (List._∷_ 102 (List._∷_ 115 (List._∷_ 101 (List._∷_ 116 List.[])))))))))))))))))))))))
-      (Syntax.tcons (Syntax.tyInt Syntax.w64) Syntax.tnil)) (Syntax.tcons (Syntax.tyInt Syntax.w64) (Syntax.tcons (Syntax.tyInt Syntax.w64) Syntax.tnil)))) Syntax.tnil)
-      (Syntax.ttcons (Syntax.tcons (Syntax.tyStruct (List._∷_ 116 (List._∷_ 121 (List._∷_ 112 (List._∷_ 101 (List._∷_ 115 (List._∷_ 58 (List._∷_ 58 (List._∷_ 82 (List._∷_ 101
-      (List._∷_ 102 (List._∷_ 117 (List._∷_ 115 (List._∷_ 97 (List._∷_ 108 List.[])))))))))))))) (Syntax.tcons (Syntax.tyInt Syntax.w32) (Syntax.tcons (Syntax.tyInt Syntax.w64)
-      Syntax.tnil))) Syntax.tnil) Syntax.ttnil))) (Syntax.tcons (Syntax.tyArray (Syntax.tyStruct (List._∷_ 116 (List._∷_ 121 (List._∷_ 112 (List._∷_ 101 (List._∷_ 115 (List._∷_ 58
-      (List._∷_ 58 (List._∷_ 84 (List._∷_ 105 (List._∷_ 108 (List._∷_ 101 (List._∷_ 80 (List._∷_ 97 (List._∷_ 114 (List._∷_ 116 (List._∷_ 69 (List._∷_ 110 (List._∷_ 116 (List._∷_ 114
-      (List._∷_ 121 List.[])))))))))))))))))))) (Syntax.tcons (Syntax.tyInt Syntax.w16) (Syntax.tcons (Syntax.tyStruct (List._∷_ 116 (List._∷_ 121 (List._∷_ 112 (List._∷_ 101
-      (List._∷_ 115 (List._∷_ 58 (List._∷_ 58 (List._∷_ 67 (List._∷_ 111 (List._∷_ 100 (List._∷_ 101 (List._∷_ 115 (List._∷_ 116 (List._∷_ 114 (List._∷_ 101 (List._∷_ 97 (List._∷_
-      109 (List._∷_ 79 (List._∷_ 102 (List._∷_ 102 (List._∷_ 115 (List._∷_ 101 (List._∷_ 116 List.[]))))))))))))))))))))))) (Syntax.tcons (Syntax.tyInt Syntax.w64) Syntax.tnil))
-      (Syntax.tcons (Syntax.tyInt Syntax.w64) Syntax.tnil)))) 2048) Syntax.tnil))),
+      (Syntax.tcons (Syntax.tyInt Syntax.w64) Syntax.tnil)) (Syntax.tcons (Syntax.tyInt Syntax.w64) (Syntax.tcons (Syntax.tyInt Syntax.w64) (Syntax.tcons (Syntax.tyInt Syntax.w64)
+      Syntax.tnil))))) Syntax.tnil) (Syntax.ttcons (Syntax.tcons (Syntax.tyStruct (List._∷_ 116 (List._∷_ 121 (List._∷_ 112 (List._∷_ 101 (List._∷_ 115 (List._∷_ 58 (List._∷_ 58
+      (List._∷_ 82 (List._∷_ 101 (List._∷_ 102 (List._∷_ 117 (List._∷_ 115 (List._∷_ 97 (List._∷_ 108 List.[])))))))))))))) (Syntax.tcons (Syntax.tyInt Syntax.w32) (Syntax.tcons
+      (Syntax.tyInt Syntax.w64) Syntax.tnil))) Syntax.tnil) Syntax.ttnil))) (Syntax.tcons (Syntax.tyArray (Syntax.tyStruct (List._∷_ 116 (List._∷_ 121 (List._∷_ 112 (List._∷_ 101
+      (List._∷_ 115 (List._∷_ 58 (List._∷_ 58 (List._∷_ 84 (List._∷_ 105 (List._∷_ 108 (List._∷_ 101 (List._∷_ 80 (List._∷_ 97 (List._∷_ 114 (List._∷_ 116 (List._∷_ 69 (List._∷_ 110
+      (List._∷_ 116 (List._∷_ 114 (List._∷_ 121 List.[])))))))))))))))))))) (Syntax.tcons (Syntax.tyInt Syntax.w16) (Syntax.tcons (Syntax.tyStruct (List._∷_ 116 (List._∷_ 121
+      (List._∷_ 112 (List._∷_ 101 (List._∷_ 115 (List._∷_ 58 (List._∷_ 58 (List._∷_ 67 (List._∷_ 111 (List._∷_ 100 (List._∷_ 101 (List._∷_ 115 (List._∷_ 116 (List._∷_ 114 (List._∷_
+      101 (List._∷_ 97 (List._∷_ 109 (List._∷_ 79 (List._∷_ 102 (List._∷_ 102 (List._∷_ 115 (List._∷_ 101 (List._∷_ 116 List.[]))))))))))))))))))))))) (Syntax.tcons (Syntax.tyInt
+      Syntax.w64) Syntax.tnil)) (Syntax.tcons (Syntax.tyInt Syntax.w64) Syntax.tnil)))) 2048) Syntax.tnil))),
 ) (List._∷_ (
   1,
-  Rows'.sslice (Referent.rtF (Referent.fInt Syntax.w8)) (Syntax.tyRef (Syntax.named 0)
-      Syntax.imm (Syntax.tyInt Syntax.w8)) 0,
-) (List._∷_ (2, Mut.mslice (Referent.rtF (Referent.fInt Syntax.w8)) (Syntax.tyRef (Syntax.named 1) Syntax.mut (Syntax.tyInt Syntax.w8)) 1)
-    (List._∷_ (3, Rows.arrF LentTilePartEntry.row 2048 0) (List._∷_ (
-      4,
-      Rows'.any-gone (Syntax.tyEnum (List._∷_ 104 (List._∷_ 101 (List._∷_ 97 (List._∷_ 100 (List._∷_ 101 (List._∷_
-          114 (List._∷_ 58 (List._∷_ 58 (List._∷_ 112 (List._∷_ 97 (List._∷_ 114 (List._∷_ 115 (List._∷_ 101 (List._∷_ 58 (List._∷_ 58 (List._∷_ 77 (List._∷_ 97 (List._∷_ 105 (List._∷_
-          110 (List._∷_ 72 (List._∷_ 101 (List._∷_ 97 (List._∷_ 100 (List._∷_ 101 (List._∷_ 114 List.[]))))))))))))))))))))))))) (Syntax.ttcons (Syntax.tcons (Syntax.tyStruct (List._∷_
-          104 (List._∷_ 101 (List._∷_ 97 (List._∷_ 100 (List._∷_ 101 (List._∷_ 114 (List._∷_ 58 (List._∷_ 58 (List._∷_ 112 (List._∷_ 97 (List._∷_ 114 (List._∷_ 115 (List._∷_ 101
-          (List._∷_ 58 (List._∷_ 58 (List._∷_ 77 (List._∷_ 97 (List._∷_ 105 (List._∷_ 110 (List._∷_ 72 (List._∷_ 101 (List._∷_ 97 (List._∷_ 100 (List._∷_ 101 (List._∷_ 114 (List._∷_ 73
-          (List._∷_ 110 (List._∷_ 102 (List._∷_ 111 List.[]))))))))))))))))))))))))))))) (Syntax.tcons (Syntax.tyStruct (List._∷_ 116 (List._∷_ 121 (List._∷_ 112 (List._∷_ 101 (List._∷_
-          115 (List._∷_ 58 (List._∷_ 58 (List._∷_ 67 (List._∷_ 111 (List._∷_ 100 (List._∷_ 101 (List._∷_ 115 (List._∷_ 116 (List._∷_ 114 (List._∷_ 101 (List._∷_ 97 (List._∷_ 109
-          (List._∷_ 79 (List._∷_ 102 (List._∷_ 102 (List._∷_ 115 (List._∷_ 101 (List._∷_ 116 List.[]))))))))))))))))))))))) (Syntax.tcons (Syntax.tyInt Syntax.w64) Syntax.tnil))
-          (Syntax.tcons (Syntax.tyInt Syntax.w64) (Syntax.tcons (Syntax.tyInt Syntax.w64) Syntax.tnil)))) Syntax.tnil) (Syntax.ttcons (Syntax.tcons (Syntax.tyStruct (List._∷_ 116
-          (List._∷_ 121 (List._∷_ 112 (List._∷_ 101 (List._∷_ 115 (List._∷_ 58 (List._∷_ 58 (List._∷_ 82 (List._∷_ 101 (List._∷_ 102 (List._∷_ 117 (List._∷_ 115 (List._∷_ 97 (List._∷_
-          108 List.[])))))))))))))) (Syntax.tcons (Syntax.tyInt Syntax.w32) (Syntax.tcons (Syntax.tyInt Syntax.w64) Syntax.tnil))) Syntax.tnil) Syntax.ttnil))),
-    ) (List._∷_ (
-      5,
-      Rows.arrF
-          LentTilePartEntry.row 2048 0,
-    ) (List._∷_ (6, Rows'.any-gone (Syntax.tyRef Syntax.erased Syntax.mut (Syntax.tyArray LentTilePartEntry.pointee 2048))) (List._∷_ (
-      7,
-      Rows'.any-gone
-          (Syntax.tyStruct (List._∷_ 38 (List._∷_ 91 (List._∷_ 93 List.[]))) (Syntax.tcons (Syntax.tyRef Syntax.erased Syntax.mut LentTilePartEntry.pointee) (Syntax.tcons (Syntax.tyInt
-          Syntax.w64) Syntax.tnil))),
-    ) (List._∷_ (8, Rows'.any-gone (Syntax.tyRef Syntax.erased Syntax.mut (Syntax.tyInt Syntax.w8))) (List._∷_ (
-      9,
-      Rows'.any-gone (Syntax.tyStruct
-          (List._∷_ 38 (List._∷_ 91 (List._∷_ 93 List.[]))) (Syntax.tcons (Syntax.tyRef Syntax.erased Syntax.mut (Syntax.tyInt Syntax.w8)) (Syntax.tcons (Syntax.tyInt Syntax.w64)
-          Syntax.tnil))),
-    ) List.[])))))))))
+  Rows'.sslice (Referent.rtF (Referent.fInt Syntax.w8))
+      (Syntax.tyRef (Syntax.named 0) Syntax.imm (Syntax.tyInt Syntax.w8)) 0,
+) (List._∷_ (
+  2,
+  Mut.mslice (Referent.rtF (Referent.fInt Syntax.w8)) (Syntax.tyRef (Syntax.named 1)
+      Syntax.mut (Syntax.tyInt Syntax.w8)) 1,
+) (List._∷_ (3, Rows.arrF LentTilePartEntry.row 2048 0) (List._∷_ (
+  4,
+  Rows'.any-gone (Syntax.tyEnum (List._∷_ 104 (List._∷_ 101 (List._∷_
+      97 (List._∷_ 100 (List._∷_ 101 (List._∷_ 114 (List._∷_ 58 (List._∷_ 58 (List._∷_ 112 (List._∷_ 97 (List._∷_ 114 (List._∷_ 115 (List._∷_ 101 (List._∷_ 58 (List._∷_ 58 (List._∷_
+      77 (List._∷_ 97 (List._∷_ 105 (List._∷_ 110 (List._∷_ 72 (List._∷_ 101 (List._∷_ 97 (List._∷_ 100 (List._∷_ 101 (List._∷_ 114 List.[]))))))))))))))))))))))))) (Syntax.ttcons
+      (Syntax.tcons (Syntax.tyStruct (List._∷_ 104 (List._∷_ 101 (List._∷_ 97 (List._∷_ 100 (List._∷_ 101 (List._∷_ 114 (List._∷_ 58 (List._∷_ 58 (List._∷_ 112 (List._∷_ 97 (List._∷_
+      114 (List._∷_ 115 (List._∷_ 101 (List._∷_ 58 (List._∷_ 58 (List._∷_ 77 (List._∷_ 97 (List._∷_ 105 (List._∷_ 110 (List._∷_ 72 (List._∷_ 101 (List._∷_ 97 (List._∷_ 100 (List._∷_
+      101 (List._∷_ 114 (List._∷_ 73 (List._∷_ 110 (List._∷_ 102 (List._∷_ 111 List.[]))))))))))))))))))))))))))))) (Syntax.tcons (Syntax.tyStruct (List._∷_ 116 (List._∷_ 121
+      (List._∷_ 112 (List._∷_ 101 (List._∷_ 115 (List._∷_ 58 (List._∷_ 58 (List._∷_ 67 (List._∷_ 111 (List._∷_ 100 (List._∷_ 101 (List._∷_ 115 (List._∷_ 116 (List._∷_ 114 (List._∷_
+      101 (List._∷_ 97 (List._∷_ 109 (List._∷_ 79 (List._∷_ 102 (List._∷_ 102 (List._∷_ 115 (List._∷_ 101 (List._∷_ 116 List.[]))))))))))))))))))))))) (Syntax.tcons (Syntax.tyInt
+      Syntax.w64) Syntax.tnil)) (Syntax.tcons (Syntax.tyInt Syntax.w64) (Syntax.tcons (Syntax.tyInt Syntax.w64) (Syntax.tcons (Syntax.tyInt Syntax.w64) Syntax.tnil))))) Syntax.tnil)
+      (Syntax.ttcons (Syntax.tcons (Syntax.tyStruct (List._∷_ 116 (List._∷_ 121 (List._∷_ 112 (List._∷_ 101 (List._∷_ 115 (List._∷_ 58 (List._∷_ 58 (List._∷_ 82 (List._∷_ 101
+      (List._∷_ 102 (List._∷_ 117 (List._∷_ 115 (List._∷_ 97 (List._∷_ 108 List.[])))))))))))))) (Syntax.tcons (Syntax.tyInt Syntax.w32) (Syntax.tcons (Syntax.tyInt Syntax.w64)
+      Syntax.tnil))) Syntax.tnil) Syntax.ttnil))),
+) (List._∷_ (5, Rows.arrF LentTilePartEntry.row 2048 0) (List._∷_ (
+  6,
+  Rows'.any-gone (Syntax.tyRef Syntax.erased Syntax.mut
+      (Syntax.tyArray LentTilePartEntry.pointee 2048)),
+) (List._∷_ (
+  7,
+  Rows'.any-gone (Syntax.tyStruct (List._∷_ 38 (List._∷_ 91 (List._∷_ 93 List.[]))) (Syntax.tcons (Syntax.tyRef
+      Syntax.erased Syntax.mut LentTilePartEntry.pointee) (Syntax.tcons (Syntax.tyInt Syntax.w64) Syntax.tnil))),
+) (List._∷_ (
+  8,
+  Rows'.any-gone (Syntax.tyRef Syntax.erased Syntax.mut
+      (Syntax.tyInt Syntax.w8)),
+) (List._∷_ (
+  9,
+  Rows'.any-gone (Syntax.tyStruct (List._∷_ 38 (List._∷_ 91 (List._∷_ 93 List.[]))) (Syntax.tcons (Syntax.tyRef Syntax.erased Syntax.mut
+      (Syntax.tyInt Syntax.w8)) (Syntax.tcons (Syntax.tyInt Syntax.w64) Syntax.tnil))),
+) List.[])))))))))
 
 abbrev pub t4 : List.List Row.Entry
 t4 = List._∷_ (
@@ -464,53 +476,54 @@ t4 = List._∷_ (
       (List._∷_ 100 (List._∷_ 101 (List._∷_ 114 (List._∷_ 73 (List._∷_ 110 (List._∷_ 102 (List._∷_ 111 List.[]))))))))))))))))))))))))))))) (Syntax.tcons (Syntax.tyStruct (List._∷_
       116 (List._∷_ 121 (List._∷_ 112 (List._∷_ 101 (List._∷_ 115 (List._∷_ 58 (List._∷_ 58 (List._∷_ 67 (List._∷_ 111 (List._∷_ 100 (List._∷_ 101 (List._∷_ 115 (List._∷_ 116
       (List._∷_ 114 (List._∷_ 101 (List._∷_ 97 (List._∷_ 109 (List._∷_ 79 (List._∷_ 102 (List._∷_ 102 (List._∷_ 115 (List._∷_ 101 (List._∷_ 116 List.[])))))))))))))))))))))))
-      (Syntax.tcons (Syntax.tyInt Syntax.w64) Syntax.tnil)) (Syntax.tcons (Syntax.tyInt Syntax.w64) (Syntax.tcons (Syntax.tyInt Syntax.w64) Syntax.tnil)))) Syntax.tnil)
-      (Syntax.ttcons (Syntax.tcons (Syntax.tyStruct (List._∷_ 116 (List._∷_ 121 (List._∷_ 112 (List._∷_ 101 (List._∷_ 115 (List._∷_ 58 (List._∷_ 58 (List._∷_ 82 (List._∷_ 101
-      (List._∷_ 102 (List._∷_ 117 (List._∷_ 115 (List._∷_ 97 (List._∷_ 108 List.[])))))))))))))) (Syntax.tcons (Syntax.tyInt Syntax.w32) (Syntax.tcons (Syntax.tyInt Syntax.w64)
-      Syntax.tnil))) Syntax.tnil) Syntax.ttnil))) (Syntax.tcons (Syntax.tyArray (Syntax.tyStruct (List._∷_ 116 (List._∷_ 121 (List._∷_ 112 (List._∷_ 101 (List._∷_ 115 (List._∷_ 58
-      (List._∷_ 58 (List._∷_ 84 (List._∷_ 105 (List._∷_ 108 (List._∷_ 101 (List._∷_ 80 (List._∷_ 97 (List._∷_ 114 (List._∷_ 116 (List._∷_ 69 (List._∷_ 110 (List._∷_ 116 (List._∷_ 114
-      (List._∷_ 121 List.[])))))))))))))))))))) (Syntax.tcons (Syntax.tyInt Syntax.w16) (Syntax.tcons (Syntax.tyStruct (List._∷_ 116 (List._∷_ 121 (List._∷_ 112 (List._∷_ 101
-      (List._∷_ 115 (List._∷_ 58 (List._∷_ 58 (List._∷_ 67 (List._∷_ 111 (List._∷_ 100 (List._∷_ 101 (List._∷_ 115 (List._∷_ 116 (List._∷_ 114 (List._∷_ 101 (List._∷_ 97 (List._∷_
-      109 (List._∷_ 79 (List._∷_ 102 (List._∷_ 102 (List._∷_ 115 (List._∷_ 101 (List._∷_ 116 List.[]))))))))))))))))))))))) (Syntax.tcons (Syntax.tyInt Syntax.w64) Syntax.tnil))
-      (Syntax.tcons (Syntax.tyInt Syntax.w64) Syntax.tnil)))) 2048) Syntax.tnil))),
+      (Syntax.tcons (Syntax.tyInt Syntax.w64) Syntax.tnil)) (Syntax.tcons (Syntax.tyInt Syntax.w64) (Syntax.tcons (Syntax.tyInt Syntax.w64) (Syntax.tcons (Syntax.tyInt Syntax.w64)
+      Syntax.tnil))))) Syntax.tnil) (Syntax.ttcons (Syntax.tcons (Syntax.tyStruct (List._∷_ 116 (List._∷_ 121 (List._∷_ 112 (List._∷_ 101 (List._∷_ 115 (List._∷_ 58 (List._∷_ 58
+      (List._∷_ 82 (List._∷_ 101 (List._∷_ 102 (List._∷_ 117 (List._∷_ 115 (List._∷_ 97 (List._∷_ 108 List.[])))))))))))))) (Syntax.tcons (Syntax.tyInt Syntax.w32) (Syntax.tcons
+      (Syntax.tyInt Syntax.w64) Syntax.tnil))) Syntax.tnil) Syntax.ttnil))) (Syntax.tcons (Syntax.tyArray (Syntax.tyStruct (List._∷_ 116 (List._∷_ 121 (List._∷_ 112 (List._∷_ 101
+      (List._∷_ 115 (List._∷_ 58 (List._∷_ 58 (List._∷_ 84 (List._∷_ 105 (List._∷_ 108 (List._∷_ 101 (List._∷_ 80 (List._∷_ 97 (List._∷_ 114 (List._∷_ 116 (List._∷_ 69 (List._∷_ 110
+      (List._∷_ 116 (List._∷_ 114 (List._∷_ 121 List.[])))))))))))))))))))) (Syntax.tcons (Syntax.tyInt Syntax.w16) (Syntax.tcons (Syntax.tyStruct (List._∷_ 116 (List._∷_ 121
+      (List._∷_ 112 (List._∷_ 101 (List._∷_ 115 (List._∷_ 58 (List._∷_ 58 (List._∷_ 67 (List._∷_ 111 (List._∷_ 100 (List._∷_ 101 (List._∷_ 115 (List._∷_ 116 (List._∷_ 114 (List._∷_
+      101 (List._∷_ 97 (List._∷_ 109 (List._∷_ 79 (List._∷_ 102 (List._∷_ 102 (List._∷_ 115 (List._∷_ 101 (List._∷_ 116 List.[]))))))))))))))))))))))) (Syntax.tcons (Syntax.tyInt
+      Syntax.w64) Syntax.tnil)) (Syntax.tcons (Syntax.tyInt Syntax.w64) Syntax.tnil)))) 2048) Syntax.tnil))),
 ) (List._∷_ (
   1,
-  Rows'.sslice (Referent.rtF (Referent.fInt Syntax.w8)) (Syntax.tyRef (Syntax.named 0)
-      Syntax.imm (Syntax.tyInt Syntax.w8)) 0,
-) (List._∷_ (2, Mut.mslice (Referent.rtF (Referent.fInt Syntax.w8)) (Syntax.tyRef (Syntax.named 1) Syntax.mut (Syntax.tyInt Syntax.w8)) 1)
-    (List._∷_ (3, Rows.arrF LentTilePartEntry.row 2048 0) (List._∷_ (
-      4,
-      Rows'.any-gone (Syntax.tyEnum (List._∷_ 104 (List._∷_ 101 (List._∷_ 97 (List._∷_ 100 (List._∷_ 101 (List._∷_
-          114 (List._∷_ 58 (List._∷_ 58 (List._∷_ 112 (List._∷_ 97 (List._∷_ 114 (List._∷_ 115 (List._∷_ 101 (List._∷_ 58 (List._∷_ 58 (List._∷_ 77 (List._∷_ 97 (List._∷_ 105 (List._∷_
-          110 (List._∷_ 72 (List._∷_ 101 (List._∷_ 97 (List._∷_ 100 (List._∷_ 101 (List._∷_ 114 List.[]))))))))))))))))))))))))) (Syntax.ttcons (Syntax.tcons (Syntax.tyStruct (List._∷_
-          104 (List._∷_ 101 (List._∷_ 97 (List._∷_ 100 (List._∷_ 101 (List._∷_ 114 (List._∷_ 58 (List._∷_ 58 (List._∷_ 112 (List._∷_ 97 (List._∷_ 114 (List._∷_ 115 (List._∷_ 101
-          (List._∷_ 58 (List._∷_ 58 (List._∷_ 77 (List._∷_ 97 (List._∷_ 105 (List._∷_ 110 (List._∷_ 72 (List._∷_ 101 (List._∷_ 97 (List._∷_ 100 (List._∷_ 101 (List._∷_ 114 (List._∷_ 73
-          (List._∷_ 110 (List._∷_ 102 (List._∷_ 111 List.[]))))))))))))))))))))))))))))) (Syntax.tcons (Syntax.tyStruct (List._∷_ 116 (List._∷_ 121 (List._∷_ 112 (List._∷_ 101 (List._∷_
-          115 (List._∷_ 58 (List._∷_ 58 (List._∷_ 67 (List._∷_ 111 (List._∷_ 100 (List._∷_ 101 (List._∷_ 115 (List._∷_ 116 (List._∷_ 114 (List._∷_ 101 (List._∷_ 97 (List._∷_ 109
-          (List._∷_ 79 (List._∷_ 102 (List._∷_ 102 (List._∷_ 115 (List._∷_ 101 (List._∷_ 116 List.[]))))))))))))))))))))))) (Syntax.tcons (Syntax.tyInt Syntax.w64) Syntax.tnil))
-          (Syntax.tcons (Syntax.tyInt Syntax.w64) (Syntax.tcons (Syntax.tyInt Syntax.w64) Syntax.tnil)))) Syntax.tnil) (Syntax.ttcons (Syntax.tcons (Syntax.tyStruct (List._∷_ 116
-          (List._∷_ 121 (List._∷_ 112 (List._∷_ 101 (List._∷_ 115 (List._∷_ 58 (List._∷_ 58 (List._∷_ 82 (List._∷_ 101 (List._∷_ 102 (List._∷_ 117 (List._∷_ 115 (List._∷_ 97 (List._∷_
-          108 List.[])))))))))))))) (Syntax.tcons (Syntax.tyInt Syntax.w32) (Syntax.tcons (Syntax.tyInt Syntax.w64) Syntax.tnil))) Syntax.tnil) Syntax.ttnil))),
-    ) (List._∷_ (
-      5,
-      Rows'.any-gone (Syntax.tyArray LentTilePartEntry.spelled 2048),
-    ) (List._∷_ (
-      6,
-      Rows'.any-gone (Syntax.tyRef Syntax.erased Syntax.mut (Syntax.tyArray LentTilePartEntry.pointee
-          2048)),
-    ) (List._∷_ (
-      7,
-      Rows'.any-gone (Syntax.tyStruct (List._∷_ 38 (List._∷_ 91 (List._∷_ 93 List.[]))) (Syntax.tcons (Syntax.tyRef Syntax.erased Syntax.mut
-          LentTilePartEntry.pointee) (Syntax.tcons (Syntax.tyInt Syntax.w64) Syntax.tnil))),
-    ) (List._∷_ (
-      8,
-      Rows'.any-gone (Syntax.tyRef Syntax.erased Syntax.mut (Syntax.tyInt
-          Syntax.w8)),
-    ) (List._∷_ (
-      9,
-      Rows'.any-gone (Syntax.tyStruct (List._∷_ 38 (List._∷_ 91 (List._∷_ 93 List.[]))) (Syntax.tcons (Syntax.tyRef Syntax.erased Syntax.mut (Syntax.tyInt
-          Syntax.w8)) (Syntax.tcons (Syntax.tyInt Syntax.w64) Syntax.tnil))),
-    ) List.[])))))))))
+  Rows'.sslice (Referent.rtF (Referent.fInt Syntax.w8))
+      (Syntax.tyRef (Syntax.named 0) Syntax.imm (Syntax.tyInt Syntax.w8)) 0,
+) (List._∷_ (
+  2,
+  Mut.mslice (Referent.rtF (Referent.fInt Syntax.w8)) (Syntax.tyRef (Syntax.named 1)
+      Syntax.mut (Syntax.tyInt Syntax.w8)) 1,
+) (List._∷_ (3, Rows.arrF LentTilePartEntry.row 2048 0) (List._∷_ (
+  4,
+  Rows'.any-gone (Syntax.tyEnum (List._∷_ 104 (List._∷_ 101 (List._∷_
+      97 (List._∷_ 100 (List._∷_ 101 (List._∷_ 114 (List._∷_ 58 (List._∷_ 58 (List._∷_ 112 (List._∷_ 97 (List._∷_ 114 (List._∷_ 115 (List._∷_ 101 (List._∷_ 58 (List._∷_ 58 (List._∷_
+      77 (List._∷_ 97 (List._∷_ 105 (List._∷_ 110 (List._∷_ 72 (List._∷_ 101 (List._∷_ 97 (List._∷_ 100 (List._∷_ 101 (List._∷_ 114 List.[]))))))))))))))))))))))))) (Syntax.ttcons
+      (Syntax.tcons (Syntax.tyStruct (List._∷_ 104 (List._∷_ 101 (List._∷_ 97 (List._∷_ 100 (List._∷_ 101 (List._∷_ 114 (List._∷_ 58 (List._∷_ 58 (List._∷_ 112 (List._∷_ 97 (List._∷_
+      114 (List._∷_ 115 (List._∷_ 101 (List._∷_ 58 (List._∷_ 58 (List._∷_ 77 (List._∷_ 97 (List._∷_ 105 (List._∷_ 110 (List._∷_ 72 (List._∷_ 101 (List._∷_ 97 (List._∷_ 100 (List._∷_
+      101 (List._∷_ 114 (List._∷_ 73 (List._∷_ 110 (List._∷_ 102 (List._∷_ 111 List.[]))))))))))))))))))))))))))))) (Syntax.tcons (Syntax.tyStruct (List._∷_ 116 (List._∷_ 121
+      (List._∷_ 112 (List._∷_ 101 (List._∷_ 115 (List._∷_ 58 (List._∷_ 58 (List._∷_ 67 (List._∷_ 111 (List._∷_ 100 (List._∷_ 101 (List._∷_ 115 (List._∷_ 116 (List._∷_ 114 (List._∷_
+      101 (List._∷_ 97 (List._∷_ 109 (List._∷_ 79 (List._∷_ 102 (List._∷_ 102 (List._∷_ 115 (List._∷_ 101 (List._∷_ 116 List.[]))))))))))))))))))))))) (Syntax.tcons (Syntax.tyInt
+      Syntax.w64) Syntax.tnil)) (Syntax.tcons (Syntax.tyInt Syntax.w64) (Syntax.tcons (Syntax.tyInt Syntax.w64) (Syntax.tcons (Syntax.tyInt Syntax.w64) Syntax.tnil))))) Syntax.tnil)
+      (Syntax.ttcons (Syntax.tcons (Syntax.tyStruct (List._∷_ 116 (List._∷_ 121 (List._∷_ 112 (List._∷_ 101 (List._∷_ 115 (List._∷_ 58 (List._∷_ 58 (List._∷_ 82 (List._∷_ 101
+      (List._∷_ 102 (List._∷_ 117 (List._∷_ 115 (List._∷_ 97 (List._∷_ 108 List.[])))))))))))))) (Syntax.tcons (Syntax.tyInt Syntax.w32) (Syntax.tcons (Syntax.tyInt Syntax.w64)
+      Syntax.tnil))) Syntax.tnil) Syntax.ttnil))),
+) (List._∷_ (5, Rows'.any-gone (Syntax.tyArray LentTilePartEntry.spelled 2048)) (List._∷_ (
+  6,
+  Rows'.any-gone (Syntax.tyRef
+      Syntax.erased Syntax.mut (Syntax.tyArray LentTilePartEntry.pointee 2048)),
+) (List._∷_ (
+  7,
+  Rows'.any-gone (Syntax.tyStruct (List._∷_ 38 (List._∷_ 91 (List._∷_ 93 List.[])))
+      (Syntax.tcons (Syntax.tyRef Syntax.erased Syntax.mut LentTilePartEntry.pointee) (Syntax.tcons (Syntax.tyInt Syntax.w64) Syntax.tnil))),
+) (List._∷_ (
+  8,
+  Rows'.any-gone
+      (Syntax.tyRef Syntax.erased Syntax.mut (Syntax.tyInt Syntax.w8)),
+) (List._∷_ (
+  9,
+  Rows'.any-gone (Syntax.tyStruct (List._∷_ 38 (List._∷_ 91 (List._∷_ 93 List.[]))) (Syntax.tcons
+      (Syntax.tyRef Syntax.erased Syntax.mut (Syntax.tyInt Syntax.w8)) (Syntax.tcons (Syntax.tyInt Syntax.w64) Syntax.tnil))),
+) List.[])))))))))
 
 abbrev pub t5 : List.List Row.Entry
 t5 = List._∷_ (
@@ -525,52 +538,50 @@ t5 = List._∷_ (
       (List._∷_ 100 (List._∷_ 101 (List._∷_ 114 (List._∷_ 73 (List._∷_ 110 (List._∷_ 102 (List._∷_ 111 List.[]))))))))))))))))))))))))))))) (Syntax.tcons (Syntax.tyStruct (List._∷_
       116 (List._∷_ 121 (List._∷_ 112 (List._∷_ 101 (List._∷_ 115 (List._∷_ 58 (List._∷_ 58 (List._∷_ 67 (List._∷_ 111 (List._∷_ 100 (List._∷_ 101 (List._∷_ 115 (List._∷_ 116
       (List._∷_ 114 (List._∷_ 101 (List._∷_ 97 (List._∷_ 109 (List._∷_ 79 (List._∷_ 102 (List._∷_ 102 (List._∷_ 115 (List._∷_ 101 (List._∷_ 116 List.[])))))))))))))))))))))))
-      (Syntax.tcons (Syntax.tyInt Syntax.w64) Syntax.tnil)) (Syntax.tcons (Syntax.tyInt Syntax.w64) (Syntax.tcons (Syntax.tyInt Syntax.w64) Syntax.tnil)))) Syntax.tnil)
-      (Syntax.ttcons (Syntax.tcons (Syntax.tyStruct (List._∷_ 116 (List._∷_ 121 (List._∷_ 112 (List._∷_ 101 (List._∷_ 115 (List._∷_ 58 (List._∷_ 58 (List._∷_ 82 (List._∷_ 101
-      (List._∷_ 102 (List._∷_ 117 (List._∷_ 115 (List._∷_ 97 (List._∷_ 108 List.[])))))))))))))) (Syntax.tcons (Syntax.tyInt Syntax.w32) (Syntax.tcons (Syntax.tyInt Syntax.w64)
-      Syntax.tnil))) Syntax.tnil) Syntax.ttnil))) (Syntax.tcons (Syntax.tyArray (Syntax.tyStruct (List._∷_ 116 (List._∷_ 121 (List._∷_ 112 (List._∷_ 101 (List._∷_ 115 (List._∷_ 58
-      (List._∷_ 58 (List._∷_ 84 (List._∷_ 105 (List._∷_ 108 (List._∷_ 101 (List._∷_ 80 (List._∷_ 97 (List._∷_ 114 (List._∷_ 116 (List._∷_ 69 (List._∷_ 110 (List._∷_ 116 (List._∷_ 114
-      (List._∷_ 121 List.[])))))))))))))))))))) (Syntax.tcons (Syntax.tyInt Syntax.w16) (Syntax.tcons (Syntax.tyStruct (List._∷_ 116 (List._∷_ 121 (List._∷_ 112 (List._∷_ 101
-      (List._∷_ 115 (List._∷_ 58 (List._∷_ 58 (List._∷_ 67 (List._∷_ 111 (List._∷_ 100 (List._∷_ 101 (List._∷_ 115 (List._∷_ 116 (List._∷_ 114 (List._∷_ 101 (List._∷_ 97 (List._∷_
-      109 (List._∷_ 79 (List._∷_ 102 (List._∷_ 102 (List._∷_ 115 (List._∷_ 101 (List._∷_ 116 List.[]))))))))))))))))))))))) (Syntax.tcons (Syntax.tyInt Syntax.w64) Syntax.tnil))
-      (Syntax.tcons (Syntax.tyInt Syntax.w64) Syntax.tnil)))) 2048) Syntax.tnil))),
+      (Syntax.tcons (Syntax.tyInt Syntax.w64) Syntax.tnil)) (Syntax.tcons (Syntax.tyInt Syntax.w64) (Syntax.tcons (Syntax.tyInt Syntax.w64) (Syntax.tcons (Syntax.tyInt Syntax.w64)
+      Syntax.tnil))))) Syntax.tnil) (Syntax.ttcons (Syntax.tcons (Syntax.tyStruct (List._∷_ 116 (List._∷_ 121 (List._∷_ 112 (List._∷_ 101 (List._∷_ 115 (List._∷_ 58 (List._∷_ 58
+      (List._∷_ 82 (List._∷_ 101 (List._∷_ 102 (List._∷_ 117 (List._∷_ 115 (List._∷_ 97 (List._∷_ 108 List.[])))))))))))))) (Syntax.tcons (Syntax.tyInt Syntax.w32) (Syntax.tcons
+      (Syntax.tyInt Syntax.w64) Syntax.tnil))) Syntax.tnil) Syntax.ttnil))) (Syntax.tcons (Syntax.tyArray (Syntax.tyStruct (List._∷_ 116 (List._∷_ 121 (List._∷_ 112 (List._∷_ 101
+      (List._∷_ 115 (List._∷_ 58 (List._∷_ 58 (List._∷_ 84 (List._∷_ 105 (List._∷_ 108 (List._∷_ 101 (List._∷_ 80 (List._∷_ 97 (List._∷_ 114 (List._∷_ 116 (List._∷_ 69 (List._∷_ 110
+      (List._∷_ 116 (List._∷_ 114 (List._∷_ 121 List.[])))))))))))))))))))) (Syntax.tcons (Syntax.tyInt Syntax.w16) (Syntax.tcons (Syntax.tyStruct (List._∷_ 116 (List._∷_ 121
+      (List._∷_ 112 (List._∷_ 101 (List._∷_ 115 (List._∷_ 58 (List._∷_ 58 (List._∷_ 67 (List._∷_ 111 (List._∷_ 100 (List._∷_ 101 (List._∷_ 115 (List._∷_ 116 (List._∷_ 114 (List._∷_
+      101 (List._∷_ 97 (List._∷_ 109 (List._∷_ 79 (List._∷_ 102 (List._∷_ 102 (List._∷_ 115 (List._∷_ 101 (List._∷_ 116 List.[]))))))))))))))))))))))) (Syntax.tcons (Syntax.tyInt
+      Syntax.w64) Syntax.tnil)) (Syntax.tcons (Syntax.tyInt Syntax.w64) Syntax.tnil)))) 2048) Syntax.tnil))),
 ) (List._∷_ (
   1,
-  Rows'.sslice (Referent.rtF (Referent.fInt Syntax.w8)) (Syntax.tyRef (Syntax.named 0)
-      Syntax.imm (Syntax.tyInt Syntax.w8)) 0,
-) (List._∷_ (2, Mut.mslice (Referent.rtF (Referent.fInt Syntax.w8)) (Syntax.tyRef (Syntax.named 1) Syntax.mut (Syntax.tyInt Syntax.w8)) 1)
-    (List._∷_ (3, Rows.arr-owed LentTilePartEntry.row 2048 2) (List._∷_ (
-      4,
-      Rows'.any-gone (Syntax.tyEnum (List._∷_ 104 (List._∷_ 101 (List._∷_ 97 (List._∷_ 100 (List._∷_ 101
-          (List._∷_ 114 (List._∷_ 58 (List._∷_ 58 (List._∷_ 112 (List._∷_ 97 (List._∷_ 114 (List._∷_ 115 (List._∷_ 101 (List._∷_ 58 (List._∷_ 58 (List._∷_ 77 (List._∷_ 97 (List._∷_ 105
-          (List._∷_ 110 (List._∷_ 72 (List._∷_ 101 (List._∷_ 97 (List._∷_ 100 (List._∷_ 101 (List._∷_ 114 List.[]))))))))))))))))))))))))) (Syntax.ttcons (Syntax.tcons (Syntax.tyStruct
-          (List._∷_ 104 (List._∷_ 101 (List._∷_ 97 (List._∷_ 100 (List._∷_ 101 (List._∷_ 114 (List._∷_ 58 (List._∷_ 58 (List._∷_ 112 (List._∷_ 97 (List._∷_ 114 (List._∷_ 115 (List._∷_
-          101 (List._∷_ 58 (List._∷_ 58 (List._∷_ 77 (List._∷_ 97 (List._∷_ 105 (List._∷_ 110 (List._∷_ 72 (List._∷_ 101 (List._∷_ 97 (List._∷_ 100 (List._∷_ 101 (List._∷_ 114 (List._∷_
-          73 (List._∷_ 110 (List._∷_ 102 (List._∷_ 111 List.[]))))))))))))))))))))))))))))) (Syntax.tcons (Syntax.tyStruct (List._∷_ 116 (List._∷_ 121 (List._∷_ 112 (List._∷_ 101
-          (List._∷_ 115 (List._∷_ 58 (List._∷_ 58 (List._∷_ 67 (List._∷_ 111 (List._∷_ 100 (List._∷_ 101 (List._∷_ 115 (List._∷_ 116 (List._∷_ 114 (List._∷_ 101 (List._∷_ 97 (List._∷_
-          109 (List._∷_ 79 (List._∷_ 102 (List._∷_ 102 (List._∷_ 115 (List._∷_ 101 (List._∷_ 116 List.[]))))))))))))))))))))))) (Syntax.tcons (Syntax.tyInt Syntax.w64) Syntax.tnil))
-          (Syntax.tcons (Syntax.tyInt Syntax.w64) (Syntax.tcons (Syntax.tyInt Syntax.w64) Syntax.tnil)))) Syntax.tnil) (Syntax.ttcons (Syntax.tcons (Syntax.tyStruct (List._∷_ 116
-          (List._∷_ 121 (List._∷_ 112 (List._∷_ 101 (List._∷_ 115 (List._∷_ 58 (List._∷_ 58 (List._∷_ 82 (List._∷_ 101 (List._∷_ 102 (List._∷_ 117 (List._∷_ 115 (List._∷_ 97 (List._∷_
-          108 List.[])))))))))))))) (Syntax.tcons (Syntax.tyInt Syntax.w32) (Syntax.tcons (Syntax.tyInt Syntax.w64) Syntax.tnil))) Syntax.tnil) Syntax.ttnil))),
-    ) (List._∷_ (
-      5,
-      Rows'.any-gone (Syntax.tyArray LentTilePartEntry.spelled 2048),
-    ) (List._∷_ (
-      6,
-      Relend.msptr LentTilePartEntry.row (Syntax.tyRef Syntax.erased Syntax.mut (Syntax.tyArray
-          LentTilePartEntry.pointee 2048)) 2,
-    ) (List._∷_ (
-      7,
-      Rows'.any-gone (Syntax.tyStruct (List._∷_ 38 (List._∷_ 91 (List._∷_ 93 List.[]))) (Syntax.tcons (Syntax.tyRef Syntax.erased
-          Syntax.mut LentTilePartEntry.pointee) (Syntax.tcons (Syntax.tyInt Syntax.w64) Syntax.tnil))),
-    ) (List._∷_ (
-      8,
-      Rows'.any-gone (Syntax.tyRef Syntax.erased Syntax.mut (Syntax.tyInt
-          Syntax.w8)),
-    ) (List._∷_ (
+  Rows'.sslice (Referent.rtF (Referent.fInt Syntax.w8))
+      (Syntax.tyRef (Syntax.named 0) Syntax.imm (Syntax.tyInt Syntax.w8)) 0,
+) (List._∷_ (
+  2,
+  Mut.mslice (Referent.rtF (Referent.fInt Syntax.w8)) (Syntax.tyRef (Syntax.named 1)
+      Syntax.mut (Syntax.tyInt Syntax.w8)) 1,
+) (List._∷_ (3, Rows.arr-owed LentTilePartEntry.row 2048 2) (List._∷_ (
+  4,
+  Rows'.any-gone (Syntax.tyEnum (List._∷_ 104 (List._∷_ 101
+      (List._∷_ 97 (List._∷_ 100 (List._∷_ 101 (List._∷_ 114 (List._∷_ 58 (List._∷_ 58 (List._∷_ 112 (List._∷_ 97 (List._∷_ 114 (List._∷_ 115 (List._∷_ 101 (List._∷_ 58 (List._∷_ 58
+      (List._∷_ 77 (List._∷_ 97 (List._∷_ 105 (List._∷_ 110 (List._∷_ 72 (List._∷_ 101 (List._∷_ 97 (List._∷_ 100 (List._∷_ 101 (List._∷_ 114 List.[])))))))))))))))))))))))))
+      (Syntax.ttcons (Syntax.tcons (Syntax.tyStruct (List._∷_ 104 (List._∷_ 101 (List._∷_ 97 (List._∷_ 100 (List._∷_ 101 (List._∷_ 114 (List._∷_ 58 (List._∷_ 58 (List._∷_ 112
+      (List._∷_ 97 (List._∷_ 114 (List._∷_ 115 (List._∷_ 101 (List._∷_ 58 (List._∷_ 58 (List._∷_ 77 (List._∷_ 97 (List._∷_ 105 (List._∷_ 110 (List._∷_ 72 (List._∷_ 101 (List._∷_ 97
+      (List._∷_ 100 (List._∷_ 101 (List._∷_ 114 (List._∷_ 73 (List._∷_ 110 (List._∷_ 102 (List._∷_ 111 List.[]))))))))))))))))))))))))))))) (Syntax.tcons (Syntax.tyStruct (List._∷_
+      116 (List._∷_ 121 (List._∷_ 112 (List._∷_ 101 (List._∷_ 115 (List._∷_ 58 (List._∷_ 58 (List._∷_ 67 (List._∷_ 111 (List._∷_ 100 (List._∷_ 101 (List._∷_ 115 (List._∷_ 116
+      (List._∷_ 114 (List._∷_ 101 (List._∷_ 97 (List._∷_ 109 (List._∷_ 79 (List._∷_ 102 (List._∷_ 102 (List._∷_ 115 (List._∷_ 101 (List._∷_ 116 List.[])))))))))))))))))))))))
+      (Syntax.tcons (Syntax.tyInt Syntax.w64) Syntax.tnil)) (Syntax.tcons (Syntax.tyInt Syntax.w64) (Syntax.tcons (Syntax.tyInt Syntax.w64) (Syntax.tcons (Syntax.tyInt Syntax.w64)
+      Syntax.tnil))))) Syntax.tnil) (Syntax.ttcons (Syntax.tcons (Syntax.tyStruct (List._∷_ 116 (List._∷_ 121 (List._∷_ 112 (List._∷_ 101 (List._∷_ 115 (List._∷_ 58 (List._∷_ 58
+      (List._∷_ 82 (List._∷_ 101 (List._∷_ 102 (List._∷_ 117 (List._∷_ 115 (List._∷_ 97 (List._∷_ 108 List.[])))))))))))))) (Syntax.tcons (Syntax.tyInt Syntax.w32) (Syntax.tcons
+      (Syntax.tyInt Syntax.w64) Syntax.tnil))) Syntax.tnil) Syntax.ttnil))),
+) (List._∷_ (5, Rows'.any-gone (Syntax.tyArray LentTilePartEntry.spelled 2048)) (List._∷_ (
+  6,
+  Relend.msptr
+      LentTilePartEntry.row (Syntax.tyRef Syntax.erased Syntax.mut (Syntax.tyArray LentTilePartEntry.pointee 2048)) 2,
+) (List._∷_ (
+  7,
+  Rows'.any-gone (Syntax.tyStruct (List._∷_ 38
+      (List._∷_ 91 (List._∷_ 93 List.[]))) (Syntax.tcons (Syntax.tyRef Syntax.erased Syntax.mut LentTilePartEntry.pointee) (Syntax.tcons (Syntax.tyInt Syntax.w64) Syntax.tnil))),
+)
+    (List._∷_ (8, Rows'.any-gone (Syntax.tyRef Syntax.erased Syntax.mut (Syntax.tyInt Syntax.w8))) (List._∷_ (
       9,
-      Rows'.any-gone (Syntax.tyStruct (List._∷_ 38 (List._∷_ 91 (List._∷_ 93 List.[]))) (Syntax.tcons (Syntax.tyRef Syntax.erased Syntax.mut (Syntax.tyInt
-          Syntax.w8)) (Syntax.tcons (Syntax.tyInt Syntax.w64) Syntax.tnil))),
+      Rows'.any-gone (Syntax.tyStruct (List._∷_ 38 (List._∷_ 91 (List._∷_
+          93 List.[]))) (Syntax.tcons (Syntax.tyRef Syntax.erased Syntax.mut (Syntax.tyInt Syntax.w8)) (Syntax.tcons (Syntax.tyInt Syntax.w64) Syntax.tnil))),
     ) List.[])))))))))
 
 abbrev pub t6 : List.List Row.Entry
@@ -586,49 +597,49 @@ t6 = List._∷_ (
       (List._∷_ 100 (List._∷_ 101 (List._∷_ 114 (List._∷_ 73 (List._∷_ 110 (List._∷_ 102 (List._∷_ 111 List.[]))))))))))))))))))))))))))))) (Syntax.tcons (Syntax.tyStruct (List._∷_
       116 (List._∷_ 121 (List._∷_ 112 (List._∷_ 101 (List._∷_ 115 (List._∷_ 58 (List._∷_ 58 (List._∷_ 67 (List._∷_ 111 (List._∷_ 100 (List._∷_ 101 (List._∷_ 115 (List._∷_ 116
       (List._∷_ 114 (List._∷_ 101 (List._∷_ 97 (List._∷_ 109 (List._∷_ 79 (List._∷_ 102 (List._∷_ 102 (List._∷_ 115 (List._∷_ 101 (List._∷_ 116 List.[])))))))))))))))))))))))
-      (Syntax.tcons (Syntax.tyInt Syntax.w64) Syntax.tnil)) (Syntax.tcons (Syntax.tyInt Syntax.w64) (Syntax.tcons (Syntax.tyInt Syntax.w64) Syntax.tnil)))) Syntax.tnil)
-      (Syntax.ttcons (Syntax.tcons (Syntax.tyStruct (List._∷_ 116 (List._∷_ 121 (List._∷_ 112 (List._∷_ 101 (List._∷_ 115 (List._∷_ 58 (List._∷_ 58 (List._∷_ 82 (List._∷_ 101
-      (List._∷_ 102 (List._∷_ 117 (List._∷_ 115 (List._∷_ 97 (List._∷_ 108 List.[])))))))))))))) (Syntax.tcons (Syntax.tyInt Syntax.w32) (Syntax.tcons (Syntax.tyInt Syntax.w64)
-      Syntax.tnil))) Syntax.tnil) Syntax.ttnil))) (Syntax.tcons (Syntax.tyArray (Syntax.tyStruct (List._∷_ 116 (List._∷_ 121 (List._∷_ 112 (List._∷_ 101 (List._∷_ 115 (List._∷_ 58
-      (List._∷_ 58 (List._∷_ 84 (List._∷_ 105 (List._∷_ 108 (List._∷_ 101 (List._∷_ 80 (List._∷_ 97 (List._∷_ 114 (List._∷_ 116 (List._∷_ 69 (List._∷_ 110 (List._∷_ 116 (List._∷_ 114
-      (List._∷_ 121 List.[])))))))))))))))))))) (Syntax.tcons (Syntax.tyInt Syntax.w16) (Syntax.tcons (Syntax.tyStruct (List._∷_ 116 (List._∷_ 121 (List._∷_ 112 (List._∷_ 101
-      (List._∷_ 115 (List._∷_ 58 (List._∷_ 58 (List._∷_ 67 (List._∷_ 111 (List._∷_ 100 (List._∷_ 101 (List._∷_ 115 (List._∷_ 116 (List._∷_ 114 (List._∷_ 101 (List._∷_ 97 (List._∷_
-      109 (List._∷_ 79 (List._∷_ 102 (List._∷_ 102 (List._∷_ 115 (List._∷_ 101 (List._∷_ 116 List.[]))))))))))))))))))))))) (Syntax.tcons (Syntax.tyInt Syntax.w64) Syntax.tnil))
-      (Syntax.tcons (Syntax.tyInt Syntax.w64) Syntax.tnil)))) 2048) Syntax.tnil))),
+      (Syntax.tcons (Syntax.tyInt Syntax.w64) Syntax.tnil)) (Syntax.tcons (Syntax.tyInt Syntax.w64) (Syntax.tcons (Syntax.tyInt Syntax.w64) (Syntax.tcons (Syntax.tyInt Syntax.w64)
+      Syntax.tnil))))) Syntax.tnil) (Syntax.ttcons (Syntax.tcons (Syntax.tyStruct (List._∷_ 116 (List._∷_ 121 (List._∷_ 112 (List._∷_ 101 (List._∷_ 115 (List._∷_ 58 (List._∷_ 58
+      (List._∷_ 82 (List._∷_ 101 (List._∷_ 102 (List._∷_ 117 (List._∷_ 115 (List._∷_ 97 (List._∷_ 108 List.[])))))))))))))) (Syntax.tcons (Syntax.tyInt Syntax.w32) (Syntax.tcons
+      (Syntax.tyInt Syntax.w64) Syntax.tnil))) Syntax.tnil) Syntax.ttnil))) (Syntax.tcons (Syntax.tyArray (Syntax.tyStruct (List._∷_ 116 (List._∷_ 121 (List._∷_ 112 (List._∷_ 101
+      (List._∷_ 115 (List._∷_ 58 (List._∷_ 58 (List._∷_ 84 (List._∷_ 105 (List._∷_ 108 (List._∷_ 101 (List._∷_ 80 (List._∷_ 97 (List._∷_ 114 (List._∷_ 116 (List._∷_ 69 (List._∷_ 110
+      (List._∷_ 116 (List._∷_ 114 (List._∷_ 121 List.[])))))))))))))))))))) (Syntax.tcons (Syntax.tyInt Syntax.w16) (Syntax.tcons (Syntax.tyStruct (List._∷_ 116 (List._∷_ 121
+      (List._∷_ 112 (List._∷_ 101 (List._∷_ 115 (List._∷_ 58 (List._∷_ 58 (List._∷_ 67 (List._∷_ 111 (List._∷_ 100 (List._∷_ 101 (List._∷_ 115 (List._∷_ 116 (List._∷_ 114 (List._∷_
+      101 (List._∷_ 97 (List._∷_ 109 (List._∷_ 79 (List._∷_ 102 (List._∷_ 102 (List._∷_ 115 (List._∷_ 101 (List._∷_ 116 List.[]))))))))))))))))))))))) (Syntax.tcons (Syntax.tyInt
+      Syntax.w64) Syntax.tnil)) (Syntax.tcons (Syntax.tyInt Syntax.w64) Syntax.tnil)))) 2048) Syntax.tnil))),
 ) (List._∷_ (
   1,
-  Rows'.sslice (Referent.rtF (Referent.fInt Syntax.w8)) (Syntax.tyRef (Syntax.named 0)
-      Syntax.imm (Syntax.tyInt Syntax.w8)) 0,
-) (List._∷_ (2, Mut.mslice (Referent.rtF (Referent.fInt Syntax.w8)) (Syntax.tyRef (Syntax.named 1) Syntax.mut (Syntax.tyInt Syntax.w8)) 1)
-    (List._∷_ (3, Rows.arr-owed LentTilePartEntry.row 2048 2) (List._∷_ (
-      4,
-      Rows'.any-gone (Syntax.tyEnum (List._∷_ 104 (List._∷_ 101 (List._∷_ 97 (List._∷_ 100 (List._∷_ 101
-          (List._∷_ 114 (List._∷_ 58 (List._∷_ 58 (List._∷_ 112 (List._∷_ 97 (List._∷_ 114 (List._∷_ 115 (List._∷_ 101 (List._∷_ 58 (List._∷_ 58 (List._∷_ 77 (List._∷_ 97 (List._∷_ 105
-          (List._∷_ 110 (List._∷_ 72 (List._∷_ 101 (List._∷_ 97 (List._∷_ 100 (List._∷_ 101 (List._∷_ 114 List.[]))))))))))))))))))))))))) (Syntax.ttcons (Syntax.tcons (Syntax.tyStruct
-          (List._∷_ 104 (List._∷_ 101 (List._∷_ 97 (List._∷_ 100 (List._∷_ 101 (List._∷_ 114 (List._∷_ 58 (List._∷_ 58 (List._∷_ 112 (List._∷_ 97 (List._∷_ 114 (List._∷_ 115 (List._∷_
-          101 (List._∷_ 58 (List._∷_ 58 (List._∷_ 77 (List._∷_ 97 (List._∷_ 105 (List._∷_ 110 (List._∷_ 72 (List._∷_ 101 (List._∷_ 97 (List._∷_ 100 (List._∷_ 101 (List._∷_ 114 (List._∷_
-          73 (List._∷_ 110 (List._∷_ 102 (List._∷_ 111 List.[]))))))))))))))))))))))))))))) (Syntax.tcons (Syntax.tyStruct (List._∷_ 116 (List._∷_ 121 (List._∷_ 112 (List._∷_ 101
-          (List._∷_ 115 (List._∷_ 58 (List._∷_ 58 (List._∷_ 67 (List._∷_ 111 (List._∷_ 100 (List._∷_ 101 (List._∷_ 115 (List._∷_ 116 (List._∷_ 114 (List._∷_ 101 (List._∷_ 97 (List._∷_
-          109 (List._∷_ 79 (List._∷_ 102 (List._∷_ 102 (List._∷_ 115 (List._∷_ 101 (List._∷_ 116 List.[]))))))))))))))))))))))) (Syntax.tcons (Syntax.tyInt Syntax.w64) Syntax.tnil))
-          (Syntax.tcons (Syntax.tyInt Syntax.w64) (Syntax.tcons (Syntax.tyInt Syntax.w64) Syntax.tnil)))) Syntax.tnil) (Syntax.ttcons (Syntax.tcons (Syntax.tyStruct (List._∷_ 116
-          (List._∷_ 121 (List._∷_ 112 (List._∷_ 101 (List._∷_ 115 (List._∷_ 58 (List._∷_ 58 (List._∷_ 82 (List._∷_ 101 (List._∷_ 102 (List._∷_ 117 (List._∷_ 115 (List._∷_ 97 (List._∷_
-          108 List.[])))))))))))))) (Syntax.tcons (Syntax.tyInt Syntax.w32) (Syntax.tcons (Syntax.tyInt Syntax.w64) Syntax.tnil))) Syntax.tnil) Syntax.ttnil))),
-    ) (List._∷_ (
-      5,
-      Rows'.any-gone (Syntax.tyArray LentTilePartEntry.spelled 2048),
-    ) (List._∷_ (
-      6,
-      Rows'.any-gone (Syntax.tyRef Syntax.erased Syntax.mut (Syntax.tyArray LentTilePartEntry.pointee
-          2048)),
-    ) (List._∷_ (7, Mut.mslice LentTilePartEntry.row (Syntax.tyRef Syntax.erased Syntax.mut LentTilePartEntry.pointee) 2) (List._∷_ (
-      8,
-      Rows'.any-gone (Syntax.tyRef
-          Syntax.erased Syntax.mut (Syntax.tyInt Syntax.w8)),
-    ) (List._∷_ (
-      9,
-      Rows'.any-gone (Syntax.tyStruct (List._∷_ 38 (List._∷_ 91 (List._∷_ 93 List.[]))) (Syntax.tcons (Syntax.tyRef
-          Syntax.erased Syntax.mut (Syntax.tyInt Syntax.w8)) (Syntax.tcons (Syntax.tyInt Syntax.w64) Syntax.tnil))),
-    ) List.[])))))))))
+  Rows'.sslice (Referent.rtF (Referent.fInt Syntax.w8))
+      (Syntax.tyRef (Syntax.named 0) Syntax.imm (Syntax.tyInt Syntax.w8)) 0,
+) (List._∷_ (
+  2,
+  Mut.mslice (Referent.rtF (Referent.fInt Syntax.w8)) (Syntax.tyRef (Syntax.named 1)
+      Syntax.mut (Syntax.tyInt Syntax.w8)) 1,
+) (List._∷_ (3, Rows.arr-owed LentTilePartEntry.row 2048 2) (List._∷_ (
+  4,
+  Rows'.any-gone (Syntax.tyEnum (List._∷_ 104 (List._∷_ 101
+      (List._∷_ 97 (List._∷_ 100 (List._∷_ 101 (List._∷_ 114 (List._∷_ 58 (List._∷_ 58 (List._∷_ 112 (List._∷_ 97 (List._∷_ 114 (List._∷_ 115 (List._∷_ 101 (List._∷_ 58 (List._∷_ 58
+      (List._∷_ 77 (List._∷_ 97 (List._∷_ 105 (List._∷_ 110 (List._∷_ 72 (List._∷_ 101 (List._∷_ 97 (List._∷_ 100 (List._∷_ 101 (List._∷_ 114 List.[])))))))))))))))))))))))))
+      (Syntax.ttcons (Syntax.tcons (Syntax.tyStruct (List._∷_ 104 (List._∷_ 101 (List._∷_ 97 (List._∷_ 100 (List._∷_ 101 (List._∷_ 114 (List._∷_ 58 (List._∷_ 58 (List._∷_ 112
+      (List._∷_ 97 (List._∷_ 114 (List._∷_ 115 (List._∷_ 101 (List._∷_ 58 (List._∷_ 58 (List._∷_ 77 (List._∷_ 97 (List._∷_ 105 (List._∷_ 110 (List._∷_ 72 (List._∷_ 101 (List._∷_ 97
+      (List._∷_ 100 (List._∷_ 101 (List._∷_ 114 (List._∷_ 73 (List._∷_ 110 (List._∷_ 102 (List._∷_ 111 List.[]))))))))))))))))))))))))))))) (Syntax.tcons (Syntax.tyStruct (List._∷_
+      116 (List._∷_ 121 (List._∷_ 112 (List._∷_ 101 (List._∷_ 115 (List._∷_ 58 (List._∷_ 58 (List._∷_ 67 (List._∷_ 111 (List._∷_ 100 (List._∷_ 101 (List._∷_ 115 (List._∷_ 116
+      (List._∷_ 114 (List._∷_ 101 (List._∷_ 97 (List._∷_ 109 (List._∷_ 79 (List._∷_ 102 (List._∷_ 102 (List._∷_ 115 (List._∷_ 101 (List._∷_ 116 List.[])))))))))))))))))))))))
+      (Syntax.tcons (Syntax.tyInt Syntax.w64) Syntax.tnil)) (Syntax.tcons (Syntax.tyInt Syntax.w64) (Syntax.tcons (Syntax.tyInt Syntax.w64) (Syntax.tcons (Syntax.tyInt Syntax.w64)
+      Syntax.tnil))))) Syntax.tnil) (Syntax.ttcons (Syntax.tcons (Syntax.tyStruct (List._∷_ 116 (List._∷_ 121 (List._∷_ 112 (List._∷_ 101 (List._∷_ 115 (List._∷_ 58 (List._∷_ 58
+      (List._∷_ 82 (List._∷_ 101 (List._∷_ 102 (List._∷_ 117 (List._∷_ 115 (List._∷_ 97 (List._∷_ 108 List.[])))))))))))))) (Syntax.tcons (Syntax.tyInt Syntax.w32) (Syntax.tcons
+      (Syntax.tyInt Syntax.w64) Syntax.tnil))) Syntax.tnil) Syntax.ttnil))),
+) (List._∷_ (5, Rows'.any-gone (Syntax.tyArray LentTilePartEntry.spelled 2048)) (List._∷_ (
+  6,
+  Rows'.any-gone (Syntax.tyRef Syntax.erased Syntax.mut (Syntax.tyArray LentTilePartEntry.pointee 2048)),
+) (List._∷_ (
+  7,
+  Mut.mslice LentTilePartEntry.row (Syntax.tyRef
+      Syntax.erased Syntax.mut LentTilePartEntry.pointee) 2,
+) (List._∷_ (8, Rows'.any-gone (Syntax.tyRef Syntax.erased Syntax.mut (Syntax.tyInt Syntax.w8))) (List._∷_ (
+  9,
+  Rows'.any-gone (Syntax.tyStruct (List._∷_ 38 (List._∷_ 91 (List._∷_ 93 List.[]))) (Syntax.tcons (Syntax.tyRef Syntax.erased Syntax.mut (Syntax.tyInt Syntax.w8)) (Syntax.tcons
+      (Syntax.tyInt Syntax.w64) Syntax.tnil))),
+) List.[])))))))))
 
 abbrev pub t7 : List.List Row.Entry
 t7 = List._∷_ (
@@ -643,48 +654,53 @@ t7 = List._∷_ (
       (List._∷_ 100 (List._∷_ 101 (List._∷_ 114 (List._∷_ 73 (List._∷_ 110 (List._∷_ 102 (List._∷_ 111 List.[]))))))))))))))))))))))))))))) (Syntax.tcons (Syntax.tyStruct (List._∷_
       116 (List._∷_ 121 (List._∷_ 112 (List._∷_ 101 (List._∷_ 115 (List._∷_ 58 (List._∷_ 58 (List._∷_ 67 (List._∷_ 111 (List._∷_ 100 (List._∷_ 101 (List._∷_ 115 (List._∷_ 116
       (List._∷_ 114 (List._∷_ 101 (List._∷_ 97 (List._∷_ 109 (List._∷_ 79 (List._∷_ 102 (List._∷_ 102 (List._∷_ 115 (List._∷_ 101 (List._∷_ 116 List.[])))))))))))))))))))))))
-      (Syntax.tcons (Syntax.tyInt Syntax.w64) Syntax.tnil)) (Syntax.tcons (Syntax.tyInt Syntax.w64) (Syntax.tcons (Syntax.tyInt Syntax.w64) Syntax.tnil)))) Syntax.tnil)
-      (Syntax.ttcons (Syntax.tcons (Syntax.tyStruct (List._∷_ 116 (List._∷_ 121 (List._∷_ 112 (List._∷_ 101 (List._∷_ 115 (List._∷_ 58 (List._∷_ 58 (List._∷_ 82 (List._∷_ 101
-      (List._∷_ 102 (List._∷_ 117 (List._∷_ 115 (List._∷_ 97 (List._∷_ 108 List.[])))))))))))))) (Syntax.tcons (Syntax.tyInt Syntax.w32) (Syntax.tcons (Syntax.tyInt Syntax.w64)
-      Syntax.tnil))) Syntax.tnil) Syntax.ttnil))) (Syntax.tcons (Syntax.tyArray (Syntax.tyStruct (List._∷_ 116 (List._∷_ 121 (List._∷_ 112 (List._∷_ 101 (List._∷_ 115 (List._∷_ 58
-      (List._∷_ 58 (List._∷_ 84 (List._∷_ 105 (List._∷_ 108 (List._∷_ 101 (List._∷_ 80 (List._∷_ 97 (List._∷_ 114 (List._∷_ 116 (List._∷_ 69 (List._∷_ 110 (List._∷_ 116 (List._∷_ 114
-      (List._∷_ 121 List.[])))))))))))))))))))) (Syntax.tcons (Syntax.tyInt Syntax.w16) (Syntax.tcons (Syntax.tyStruct (List._∷_ 116 (List._∷_ 121 (List._∷_ 112 (List._∷_ 101
-      (List._∷_ 115 (List._∷_ 58 (List._∷_ 58 (List._∷_ 67 (List._∷_ 111 (List._∷_ 100 (List._∷_ 101 (List._∷_ 115 (List._∷_ 116 (List._∷_ 114 (List._∷_ 101 (List._∷_ 97 (List._∷_
-      109 (List._∷_ 79 (List._∷_ 102 (List._∷_ 102 (List._∷_ 115 (List._∷_ 101 (List._∷_ 116 List.[]))))))))))))))))))))))) (Syntax.tcons (Syntax.tyInt Syntax.w64) Syntax.tnil))
-      (Syntax.tcons (Syntax.tyInt Syntax.w64) Syntax.tnil)))) 2048) Syntax.tnil))),
-) (List._∷_ (
-  1,
-  Rows'.sslice (Referent.rtF (Referent.fInt Syntax.w8)) (Syntax.tyRef (Syntax.named 0)
-      Syntax.imm (Syntax.tyInt Syntax.w8)) 0,
-) (List._∷_ (
-  2,
-  Relend.mslice-owed (Referent.rtF (Referent.fInt Syntax.w8)) (Syntax.tyRef (Syntax.named 1) Syntax.mut (Syntax.tyInt
-      Syntax.w8)) 1 3 Row.off,
-) (List._∷_ (3, Rows.arr-owed LentTilePartEntry.row 2048 2) (List._∷_ (
-  4,
-  Rows'.any-gone (Syntax.tyEnum (List._∷_ 104 (List._∷_ 101 (List._∷_ 97
-      (List._∷_ 100 (List._∷_ 101 (List._∷_ 114 (List._∷_ 58 (List._∷_ 58 (List._∷_ 112 (List._∷_ 97 (List._∷_ 114 (List._∷_ 115 (List._∷_ 101 (List._∷_ 58 (List._∷_ 58 (List._∷_ 77
-      (List._∷_ 97 (List._∷_ 105 (List._∷_ 110 (List._∷_ 72 (List._∷_ 101 (List._∷_ 97 (List._∷_ 100 (List._∷_ 101 (List._∷_ 114 List.[]))))))))))))))))))))))))) (Syntax.ttcons
-      (Syntax.tcons (Syntax.tyStruct (List._∷_ 104 (List._∷_ 101 (List._∷_ 97 (List._∷_ 100 (List._∷_ 101 (List._∷_ 114 (List._∷_ 58 (List._∷_ 58 (List._∷_ 112 (List._∷_ 97 (List._∷_
-      114 (List._∷_ 115 (List._∷_ 101 (List._∷_ 58 (List._∷_ 58 (List._∷_ 77 (List._∷_ 97 (List._∷_ 105 (List._∷_ 110 (List._∷_ 72 (List._∷_ 101 (List._∷_ 97 (List._∷_ 100 (List._∷_
-      101 (List._∷_ 114 (List._∷_ 73 (List._∷_ 110 (List._∷_ 102 (List._∷_ 111 List.[]))))))))))))))))))))))))))))) (Syntax.tcons (Syntax.tyStruct (List._∷_ 116 (List._∷_ 121
+      (Syntax.tcons (Syntax.tyInt Syntax.w64) Syntax.tnil)) (Syntax.tcons (Syntax.tyInt Syntax.w64) (Syntax.tcons (Syntax.tyInt Syntax.w64) (Syntax.tcons (Syntax.tyInt Syntax.w64)
+      Syntax.tnil))))) Syntax.tnil) (Syntax.ttcons (Syntax.tcons (Syntax.tyStruct (List._∷_ 116 (List._∷_ 121 (List._∷_ 112 (List._∷_ 101 (List._∷_ 115 (List._∷_ 58 (List._∷_ 58
+      (List._∷_ 82 (List._∷_ 101 (List._∷_ 102 (List._∷_ 117 (List._∷_ 115 (List._∷_ 97 (List._∷_ 108 List.[])))))))))))))) (Syntax.tcons (Syntax.tyInt Syntax.w32) (Syntax.tcons
+      (Syntax.tyInt Syntax.w64) Syntax.tnil))) Syntax.tnil) Syntax.ttnil))) (Syntax.tcons (Syntax.tyArray (Syntax.tyStruct (List._∷_ 116 (List._∷_ 121 (List._∷_ 112 (List._∷_ 101
+      (List._∷_ 115 (List._∷_ 58 (List._∷_ 58 (List._∷_ 84 (List._∷_ 105 (List._∷_ 108 (List._∷_ 101 (List._∷_ 80 (List._∷_ 97 (List._∷_ 114 (List._∷_ 116 (List._∷_ 69 (List._∷_ 110
+      (List._∷_ 116 (List._∷_ 114 (List._∷_ 121 List.[])))))))))))))))))))) (Syntax.tcons (Syntax.tyInt Syntax.w16) (Syntax.tcons (Syntax.tyStruct (List._∷_ 116 (List._∷_ 121
       (List._∷_ 112 (List._∷_ 101 (List._∷_ 115 (List._∷_ 58 (List._∷_ 58 (List._∷_ 67 (List._∷_ 111 (List._∷_ 100 (List._∷_ 101 (List._∷_ 115 (List._∷_ 116 (List._∷_ 114 (List._∷_
       101 (List._∷_ 97 (List._∷_ 109 (List._∷_ 79 (List._∷_ 102 (List._∷_ 102 (List._∷_ 115 (List._∷_ 101 (List._∷_ 116 List.[]))))))))))))))))))))))) (Syntax.tcons (Syntax.tyInt
-      Syntax.w64) Syntax.tnil)) (Syntax.tcons (Syntax.tyInt Syntax.w64) (Syntax.tcons (Syntax.tyInt Syntax.w64) Syntax.tnil)))) Syntax.tnil) (Syntax.ttcons (Syntax.tcons
-      (Syntax.tyStruct (List._∷_ 116 (List._∷_ 121 (List._∷_ 112 (List._∷_ 101 (List._∷_ 115 (List._∷_ 58 (List._∷_ 58 (List._∷_ 82 (List._∷_ 101 (List._∷_ 102 (List._∷_ 117
-      (List._∷_ 115 (List._∷_ 97 (List._∷_ 108 List.[])))))))))))))) (Syntax.tcons (Syntax.tyInt Syntax.w32) (Syntax.tcons (Syntax.tyInt Syntax.w64) Syntax.tnil))) Syntax.tnil)
-      Syntax.ttnil))),
+      Syntax.w64) Syntax.tnil)) (Syntax.tcons (Syntax.tyInt Syntax.w64) Syntax.tnil)))) 2048) Syntax.tnil))),
+) (List._∷_ (
+  1,
+  Rows'.sslice (Referent.rtF (Referent.fInt Syntax.w8))
+      (Syntax.tyRef (Syntax.named 0) Syntax.imm (Syntax.tyInt Syntax.w8)) 0,
+) (List._∷_ (
+  2,
+  Relend.mslice-owed (Referent.rtF (Referent.fInt Syntax.w8)) (Syntax.tyRef (Syntax.named 1)
+      Syntax.mut (Syntax.tyInt Syntax.w8)) 1 3 Row.off,
+) (List._∷_ (3, Rows.arr-owed LentTilePartEntry.row 2048 2) (List._∷_ (
+  4,
+  Rows'.any-gone (Syntax.tyEnum (List._∷_ 104 (List._∷_
+      101 (List._∷_ 97 (List._∷_ 100 (List._∷_ 101 (List._∷_ 114 (List._∷_ 58 (List._∷_ 58 (List._∷_ 112 (List._∷_ 97 (List._∷_ 114 (List._∷_ 115 (List._∷_ 101 (List._∷_ 58 (List._∷_
+      58 (List._∷_ 77 (List._∷_ 97 (List._∷_ 105 (List._∷_ 110 (List._∷_ 72 (List._∷_ 101 (List._∷_ 97 (List._∷_ 100 (List._∷_ 101 (List._∷_ 114 List.[])))))))))))))))))))))))))
+      (Syntax.ttcons (Syntax.tcons (Syntax.tyStruct (List._∷_ 104 (List._∷_ 101 (List._∷_ 97 (List._∷_ 100 (List._∷_ 101 (List._∷_ 114 (List._∷_ 58 (List._∷_ 58 (List._∷_ 112
+      (List._∷_ 97 (List._∷_ 114 (List._∷_ 115 (List._∷_ 101 (List._∷_ 58 (List._∷_ 58 (List._∷_ 77 (List._∷_ 97 (List._∷_ 105 (List._∷_ 110 (List._∷_ 72 (List._∷_ 101 (List._∷_ 97
+      (List._∷_ 100 (List._∷_ 101 (List._∷_ 114 (List._∷_ 73 (List._∷_ 110 (List._∷_ 102 (List._∷_ 111 List.[]))))))))))))))))))))))))))))) (Syntax.tcons (Syntax.tyStruct (List._∷_
+      116 (List._∷_ 121 (List._∷_ 112 (List._∷_ 101 (List._∷_ 115 (List._∷_ 58 (List._∷_ 58 (List._∷_ 67 (List._∷_ 111 (List._∷_ 100 (List._∷_ 101 (List._∷_ 115 (List._∷_ 116
+      (List._∷_ 114 (List._∷_ 101 (List._∷_ 97 (List._∷_ 109 (List._∷_ 79 (List._∷_ 102 (List._∷_ 102 (List._∷_ 115 (List._∷_ 101 (List._∷_ 116 List.[])))))))))))))))))))))))
+      (Syntax.tcons (Syntax.tyInt Syntax.w64) Syntax.tnil)) (Syntax.tcons (Syntax.tyInt Syntax.w64) (Syntax.tcons (Syntax.tyInt Syntax.w64) (Syntax.tcons (Syntax.tyInt Syntax.w64)
+      Syntax.tnil))))) Syntax.tnil) (Syntax.ttcons (Syntax.tcons (Syntax.tyStruct (List._∷_ 116 (List._∷_ 121 (List._∷_ 112 (List._∷_ 101 (List._∷_ 115 (List._∷_ 58 (List._∷_ 58
+      (List._∷_ 82 (List._∷_ 101 (List._∷_ 102 (List._∷_ 117 (List._∷_ 115 (List._∷_ 97 (List._∷_ 108 List.[])))))))))))))) (Syntax.tcons (Syntax.tyInt Syntax.w32) (Syntax.tcons
+      (Syntax.tyInt Syntax.w64) Syntax.tnil))) Syntax.tnil) Syntax.ttnil))),
 ) (List._∷_ (5, Rows'.any-gone (Syntax.tyArray LentTilePartEntry.spelled 2048)) (List._∷_ (
   6,
-  Rows'.any-gone (Syntax.tyRef Syntax.erased Syntax.mut
-      (Syntax.tyArray LentTilePartEntry.pointee 2048)),
-) (List._∷_ (7, Mut.mslice LentTilePartEntry.row (Syntax.tyRef Syntax.erased Syntax.mut LentTilePartEntry.pointee) 2) (List._∷_
-    (8, Relend.msptr (Referent.rtF (Referent.fInt Syntax.w8)) (Syntax.tyRef Syntax.erased Syntax.mut (Syntax.tyInt Syntax.w8)) 3) (List._∷_ (
-      9,
-      Rows'.any-gone (Syntax.tyStruct
-          (List._∷_ 38 (List._∷_ 91 (List._∷_ 93 List.[]))) (Syntax.tcons (Syntax.tyRef Syntax.erased Syntax.mut (Syntax.tyInt Syntax.w8)) (Syntax.tcons (Syntax.tyInt Syntax.w64)
-          Syntax.tnil))),
-    ) List.[])))))))))
+  Rows'.any-gone (Syntax.tyRef Syntax.erased Syntax.mut (Syntax.tyArray LentTilePartEntry.pointee 2048)),
+) (List._∷_ (
+  7,
+  Mut.mslice LentTilePartEntry.row (Syntax.tyRef
+      Syntax.erased Syntax.mut LentTilePartEntry.pointee) 2,
+) (List._∷_ (
+  8,
+  Relend.msptr (Referent.rtF (Referent.fInt Syntax.w8)) (Syntax.tyRef Syntax.erased Syntax.mut (Syntax.tyInt
+      Syntax.w8)) 3,
+) (List._∷_ (
+  9,
+  Rows'.any-gone (Syntax.tyStruct (List._∷_ 38 (List._∷_ 91 (List._∷_ 93 List.[]))) (Syntax.tcons (Syntax.tyRef Syntax.erased Syntax.mut
+      (Syntax.tyInt Syntax.w8)) (Syntax.tcons (Syntax.tyInt Syntax.w64) Syntax.tnil))),
+) List.[])))))))))
 
 abbrev pub t8 : List.List Row.Entry
 t8 = List._∷_ (
@@ -699,47 +715,49 @@ t8 = List._∷_ (
       (List._∷_ 100 (List._∷_ 101 (List._∷_ 114 (List._∷_ 73 (List._∷_ 110 (List._∷_ 102 (List._∷_ 111 List.[]))))))))))))))))))))))))))))) (Syntax.tcons (Syntax.tyStruct (List._∷_
       116 (List._∷_ 121 (List._∷_ 112 (List._∷_ 101 (List._∷_ 115 (List._∷_ 58 (List._∷_ 58 (List._∷_ 67 (List._∷_ 111 (List._∷_ 100 (List._∷_ 101 (List._∷_ 115 (List._∷_ 116
       (List._∷_ 114 (List._∷_ 101 (List._∷_ 97 (List._∷_ 109 (List._∷_ 79 (List._∷_ 102 (List._∷_ 102 (List._∷_ 115 (List._∷_ 101 (List._∷_ 116 List.[])))))))))))))))))))))))
-      (Syntax.tcons (Syntax.tyInt Syntax.w64) Syntax.tnil)) (Syntax.tcons (Syntax.tyInt Syntax.w64) (Syntax.tcons (Syntax.tyInt Syntax.w64) Syntax.tnil)))) Syntax.tnil)
-      (Syntax.ttcons (Syntax.tcons (Syntax.tyStruct (List._∷_ 116 (List._∷_ 121 (List._∷_ 112 (List._∷_ 101 (List._∷_ 115 (List._∷_ 58 (List._∷_ 58 (List._∷_ 82 (List._∷_ 101
-      (List._∷_ 102 (List._∷_ 117 (List._∷_ 115 (List._∷_ 97 (List._∷_ 108 List.[])))))))))))))) (Syntax.tcons (Syntax.tyInt Syntax.w32) (Syntax.tcons (Syntax.tyInt Syntax.w64)
-      Syntax.tnil))) Syntax.tnil) Syntax.ttnil))) (Syntax.tcons (Syntax.tyArray (Syntax.tyStruct (List._∷_ 116 (List._∷_ 121 (List._∷_ 112 (List._∷_ 101 (List._∷_ 115 (List._∷_ 58
-      (List._∷_ 58 (List._∷_ 84 (List._∷_ 105 (List._∷_ 108 (List._∷_ 101 (List._∷_ 80 (List._∷_ 97 (List._∷_ 114 (List._∷_ 116 (List._∷_ 69 (List._∷_ 110 (List._∷_ 116 (List._∷_ 114
-      (List._∷_ 121 List.[])))))))))))))))))))) (Syntax.tcons (Syntax.tyInt Syntax.w16) (Syntax.tcons (Syntax.tyStruct (List._∷_ 116 (List._∷_ 121 (List._∷_ 112 (List._∷_ 101
-      (List._∷_ 115 (List._∷_ 58 (List._∷_ 58 (List._∷_ 67 (List._∷_ 111 (List._∷_ 100 (List._∷_ 101 (List._∷_ 115 (List._∷_ 116 (List._∷_ 114 (List._∷_ 101 (List._∷_ 97 (List._∷_
-      109 (List._∷_ 79 (List._∷_ 102 (List._∷_ 102 (List._∷_ 115 (List._∷_ 101 (List._∷_ 116 List.[]))))))))))))))))))))))) (Syntax.tcons (Syntax.tyInt Syntax.w64) Syntax.tnil))
-      (Syntax.tcons (Syntax.tyInt Syntax.w64) Syntax.tnil)))) 2048) Syntax.tnil))),
-) (List._∷_ (
-  1,
-  Rows'.sslice (Referent.rtF (Referent.fInt Syntax.w8)) (Syntax.tyRef (Syntax.named 0)
-      Syntax.imm (Syntax.tyInt Syntax.w8)) 0,
-) (List._∷_ (
-  2,
-  Relend.mslice-owed (Referent.rtF (Referent.fInt Syntax.w8)) (Syntax.tyRef (Syntax.named 1) Syntax.mut (Syntax.tyInt
-      Syntax.w8)) 1 3 Row.off,
-) (List._∷_ (3, Rows.arr-owed LentTilePartEntry.row 2048 2) (List._∷_ (
-  4,
-  Rows'.any-gone (Syntax.tyEnum (List._∷_ 104 (List._∷_ 101 (List._∷_ 97
-      (List._∷_ 100 (List._∷_ 101 (List._∷_ 114 (List._∷_ 58 (List._∷_ 58 (List._∷_ 112 (List._∷_ 97 (List._∷_ 114 (List._∷_ 115 (List._∷_ 101 (List._∷_ 58 (List._∷_ 58 (List._∷_ 77
-      (List._∷_ 97 (List._∷_ 105 (List._∷_ 110 (List._∷_ 72 (List._∷_ 101 (List._∷_ 97 (List._∷_ 100 (List._∷_ 101 (List._∷_ 114 List.[]))))))))))))))))))))))))) (Syntax.ttcons
-      (Syntax.tcons (Syntax.tyStruct (List._∷_ 104 (List._∷_ 101 (List._∷_ 97 (List._∷_ 100 (List._∷_ 101 (List._∷_ 114 (List._∷_ 58 (List._∷_ 58 (List._∷_ 112 (List._∷_ 97 (List._∷_
-      114 (List._∷_ 115 (List._∷_ 101 (List._∷_ 58 (List._∷_ 58 (List._∷_ 77 (List._∷_ 97 (List._∷_ 105 (List._∷_ 110 (List._∷_ 72 (List._∷_ 101 (List._∷_ 97 (List._∷_ 100 (List._∷_
-      101 (List._∷_ 114 (List._∷_ 73 (List._∷_ 110 (List._∷_ 102 (List._∷_ 111 List.[]))))))))))))))))))))))))))))) (Syntax.tcons (Syntax.tyStruct (List._∷_ 116 (List._∷_ 121
+      (Syntax.tcons (Syntax.tyInt Syntax.w64) Syntax.tnil)) (Syntax.tcons (Syntax.tyInt Syntax.w64) (Syntax.tcons (Syntax.tyInt Syntax.w64) (Syntax.tcons (Syntax.tyInt Syntax.w64)
+      Syntax.tnil))))) Syntax.tnil) (Syntax.ttcons (Syntax.tcons (Syntax.tyStruct (List._∷_ 116 (List._∷_ 121 (List._∷_ 112 (List._∷_ 101 (List._∷_ 115 (List._∷_ 58 (List._∷_ 58
+      (List._∷_ 82 (List._∷_ 101 (List._∷_ 102 (List._∷_ 117 (List._∷_ 115 (List._∷_ 97 (List._∷_ 108 List.[])))))))))))))) (Syntax.tcons (Syntax.tyInt Syntax.w32) (Syntax.tcons
+      (Syntax.tyInt Syntax.w64) Syntax.tnil))) Syntax.tnil) Syntax.ttnil))) (Syntax.tcons (Syntax.tyArray (Syntax.tyStruct (List._∷_ 116 (List._∷_ 121 (List._∷_ 112 (List._∷_ 101
+      (List._∷_ 115 (List._∷_ 58 (List._∷_ 58 (List._∷_ 84 (List._∷_ 105 (List._∷_ 108 (List._∷_ 101 (List._∷_ 80 (List._∷_ 97 (List._∷_ 114 (List._∷_ 116 (List._∷_ 69 (List._∷_ 110
+      (List._∷_ 116 (List._∷_ 114 (List._∷_ 121 List.[])))))))))))))))))))) (Syntax.tcons (Syntax.tyInt Syntax.w16) (Syntax.tcons (Syntax.tyStruct (List._∷_ 116 (List._∷_ 121
       (List._∷_ 112 (List._∷_ 101 (List._∷_ 115 (List._∷_ 58 (List._∷_ 58 (List._∷_ 67 (List._∷_ 111 (List._∷_ 100 (List._∷_ 101 (List._∷_ 115 (List._∷_ 116 (List._∷_ 114 (List._∷_
       101 (List._∷_ 97 (List._∷_ 109 (List._∷_ 79 (List._∷_ 102 (List._∷_ 102 (List._∷_ 115 (List._∷_ 101 (List._∷_ 116 List.[]))))))))))))))))))))))) (Syntax.tcons (Syntax.tyInt
-      Syntax.w64) Syntax.tnil)) (Syntax.tcons (Syntax.tyInt Syntax.w64) (Syntax.tcons (Syntax.tyInt Syntax.w64) Syntax.tnil)))) Syntax.tnil) (Syntax.ttcons (Syntax.tcons
-      (Syntax.tyStruct (List._∷_ 116 (List._∷_ 121 (List._∷_ 112 (List._∷_ 101 (List._∷_ 115 (List._∷_ 58 (List._∷_ 58 (List._∷_ 82 (List._∷_ 101 (List._∷_ 102 (List._∷_ 117
-      (List._∷_ 115 (List._∷_ 97 (List._∷_ 108 List.[])))))))))))))) (Syntax.tcons (Syntax.tyInt Syntax.w32) (Syntax.tcons (Syntax.tyInt Syntax.w64) Syntax.tnil))) Syntax.tnil)
-      Syntax.ttnil))),
+      Syntax.w64) Syntax.tnil)) (Syntax.tcons (Syntax.tyInt Syntax.w64) Syntax.tnil)))) 2048) Syntax.tnil))),
+) (List._∷_ (
+  1,
+  Rows'.sslice (Referent.rtF (Referent.fInt Syntax.w8))
+      (Syntax.tyRef (Syntax.named 0) Syntax.imm (Syntax.tyInt Syntax.w8)) 0,
+) (List._∷_ (
+  2,
+  Relend.mslice-owed (Referent.rtF (Referent.fInt Syntax.w8)) (Syntax.tyRef (Syntax.named 1)
+      Syntax.mut (Syntax.tyInt Syntax.w8)) 1 3 Row.off,
+) (List._∷_ (3, Rows.arr-owed LentTilePartEntry.row 2048 2) (List._∷_ (
+  4,
+  Rows'.any-gone (Syntax.tyEnum (List._∷_ 104 (List._∷_
+      101 (List._∷_ 97 (List._∷_ 100 (List._∷_ 101 (List._∷_ 114 (List._∷_ 58 (List._∷_ 58 (List._∷_ 112 (List._∷_ 97 (List._∷_ 114 (List._∷_ 115 (List._∷_ 101 (List._∷_ 58 (List._∷_
+      58 (List._∷_ 77 (List._∷_ 97 (List._∷_ 105 (List._∷_ 110 (List._∷_ 72 (List._∷_ 101 (List._∷_ 97 (List._∷_ 100 (List._∷_ 101 (List._∷_ 114 List.[])))))))))))))))))))))))))
+      (Syntax.ttcons (Syntax.tcons (Syntax.tyStruct (List._∷_ 104 (List._∷_ 101 (List._∷_ 97 (List._∷_ 100 (List._∷_ 101 (List._∷_ 114 (List._∷_ 58 (List._∷_ 58 (List._∷_ 112
+      (List._∷_ 97 (List._∷_ 114 (List._∷_ 115 (List._∷_ 101 (List._∷_ 58 (List._∷_ 58 (List._∷_ 77 (List._∷_ 97 (List._∷_ 105 (List._∷_ 110 (List._∷_ 72 (List._∷_ 101 (List._∷_ 97
+      (List._∷_ 100 (List._∷_ 101 (List._∷_ 114 (List._∷_ 73 (List._∷_ 110 (List._∷_ 102 (List._∷_ 111 List.[]))))))))))))))))))))))))))))) (Syntax.tcons (Syntax.tyStruct (List._∷_
+      116 (List._∷_ 121 (List._∷_ 112 (List._∷_ 101 (List._∷_ 115 (List._∷_ 58 (List._∷_ 58 (List._∷_ 67 (List._∷_ 111 (List._∷_ 100 (List._∷_ 101 (List._∷_ 115 (List._∷_ 116
+      (List._∷_ 114 (List._∷_ 101 (List._∷_ 97 (List._∷_ 109 (List._∷_ 79 (List._∷_ 102 (List._∷_ 102 (List._∷_ 115 (List._∷_ 101 (List._∷_ 116 List.[])))))))))))))))))))))))
+      (Syntax.tcons (Syntax.tyInt Syntax.w64) Syntax.tnil)) (Syntax.tcons (Syntax.tyInt Syntax.w64) (Syntax.tcons (Syntax.tyInt Syntax.w64) (Syntax.tcons (Syntax.tyInt Syntax.w64)
+      Syntax.tnil))))) Syntax.tnil) (Syntax.ttcons (Syntax.tcons (Syntax.tyStruct (List._∷_ 116 (List._∷_ 121 (List._∷_ 112 (List._∷_ 101 (List._∷_ 115 (List._∷_ 58 (List._∷_ 58
+      (List._∷_ 82 (List._∷_ 101 (List._∷_ 102 (List._∷_ 117 (List._∷_ 115 (List._∷_ 97 (List._∷_ 108 List.[])))))))))))))) (Syntax.tcons (Syntax.tyInt Syntax.w32) (Syntax.tcons
+      (Syntax.tyInt Syntax.w64) Syntax.tnil))) Syntax.tnil) Syntax.ttnil))),
 ) (List._∷_ (5, Rows'.any-gone (Syntax.tyArray LentTilePartEntry.spelled 2048)) (List._∷_ (
   6,
-  Rows'.any-gone (Syntax.tyRef Syntax.erased Syntax.mut
-      (Syntax.tyArray LentTilePartEntry.pointee 2048)),
-) (List._∷_ (7, Mut.mslice LentTilePartEntry.row (Syntax.tyRef Syntax.erased Syntax.mut LentTilePartEntry.pointee) 2) (List._∷_
-    (8, Rows'.any-gone (Syntax.tyRef Syntax.erased Syntax.mut (Syntax.tyInt Syntax.w8))) (List._∷_ (
-      9,
-      Mut.mslice (Referent.rtF (Referent.fInt Syntax.w8)) (Syntax.tyRef
-          Syntax.erased Syntax.mut (Syntax.tyInt Syntax.w8)) 3,
-    ) List.[])))))))))
+  Rows'.any-gone (Syntax.tyRef Syntax.erased Syntax.mut (Syntax.tyArray LentTilePartEntry.pointee 2048)),
+) (List._∷_ (
+  7,
+  Mut.mslice LentTilePartEntry.row (Syntax.tyRef
+      Syntax.erased Syntax.mut LentTilePartEntry.pointee) 2,
+) (List._∷_ (8, Rows'.any-gone (Syntax.tyRef Syntax.erased Syntax.mut (Syntax.tyInt Syntax.w8))) (List._∷_ (
+  9,
+  Mut.mslice
+      (Referent.rtF (Referent.fInt Syntax.w8)) (Syntax.tyRef Syntax.erased Syntax.mut (Syntax.tyInt Syntax.w8)) 3,
+) List.[])))))))))
 
 abbrev pub t9 : List.List Row.Entry
 t9 = List._∷_ (
@@ -754,33 +772,37 @@ t9 = List._∷_ (
       (List._∷_ 100 (List._∷_ 101 (List._∷_ 114 (List._∷_ 73 (List._∷_ 110 (List._∷_ 102 (List._∷_ 111 List.[]))))))))))))))))))))))))))))) (Syntax.tcons (Syntax.tyStruct (List._∷_
       116 (List._∷_ 121 (List._∷_ 112 (List._∷_ 101 (List._∷_ 115 (List._∷_ 58 (List._∷_ 58 (List._∷_ 67 (List._∷_ 111 (List._∷_ 100 (List._∷_ 101 (List._∷_ 115 (List._∷_ 116
       (List._∷_ 114 (List._∷_ 101 (List._∷_ 97 (List._∷_ 109 (List._∷_ 79 (List._∷_ 102 (List._∷_ 102 (List._∷_ 115 (List._∷_ 101 (List._∷_ 116 List.[])))))))))))))))))))))))
-      (Syntax.tcons (Syntax.tyInt Syntax.w64) Syntax.tnil)) (Syntax.tcons (Syntax.tyInt Syntax.w64) (Syntax.tcons (Syntax.tyInt Syntax.w64) Syntax.tnil)))) Syntax.tnil)
-      (Syntax.ttcons (Syntax.tcons (Syntax.tyStruct (List._∷_ 116 (List._∷_ 121 (List._∷_ 112 (List._∷_ 101 (List._∷_ 115 (List._∷_ 58 (List._∷_ 58 (List._∷_ 82 (List._∷_ 101
-      (List._∷_ 102 (List._∷_ 117 (List._∷_ 115 (List._∷_ 97 (List._∷_ 108 List.[])))))))))))))) (Syntax.tcons (Syntax.tyInt Syntax.w32) (Syntax.tcons (Syntax.tyInt Syntax.w64)
-      Syntax.tnil))) Syntax.tnil) Syntax.ttnil))) (Syntax.tcons (Syntax.tyArray (Syntax.tyStruct (List._∷_ 116 (List._∷_ 121 (List._∷_ 112 (List._∷_ 101 (List._∷_ 115 (List._∷_ 58
-      (List._∷_ 58 (List._∷_ 84 (List._∷_ 105 (List._∷_ 108 (List._∷_ 101 (List._∷_ 80 (List._∷_ 97 (List._∷_ 114 (List._∷_ 116 (List._∷_ 69 (List._∷_ 110 (List._∷_ 116 (List._∷_ 114
-      (List._∷_ 121 List.[])))))))))))))))))))) (Syntax.tcons (Syntax.tyInt Syntax.w16) (Syntax.tcons (Syntax.tyStruct (List._∷_ 116 (List._∷_ 121 (List._∷_ 112 (List._∷_ 101
-      (List._∷_ 115 (List._∷_ 58 (List._∷_ 58 (List._∷_ 67 (List._∷_ 111 (List._∷_ 100 (List._∷_ 101 (List._∷_ 115 (List._∷_ 116 (List._∷_ 114 (List._∷_ 101 (List._∷_ 97 (List._∷_
-      109 (List._∷_ 79 (List._∷_ 102 (List._∷_ 102 (List._∷_ 115 (List._∷_ 101 (List._∷_ 116 List.[]))))))))))))))))))))))) (Syntax.tcons (Syntax.tyInt Syntax.w64) Syntax.tnil))
-      (Syntax.tcons (Syntax.tyInt Syntax.w64) Syntax.tnil)))) 2048) Syntax.tnil))),
+      (Syntax.tcons (Syntax.tyInt Syntax.w64) Syntax.tnil)) (Syntax.tcons (Syntax.tyInt Syntax.w64) (Syntax.tcons (Syntax.tyInt Syntax.w64) (Syntax.tcons (Syntax.tyInt Syntax.w64)
+      Syntax.tnil))))) Syntax.tnil) (Syntax.ttcons (Syntax.tcons (Syntax.tyStruct (List._∷_ 116 (List._∷_ 121 (List._∷_ 112 (List._∷_ 101 (List._∷_ 115 (List._∷_ 58 (List._∷_ 58
+      (List._∷_ 82 (List._∷_ 101 (List._∷_ 102 (List._∷_ 117 (List._∷_ 115 (List._∷_ 97 (List._∷_ 108 List.[])))))))))))))) (Syntax.tcons (Syntax.tyInt Syntax.w32) (Syntax.tcons
+      (Syntax.tyInt Syntax.w64) Syntax.tnil))) Syntax.tnil) Syntax.ttnil))) (Syntax.tcons (Syntax.tyArray (Syntax.tyStruct (List._∷_ 116 (List._∷_ 121 (List._∷_ 112 (List._∷_ 101
+      (List._∷_ 115 (List._∷_ 58 (List._∷_ 58 (List._∷_ 84 (List._∷_ 105 (List._∷_ 108 (List._∷_ 101 (List._∷_ 80 (List._∷_ 97 (List._∷_ 114 (List._∷_ 116 (List._∷_ 69 (List._∷_ 110
+      (List._∷_ 116 (List._∷_ 114 (List._∷_ 121 List.[])))))))))))))))))))) (Syntax.tcons (Syntax.tyInt Syntax.w16) (Syntax.tcons (Syntax.tyStruct (List._∷_ 116 (List._∷_ 121
+      (List._∷_ 112 (List._∷_ 101 (List._∷_ 115 (List._∷_ 58 (List._∷_ 58 (List._∷_ 67 (List._∷_ 111 (List._∷_ 100 (List._∷_ 101 (List._∷_ 115 (List._∷_ 116 (List._∷_ 114 (List._∷_
+      101 (List._∷_ 97 (List._∷_ 109 (List._∷_ 79 (List._∷_ 102 (List._∷_ 102 (List._∷_ 115 (List._∷_ 101 (List._∷_ 116 List.[]))))))))))))))))))))))) (Syntax.tcons (Syntax.tyInt
+      Syntax.w64) Syntax.tnil)) (Syntax.tcons (Syntax.tyInt Syntax.w64) Syntax.tnil)))) 2048) Syntax.tnil))),
 ) (List._∷_ (
   1,
-  Rows'.sslice (Referent.rtF (Referent.fInt Syntax.w8)) (Syntax.tyRef (Syntax.named 0)
-      Syntax.imm (Syntax.tyInt Syntax.w8)) 0,
+  Rows'.sslice (Referent.rtF (Referent.fInt Syntax.w8))
+      (Syntax.tyRef (Syntax.named 0) Syntax.imm (Syntax.tyInt Syntax.w8)) 0,
 ) (List._∷_ (
   2,
-  Relend.mslice-owed (Referent.rtF (Referent.fInt Syntax.w8)) (Syntax.tyRef (Syntax.named 1) Syntax.mut (Syntax.tyInt
-      Syntax.w8)) 1 3 Row.off,
-) (List._∷_ (3, Rows.arr-owed LentTilePartEntry.row 2048 2) (List._∷_ (4, Rows'.whole (Declared.row MainHeader.the-type)) (List._∷_ (
-  5,
-  Rows'.any-gone
-      (Syntax.tyArray LentTilePartEntry.spelled 2048),
-) (List._∷_ (6, Rows'.any-gone (Syntax.tyRef Syntax.erased Syntax.mut (Syntax.tyArray LentTilePartEntry.pointee 2048))) (List._∷_
-    (7, Mut.msleft LentTilePartEntry.row (Syntax.tyRef Syntax.erased Syntax.mut LentTilePartEntry.pointee)) (List._∷_ (
+  Relend.mslice-owed (Referent.rtF (Referent.fInt Syntax.w8)) (Syntax.tyRef (Syntax.named 1)
+      Syntax.mut (Syntax.tyInt Syntax.w8)) 1 3 Row.off,
+) (List._∷_ (3, Rows.arr-owed LentTilePartEntry.row 2048 2) (List._∷_ (4, Rows'.whole (Declared.row MainHeader.the-type))
+    (List._∷_ (5, Rows'.any-gone (Syntax.tyArray LentTilePartEntry.spelled 2048)) (List._∷_ (
+      6,
+      Rows'.any-gone (Syntax.tyRef Syntax.erased Syntax.mut (Syntax.tyArray
+          LentTilePartEntry.pointee 2048)),
+    ) (List._∷_ (7, Mut.msleft LentTilePartEntry.row (Syntax.tyRef Syntax.erased Syntax.mut LentTilePartEntry.pointee)) (List._∷_ (
       8,
-      Rows'.any-gone (Syntax.tyRef Syntax.erased Syntax.mut
+      Rows'.any-gone
+          (Syntax.tyRef Syntax.erased Syntax.mut (Syntax.tyInt Syntax.w8)),
+    ) (List._∷_ (
+      9,
+      Mut.msleft (Referent.rtF (Referent.fInt Syntax.w8)) (Syntax.tyRef Syntax.erased Syntax.mut
           (Syntax.tyInt Syntax.w8)),
-    ) (List._∷_ (9, Mut.msleft (Referent.rtF (Referent.fInt Syntax.w8)) (Syntax.tyRef Syntax.erased Syntax.mut (Syntax.tyInt Syntax.w8))) List.[])))))))))
+    ) List.[])))))))))
 
 abbrev pub t10 : List.List Row.Entry
 t10 = List._∷_ (
@@ -795,36 +817,37 @@ t10 = List._∷_ (
       (List._∷_ 100 (List._∷_ 101 (List._∷_ 114 (List._∷_ 73 (List._∷_ 110 (List._∷_ 102 (List._∷_ 111 List.[]))))))))))))))))))))))))))))) (Syntax.tcons (Syntax.tyStruct (List._∷_
       116 (List._∷_ 121 (List._∷_ 112 (List._∷_ 101 (List._∷_ 115 (List._∷_ 58 (List._∷_ 58 (List._∷_ 67 (List._∷_ 111 (List._∷_ 100 (List._∷_ 101 (List._∷_ 115 (List._∷_ 116
       (List._∷_ 114 (List._∷_ 101 (List._∷_ 97 (List._∷_ 109 (List._∷_ 79 (List._∷_ 102 (List._∷_ 102 (List._∷_ 115 (List._∷_ 101 (List._∷_ 116 List.[])))))))))))))))))))))))
-      (Syntax.tcons (Syntax.tyInt Syntax.w64) Syntax.tnil)) (Syntax.tcons (Syntax.tyInt Syntax.w64) (Syntax.tcons (Syntax.tyInt Syntax.w64) Syntax.tnil)))) Syntax.tnil)
-      (Syntax.ttcons (Syntax.tcons (Syntax.tyStruct (List._∷_ 116 (List._∷_ 121 (List._∷_ 112 (List._∷_ 101 (List._∷_ 115 (List._∷_ 58 (List._∷_ 58 (List._∷_ 82 (List._∷_ 101
-      (List._∷_ 102 (List._∷_ 117 (List._∷_ 115 (List._∷_ 97 (List._∷_ 108 List.[])))))))))))))) (Syntax.tcons (Syntax.tyInt Syntax.w32) (Syntax.tcons (Syntax.tyInt Syntax.w64)
-      Syntax.tnil))) Syntax.tnil) Syntax.ttnil))) (Syntax.tcons (Syntax.tyArray (Syntax.tyStruct (List._∷_ 116 (List._∷_ 121 (List._∷_ 112 (List._∷_ 101 (List._∷_ 115 (List._∷_ 58
-      (List._∷_ 58 (List._∷_ 84 (List._∷_ 105 (List._∷_ 108 (List._∷_ 101 (List._∷_ 80 (List._∷_ 97 (List._∷_ 114 (List._∷_ 116 (List._∷_ 69 (List._∷_ 110 (List._∷_ 116 (List._∷_ 114
-      (List._∷_ 121 List.[])))))))))))))))))))) (Syntax.tcons (Syntax.tyInt Syntax.w16) (Syntax.tcons (Syntax.tyStruct (List._∷_ 116 (List._∷_ 121 (List._∷_ 112 (List._∷_ 101
-      (List._∷_ 115 (List._∷_ 58 (List._∷_ 58 (List._∷_ 67 (List._∷_ 111 (List._∷_ 100 (List._∷_ 101 (List._∷_ 115 (List._∷_ 116 (List._∷_ 114 (List._∷_ 101 (List._∷_ 97 (List._∷_
-      109 (List._∷_ 79 (List._∷_ 102 (List._∷_ 102 (List._∷_ 115 (List._∷_ 101 (List._∷_ 116 List.[]))))))))))))))))))))))) (Syntax.tcons (Syntax.tyInt Syntax.w64) Syntax.tnil))
-      (Syntax.tcons (Syntax.tyInt Syntax.w64) Syntax.tnil)))) 2048) Syntax.tnil))),
+      (Syntax.tcons (Syntax.tyInt Syntax.w64) Syntax.tnil)) (Syntax.tcons (Syntax.tyInt Syntax.w64) (Syntax.tcons (Syntax.tyInt Syntax.w64) (Syntax.tcons (Syntax.tyInt Syntax.w64)
+      Syntax.tnil))))) Syntax.tnil) (Syntax.ttcons (Syntax.tcons (Syntax.tyStruct (List._∷_ 116 (List._∷_ 121 (List._∷_ 112 (List._∷_ 101 (List._∷_ 115 (List._∷_ 58 (List._∷_ 58
+      (List._∷_ 82 (List._∷_ 101 (List._∷_ 102 (List._∷_ 117 (List._∷_ 115 (List._∷_ 97 (List._∷_ 108 List.[])))))))))))))) (Syntax.tcons (Syntax.tyInt Syntax.w32) (Syntax.tcons
+      (Syntax.tyInt Syntax.w64) Syntax.tnil))) Syntax.tnil) Syntax.ttnil))) (Syntax.tcons (Syntax.tyArray (Syntax.tyStruct (List._∷_ 116 (List._∷_ 121 (List._∷_ 112 (List._∷_ 101
+      (List._∷_ 115 (List._∷_ 58 (List._∷_ 58 (List._∷_ 84 (List._∷_ 105 (List._∷_ 108 (List._∷_ 101 (List._∷_ 80 (List._∷_ 97 (List._∷_ 114 (List._∷_ 116 (List._∷_ 69 (List._∷_ 110
+      (List._∷_ 116 (List._∷_ 114 (List._∷_ 121 List.[])))))))))))))))))))) (Syntax.tcons (Syntax.tyInt Syntax.w16) (Syntax.tcons (Syntax.tyStruct (List._∷_ 116 (List._∷_ 121
+      (List._∷_ 112 (List._∷_ 101 (List._∷_ 115 (List._∷_ 58 (List._∷_ 58 (List._∷_ 67 (List._∷_ 111 (List._∷_ 100 (List._∷_ 101 (List._∷_ 115 (List._∷_ 116 (List._∷_ 114 (List._∷_
+      101 (List._∷_ 97 (List._∷_ 109 (List._∷_ 79 (List._∷_ 102 (List._∷_ 102 (List._∷_ 115 (List._∷_ 101 (List._∷_ 116 List.[]))))))))))))))))))))))) (Syntax.tcons (Syntax.tyInt
+      Syntax.w64) Syntax.tnil)) (Syntax.tcons (Syntax.tyInt Syntax.w64) Syntax.tnil)))) 2048) Syntax.tnil))),
 ) (List._∷_ (
   1,
-  Rows'.sslice (Referent.rtF (Referent.fInt Syntax.w8)) (Syntax.tyRef (Syntax.named 0)
-      Syntax.imm (Syntax.tyInt Syntax.w8)) 0,
+  Rows'.sslice (Referent.rtF (Referent.fInt Syntax.w8))
+      (Syntax.tyRef (Syntax.named 0) Syntax.imm (Syntax.tyInt Syntax.w8)) 0,
 ) (List._∷_ (
   2,
-  Relend.mslice-owed (Referent.rtF (Referent.fInt Syntax.w8)) (Syntax.tyRef (Syntax.named 1) Syntax.mut (Syntax.tyInt
-      Syntax.w8)) 1 3 Row.off,
-) (List._∷_ (3, Rows.arrF LentTilePartEntry.row 2048 0) (List._∷_ (4, Rows'.whole (Declared.row MainHeader.the-type)) (List._∷_ (
-  5,
-  Rows'.any-gone
-      (Syntax.tyArray LentTilePartEntry.spelled 2048),
-) (List._∷_ (6, Rows'.any-gone (Syntax.tyRef Syntax.erased Syntax.mut (Syntax.tyArray LentTilePartEntry.pointee 2048))) (List._∷_ (
-  7,
-  Rows'.any-gone (Syntax.tyStruct (List._∷_ 38 (List._∷_ 91 (List._∷_ 93 List.[]))) (Syntax.tcons (Syntax.tyRef Syntax.erased Syntax.mut LentTilePartEntry.pointee)
-      (Syntax.tcons (Syntax.tyInt Syntax.w64) Syntax.tnil))),
-) (List._∷_ (8, Rows'.any-gone (Syntax.tyRef Syntax.erased Syntax.mut (Syntax.tyInt Syntax.w8))) (List._∷_ (
-  9,
-  Mut.msleft
-      (Referent.rtF (Referent.fInt Syntax.w8)) (Syntax.tyRef Syntax.erased Syntax.mut (Syntax.tyInt Syntax.w8)),
-) List.[])))))))))
+  Relend.mslice-owed (Referent.rtF (Referent.fInt Syntax.w8)) (Syntax.tyRef (Syntax.named 1)
+      Syntax.mut (Syntax.tyInt Syntax.w8)) 1 3 Row.off,
+) (List._∷_ (3, Rows.arrF LentTilePartEntry.row 2048 0) (List._∷_ (4, Rows'.whole (Declared.row MainHeader.the-type)) (List._∷_
+    (5, Rows'.any-gone (Syntax.tyArray LentTilePartEntry.spelled 2048)) (List._∷_ (
+      6,
+      Rows'.any-gone (Syntax.tyRef Syntax.erased Syntax.mut (Syntax.tyArray
+          LentTilePartEntry.pointee 2048)),
+    ) (List._∷_ (
+      7,
+      Rows'.any-gone (Syntax.tyStruct (List._∷_ 38 (List._∷_ 91 (List._∷_ 93 List.[]))) (Syntax.tcons (Syntax.tyRef Syntax.erased
+          Syntax.mut LentTilePartEntry.pointee) (Syntax.tcons (Syntax.tyInt Syntax.w64) Syntax.tnil))),
+    ) (List._∷_ (
+      8,
+      Rows'.any-gone (Syntax.tyRef Syntax.erased Syntax.mut (Syntax.tyInt
+          Syntax.w8)),
+    ) (List._∷_ (9, Mut.msleft (Referent.rtF (Referent.fInt Syntax.w8)) (Syntax.tyRef Syntax.erased Syntax.mut (Syntax.tyInt Syntax.w8))) List.[])))))))))
 
 abbrev pub t11 : List.List Row.Entry
 t11 = List._∷_ (
@@ -839,34 +862,43 @@ t11 = List._∷_ (
       (List._∷_ 100 (List._∷_ 101 (List._∷_ 114 (List._∷_ 73 (List._∷_ 110 (List._∷_ 102 (List._∷_ 111 List.[]))))))))))))))))))))))))))))) (Syntax.tcons (Syntax.tyStruct (List._∷_
       116 (List._∷_ 121 (List._∷_ 112 (List._∷_ 101 (List._∷_ 115 (List._∷_ 58 (List._∷_ 58 (List._∷_ 67 (List._∷_ 111 (List._∷_ 100 (List._∷_ 101 (List._∷_ 115 (List._∷_ 116
       (List._∷_ 114 (List._∷_ 101 (List._∷_ 97 (List._∷_ 109 (List._∷_ 79 (List._∷_ 102 (List._∷_ 102 (List._∷_ 115 (List._∷_ 101 (List._∷_ 116 List.[])))))))))))))))))))))))
-      (Syntax.tcons (Syntax.tyInt Syntax.w64) Syntax.tnil)) (Syntax.tcons (Syntax.tyInt Syntax.w64) (Syntax.tcons (Syntax.tyInt Syntax.w64) Syntax.tnil)))) Syntax.tnil)
-      (Syntax.ttcons (Syntax.tcons (Syntax.tyStruct (List._∷_ 116 (List._∷_ 121 (List._∷_ 112 (List._∷_ 101 (List._∷_ 115 (List._∷_ 58 (List._∷_ 58 (List._∷_ 82 (List._∷_ 101
-      (List._∷_ 102 (List._∷_ 117 (List._∷_ 115 (List._∷_ 97 (List._∷_ 108 List.[])))))))))))))) (Syntax.tcons (Syntax.tyInt Syntax.w32) (Syntax.tcons (Syntax.tyInt Syntax.w64)
-      Syntax.tnil))) Syntax.tnil) Syntax.ttnil))) (Syntax.tcons (Syntax.tyArray (Syntax.tyStruct (List._∷_ 116 (List._∷_ 121 (List._∷_ 112 (List._∷_ 101 (List._∷_ 115 (List._∷_ 58
-      (List._∷_ 58 (List._∷_ 84 (List._∷_ 105 (List._∷_ 108 (List._∷_ 101 (List._∷_ 80 (List._∷_ 97 (List._∷_ 114 (List._∷_ 116 (List._∷_ 69 (List._∷_ 110 (List._∷_ 116 (List._∷_ 114
-      (List._∷_ 121 List.[])))))))))))))))))))) (Syntax.tcons (Syntax.tyInt Syntax.w16) (Syntax.tcons (Syntax.tyStruct (List._∷_ 116 (List._∷_ 121 (List._∷_ 112 (List._∷_ 101
-      (List._∷_ 115 (List._∷_ 58 (List._∷_ 58 (List._∷_ 67 (List._∷_ 111 (List._∷_ 100 (List._∷_ 101 (List._∷_ 115 (List._∷_ 116 (List._∷_ 114 (List._∷_ 101 (List._∷_ 97 (List._∷_
-      109 (List._∷_ 79 (List._∷_ 102 (List._∷_ 102 (List._∷_ 115 (List._∷_ 101 (List._∷_ 116 List.[]))))))))))))))))))))))) (Syntax.tcons (Syntax.tyInt Syntax.w64) Syntax.tnil))
-      (Syntax.tcons (Syntax.tyInt Syntax.w64) Syntax.tnil)))) 2048) Syntax.tnil))),
+      (Syntax.tcons (Syntax.tyInt Syntax.w64) Syntax.tnil)) (Syntax.tcons (Syntax.tyInt Syntax.w64) (Syntax.tcons (Syntax.tyInt Syntax.w64) (Syntax.tcons (Syntax.tyInt Syntax.w64)
+      Syntax.tnil))))) Syntax.tnil) (Syntax.ttcons (Syntax.tcons (Syntax.tyStruct (List._∷_ 116 (List._∷_ 121 (List._∷_ 112 (List._∷_ 101 (List._∷_ 115 (List._∷_ 58 (List._∷_ 58
+      (List._∷_ 82 (List._∷_ 101 (List._∷_ 102 (List._∷_ 117 (List._∷_ 115 (List._∷_ 97 (List._∷_ 108 List.[])))))))))))))) (Syntax.tcons (Syntax.tyInt Syntax.w32) (Syntax.tcons
+      (Syntax.tyInt Syntax.w64) Syntax.tnil))) Syntax.tnil) Syntax.ttnil))) (Syntax.tcons (Syntax.tyArray (Syntax.tyStruct (List._∷_ 116 (List._∷_ 121 (List._∷_ 112 (List._∷_ 101
+      (List._∷_ 115 (List._∷_ 58 (List._∷_ 58 (List._∷_ 84 (List._∷_ 105 (List._∷_ 108 (List._∷_ 101 (List._∷_ 80 (List._∷_ 97 (List._∷_ 114 (List._∷_ 116 (List._∷_ 69 (List._∷_ 110
+      (List._∷_ 116 (List._∷_ 114 (List._∷_ 121 List.[])))))))))))))))))))) (Syntax.tcons (Syntax.tyInt Syntax.w16) (Syntax.tcons (Syntax.tyStruct (List._∷_ 116 (List._∷_ 121
+      (List._∷_ 112 (List._∷_ 101 (List._∷_ 115 (List._∷_ 58 (List._∷_ 58 (List._∷_ 67 (List._∷_ 111 (List._∷_ 100 (List._∷_ 101 (List._∷_ 115 (List._∷_ 116 (List._∷_ 114 (List._∷_
+      101 (List._∷_ 97 (List._∷_ 109 (List._∷_ 79 (List._∷_ 102 (List._∷_ 102 (List._∷_ 115 (List._∷_ 101 (List._∷_ 116 List.[]))))))))))))))))))))))) (Syntax.tcons (Syntax.tyInt
+      Syntax.w64) Syntax.tnil)) (Syntax.tcons (Syntax.tyInt Syntax.w64) Syntax.tnil)))) 2048) Syntax.tnil))),
 ) (List._∷_ (
   1,
-  Rows'.sslice (Referent.rtF (Referent.fInt Syntax.w8)) (Syntax.tyRef (Syntax.named 0)
-      Syntax.imm (Syntax.tyInt Syntax.w8)) 0,
-) (List._∷_ (2, Mut.mslice (Referent.rtF (Referent.fInt Syntax.w8)) (Syntax.tyRef (Syntax.named 1) Syntax.mut (Syntax.tyInt Syntax.w8)) 1)
-    (List._∷_ (3, Rows.arrF LentTilePartEntry.row 2048 0) (List._∷_ (4, Rows'.whole (Declared.row MainHeader.the-type)) (List._∷_ (
-      5,
-      Rows'.any-gone (Syntax.tyArray
-          LentTilePartEntry.spelled 2048),
-    ) (List._∷_ (6, Rows'.any-gone (Syntax.tyRef Syntax.erased Syntax.mut (Syntax.tyArray LentTilePartEntry.pointee 2048))) (List._∷_ (
-      7,
-      Rows'.any-gone (Syntax.tyStruct (List._∷_ 38 (List._∷_ 91 (List._∷_ 93 List.[]))) (Syntax.tcons (Syntax.tyRef Syntax.erased Syntax.mut LentTilePartEntry.pointee) (Syntax.tcons
-          (Syntax.tyInt Syntax.w64) Syntax.tnil))),
-    ) (List._∷_ (8, Rows'.any-gone (Syntax.tyRef Syntax.erased Syntax.mut (Syntax.tyInt Syntax.w8))) (List._∷_ (
-      9,
-      Rows'.any-gone
-          (Syntax.tyStruct (List._∷_ 38 (List._∷_ 91 (List._∷_ 93 List.[]))) (Syntax.tcons (Syntax.tyRef Syntax.erased Syntax.mut (Syntax.tyInt Syntax.w8)) (Syntax.tcons (Syntax.tyInt
-          Syntax.w64) Syntax.tnil))),
-    ) List.[])))))))))
+  Rows'.sslice (Referent.rtF (Referent.fInt Syntax.w8))
+      (Syntax.tyRef (Syntax.named 0) Syntax.imm (Syntax.tyInt Syntax.w8)) 0,
+) (List._∷_ (
+  2,
+  Mut.mslice (Referent.rtF (Referent.fInt Syntax.w8)) (Syntax.tyRef (Syntax.named 1)
+      Syntax.mut (Syntax.tyInt Syntax.w8)) 1,
+) (List._∷_ (3, Rows.arrF LentTilePartEntry.row 2048 0) (List._∷_ (4, Rows'.whole (Declared.row MainHeader.the-type)) (List._∷_ (
+  5,
+  Rows'.any-gone (Syntax.tyArray LentTilePartEntry.spelled 2048),
+) (List._∷_ (
+  6,
+  Rows'.any-gone (Syntax.tyRef Syntax.erased Syntax.mut (Syntax.tyArray LentTilePartEntry.pointee
+      2048)),
+) (List._∷_ (
+  7,
+  Rows'.any-gone (Syntax.tyStruct (List._∷_ 38 (List._∷_ 91 (List._∷_ 93 List.[]))) (Syntax.tcons (Syntax.tyRef Syntax.erased Syntax.mut
+      LentTilePartEntry.pointee) (Syntax.tcons (Syntax.tyInt Syntax.w64) Syntax.tnil))),
+) (List._∷_ (
+  8,
+  Rows'.any-gone (Syntax.tyRef Syntax.erased Syntax.mut (Syntax.tyInt
+      Syntax.w8)),
+) (List._∷_ (
+  9,
+  Rows'.any-gone (Syntax.tyStruct (List._∷_ 38 (List._∷_ 91 (List._∷_ 93 List.[]))) (Syntax.tcons (Syntax.tyRef Syntax.erased Syntax.mut (Syntax.tyInt
+      Syntax.w8)) (Syntax.tcons (Syntax.tyInt Syntax.w64) Syntax.tnil))),
+) List.[])))))))))
 
 abbrev pub t12 : List.List Row.Entry
 t12 = List._∷_ (
@@ -881,31 +913,36 @@ t12 = List._∷_ (
       (List._∷_ 100 (List._∷_ 101 (List._∷_ 114 (List._∷_ 73 (List._∷_ 110 (List._∷_ 102 (List._∷_ 111 List.[]))))))))))))))))))))))))))))) (Syntax.tcons (Syntax.tyStruct (List._∷_
       116 (List._∷_ 121 (List._∷_ 112 (List._∷_ 101 (List._∷_ 115 (List._∷_ 58 (List._∷_ 58 (List._∷_ 67 (List._∷_ 111 (List._∷_ 100 (List._∷_ 101 (List._∷_ 115 (List._∷_ 116
       (List._∷_ 114 (List._∷_ 101 (List._∷_ 97 (List._∷_ 109 (List._∷_ 79 (List._∷_ 102 (List._∷_ 102 (List._∷_ 115 (List._∷_ 101 (List._∷_ 116 List.[])))))))))))))))))))))))
-      (Syntax.tcons (Syntax.tyInt Syntax.w64) Syntax.tnil)) (Syntax.tcons (Syntax.tyInt Syntax.w64) (Syntax.tcons (Syntax.tyInt Syntax.w64) Syntax.tnil)))) Syntax.tnil)
-      (Syntax.ttcons (Syntax.tcons (Syntax.tyStruct (List._∷_ 116 (List._∷_ 121 (List._∷_ 112 (List._∷_ 101 (List._∷_ 115 (List._∷_ 58 (List._∷_ 58 (List._∷_ 82 (List._∷_ 101
-      (List._∷_ 102 (List._∷_ 117 (List._∷_ 115 (List._∷_ 97 (List._∷_ 108 List.[])))))))))))))) (Syntax.tcons (Syntax.tyInt Syntax.w32) (Syntax.tcons (Syntax.tyInt Syntax.w64)
-      Syntax.tnil))) Syntax.tnil) Syntax.ttnil))) (Syntax.tcons (Syntax.tyArray (Syntax.tyStruct (List._∷_ 116 (List._∷_ 121 (List._∷_ 112 (List._∷_ 101 (List._∷_ 115 (List._∷_ 58
-      (List._∷_ 58 (List._∷_ 84 (List._∷_ 105 (List._∷_ 108 (List._∷_ 101 (List._∷_ 80 (List._∷_ 97 (List._∷_ 114 (List._∷_ 116 (List._∷_ 69 (List._∷_ 110 (List._∷_ 116 (List._∷_ 114
-      (List._∷_ 121 List.[])))))))))))))))))))) (Syntax.tcons (Syntax.tyInt Syntax.w16) (Syntax.tcons (Syntax.tyStruct (List._∷_ 116 (List._∷_ 121 (List._∷_ 112 (List._∷_ 101
-      (List._∷_ 115 (List._∷_ 58 (List._∷_ 58 (List._∷_ 67 (List._∷_ 111 (List._∷_ 100 (List._∷_ 101 (List._∷_ 115 (List._∷_ 116 (List._∷_ 114 (List._∷_ 101 (List._∷_ 97 (List._∷_
-      109 (List._∷_ 79 (List._∷_ 102 (List._∷_ 102 (List._∷_ 115 (List._∷_ 101 (List._∷_ 116 List.[]))))))))))))))))))))))) (Syntax.tcons (Syntax.tyInt Syntax.w64) Syntax.tnil))
-      (Syntax.tcons (Syntax.tyInt Syntax.w64) Syntax.tnil)))) 2048) Syntax.tnil))),
+      (Syntax.tcons (Syntax.tyInt Syntax.w64) Syntax.tnil)) (Syntax.tcons (Syntax.tyInt Syntax.w64) (Syntax.tcons (Syntax.tyInt Syntax.w64) (Syntax.tcons (Syntax.tyInt Syntax.w64)
+      Syntax.tnil))))) Syntax.tnil) (Syntax.ttcons (Syntax.tcons (Syntax.tyStruct (List._∷_ 116 (List._∷_ 121 (List._∷_ 112 (List._∷_ 101 (List._∷_ 115 (List._∷_ 58 (List._∷_ 58
+      (List._∷_ 82 (List._∷_ 101 (List._∷_ 102 (List._∷_ 117 (List._∷_ 115 (List._∷_ 97 (List._∷_ 108 List.[])))))))))))))) (Syntax.tcons (Syntax.tyInt Syntax.w32) (Syntax.tcons
+      (Syntax.tyInt Syntax.w64) Syntax.tnil))) Syntax.tnil) Syntax.ttnil))) (Syntax.tcons (Syntax.tyArray (Syntax.tyStruct (List._∷_ 116 (List._∷_ 121 (List._∷_ 112 (List._∷_ 101
+      (List._∷_ 115 (List._∷_ 58 (List._∷_ 58 (List._∷_ 84 (List._∷_ 105 (List._∷_ 108 (List._∷_ 101 (List._∷_ 80 (List._∷_ 97 (List._∷_ 114 (List._∷_ 116 (List._∷_ 69 (List._∷_ 110
+      (List._∷_ 116 (List._∷_ 114 (List._∷_ 121 List.[])))))))))))))))))))) (Syntax.tcons (Syntax.tyInt Syntax.w16) (Syntax.tcons (Syntax.tyStruct (List._∷_ 116 (List._∷_ 121
+      (List._∷_ 112 (List._∷_ 101 (List._∷_ 115 (List._∷_ 58 (List._∷_ 58 (List._∷_ 67 (List._∷_ 111 (List._∷_ 100 (List._∷_ 101 (List._∷_ 115 (List._∷_ 116 (List._∷_ 114 (List._∷_
+      101 (List._∷_ 97 (List._∷_ 109 (List._∷_ 79 (List._∷_ 102 (List._∷_ 102 (List._∷_ 115 (List._∷_ 101 (List._∷_ 116 List.[]))))))))))))))))))))))) (Syntax.tcons (Syntax.tyInt
+      Syntax.w64) Syntax.tnil)) (Syntax.tcons (Syntax.tyInt Syntax.w64) Syntax.tnil)))) 2048) Syntax.tnil))),
 ) (List._∷_ (
   1,
-  Rows'.sslice (Referent.rtF (Referent.fInt Syntax.w8)) (Syntax.tyRef (Syntax.named 0)
-      Syntax.imm (Syntax.tyInt Syntax.w8)) 0,
-) (List._∷_ (2, Mut.mslice (Referent.rtF (Referent.fInt Syntax.w8)) (Syntax.tyRef (Syntax.named 1) Syntax.mut (Syntax.tyInt Syntax.w8)) 1)
-    (List._∷_ (3, Rows.arrF LentTilePartEntry.row 2048 0) (List._∷_ (4, Rows'.whole (Declared.row MainHeader.the-type)) (List._∷_ (5, Rows.arrF LentTilePartEntry.row 2048 0)
-    (List._∷_ (6, Rows'.any-gone (Syntax.tyRef Syntax.erased Syntax.mut (Syntax.tyArray LentTilePartEntry.pointee 2048))) (List._∷_ (
-      7,
-      Rows'.any-gone (Syntax.tyStruct (List._∷_ 38
-          (List._∷_ 91 (List._∷_ 93 List.[]))) (Syntax.tcons (Syntax.tyRef Syntax.erased Syntax.mut LentTilePartEntry.pointee) (Syntax.tcons (Syntax.tyInt Syntax.w64) Syntax.tnil))),
-    )
-    (List._∷_ (8, Rows'.any-gone (Syntax.tyRef Syntax.erased Syntax.mut (Syntax.tyInt Syntax.w8))) (List._∷_ (
-      9,
-      Rows'.any-gone (Syntax.tyStruct (List._∷_ 38 (List._∷_ 91 (List._∷_
-          93 List.[]))) (Syntax.tcons (Syntax.tyRef Syntax.erased Syntax.mut (Syntax.tyInt Syntax.w8)) (Syntax.tcons (Syntax.tyInt Syntax.w64) Syntax.tnil))),
-    ) List.[])))))))))
+  Rows'.sslice (Referent.rtF (Referent.fInt Syntax.w8))
+      (Syntax.tyRef (Syntax.named 0) Syntax.imm (Syntax.tyInt Syntax.w8)) 0,
+) (List._∷_ (
+  2,
+  Mut.mslice (Referent.rtF (Referent.fInt Syntax.w8)) (Syntax.tyRef (Syntax.named 1)
+      Syntax.mut (Syntax.tyInt Syntax.w8)) 1,
+) (List._∷_ (3, Rows.arrF LentTilePartEntry.row 2048 0) (List._∷_ (4, Rows'.whole (Declared.row MainHeader.the-type)) (List._∷_ (
+  5,
+  Rows.arrF LentTilePartEntry.row 2048 0,
+) (List._∷_ (6, Rows'.any-gone (Syntax.tyRef Syntax.erased Syntax.mut (Syntax.tyArray LentTilePartEntry.pointee 2048))) (List._∷_ (
+  7,
+  Rows'.any-gone (Syntax.tyStruct (List._∷_ 38 (List._∷_ 91 (List._∷_ 93 List.[]))) (Syntax.tcons (Syntax.tyRef Syntax.erased Syntax.mut LentTilePartEntry.pointee) (Syntax.tcons
+      (Syntax.tyInt Syntax.w64) Syntax.tnil))),
+) (List._∷_ (8, Rows'.any-gone (Syntax.tyRef Syntax.erased Syntax.mut (Syntax.tyInt Syntax.w8))) (List._∷_ (
+  9,
+  Rows'.any-gone
+      (Syntax.tyStruct (List._∷_ 38 (List._∷_ 91 (List._∷_ 93 List.[]))) (Syntax.tcons (Syntax.tyRef Syntax.erased Syntax.mut (Syntax.tyInt Syntax.w8)) (Syntax.tcons (Syntax.tyInt
+      Syntax.w64) Syntax.tnil))),
+) List.[])))))))))
 
 abbrev pub t13 : List.List Row.Entry
 t13 = List._∷_ (
@@ -920,35 +957,44 @@ t13 = List._∷_ (
       (List._∷_ 100 (List._∷_ 101 (List._∷_ 114 (List._∷_ 73 (List._∷_ 110 (List._∷_ 102 (List._∷_ 111 List.[]))))))))))))))))))))))))))))) (Syntax.tcons (Syntax.tyStruct (List._∷_
       116 (List._∷_ 121 (List._∷_ 112 (List._∷_ 101 (List._∷_ 115 (List._∷_ 58 (List._∷_ 58 (List._∷_ 67 (List._∷_ 111 (List._∷_ 100 (List._∷_ 101 (List._∷_ 115 (List._∷_ 116
       (List._∷_ 114 (List._∷_ 101 (List._∷_ 97 (List._∷_ 109 (List._∷_ 79 (List._∷_ 102 (List._∷_ 102 (List._∷_ 115 (List._∷_ 101 (List._∷_ 116 List.[])))))))))))))))))))))))
-      (Syntax.tcons (Syntax.tyInt Syntax.w64) Syntax.tnil)) (Syntax.tcons (Syntax.tyInt Syntax.w64) (Syntax.tcons (Syntax.tyInt Syntax.w64) Syntax.tnil)))) Syntax.tnil)
-      (Syntax.ttcons (Syntax.tcons (Syntax.tyStruct (List._∷_ 116 (List._∷_ 121 (List._∷_ 112 (List._∷_ 101 (List._∷_ 115 (List._∷_ 58 (List._∷_ 58 (List._∷_ 82 (List._∷_ 101
-      (List._∷_ 102 (List._∷_ 117 (List._∷_ 115 (List._∷_ 97 (List._∷_ 108 List.[])))))))))))))) (Syntax.tcons (Syntax.tyInt Syntax.w32) (Syntax.tcons (Syntax.tyInt Syntax.w64)
-      Syntax.tnil))) Syntax.tnil) Syntax.ttnil))) (Syntax.tcons (Syntax.tyArray (Syntax.tyStruct (List._∷_ 116 (List._∷_ 121 (List._∷_ 112 (List._∷_ 101 (List._∷_ 115 (List._∷_ 58
-      (List._∷_ 58 (List._∷_ 84 (List._∷_ 105 (List._∷_ 108 (List._∷_ 101 (List._∷_ 80 (List._∷_ 97 (List._∷_ 114 (List._∷_ 116 (List._∷_ 69 (List._∷_ 110 (List._∷_ 116 (List._∷_ 114
-      (List._∷_ 121 List.[])))))))))))))))))))) (Syntax.tcons (Syntax.tyInt Syntax.w16) (Syntax.tcons (Syntax.tyStruct (List._∷_ 116 (List._∷_ 121 (List._∷_ 112 (List._∷_ 101
-      (List._∷_ 115 (List._∷_ 58 (List._∷_ 58 (List._∷_ 67 (List._∷_ 111 (List._∷_ 100 (List._∷_ 101 (List._∷_ 115 (List._∷_ 116 (List._∷_ 114 (List._∷_ 101 (List._∷_ 97 (List._∷_
-      109 (List._∷_ 79 (List._∷_ 102 (List._∷_ 102 (List._∷_ 115 (List._∷_ 101 (List._∷_ 116 List.[]))))))))))))))))))))))) (Syntax.tcons (Syntax.tyInt Syntax.w64) Syntax.tnil))
-      (Syntax.tcons (Syntax.tyInt Syntax.w64) Syntax.tnil)))) 2048) Syntax.tnil))),
+      (Syntax.tcons (Syntax.tyInt Syntax.w64) Syntax.tnil)) (Syntax.tcons (Syntax.tyInt Syntax.w64) (Syntax.tcons (Syntax.tyInt Syntax.w64) (Syntax.tcons (Syntax.tyInt Syntax.w64)
+      Syntax.tnil))))) Syntax.tnil) (Syntax.ttcons (Syntax.tcons (Syntax.tyStruct (List._∷_ 116 (List._∷_ 121 (List._∷_ 112 (List._∷_ 101 (List._∷_ 115 (List._∷_ 58 (List._∷_ 58
+      (List._∷_ 82 (List._∷_ 101 (List._∷_ 102 (List._∷_ 117 (List._∷_ 115 (List._∷_ 97 (List._∷_ 108 List.[])))))))))))))) (Syntax.tcons (Syntax.tyInt Syntax.w32) (Syntax.tcons
+      (Syntax.tyInt Syntax.w64) Syntax.tnil))) Syntax.tnil) Syntax.ttnil))) (Syntax.tcons (Syntax.tyArray (Syntax.tyStruct (List._∷_ 116 (List._∷_ 121 (List._∷_ 112 (List._∷_ 101
+      (List._∷_ 115 (List._∷_ 58 (List._∷_ 58 (List._∷_ 84 (List._∷_ 105 (List._∷_ 108 (List._∷_ 101 (List._∷_ 80 (List._∷_ 97 (List._∷_ 114 (List._∷_ 116 (List._∷_ 69 (List._∷_ 110
+      (List._∷_ 116 (List._∷_ 114 (List._∷_ 121 List.[])))))))))))))))))))) (Syntax.tcons (Syntax.tyInt Syntax.w16) (Syntax.tcons (Syntax.tyStruct (List._∷_ 116 (List._∷_ 121
+      (List._∷_ 112 (List._∷_ 101 (List._∷_ 115 (List._∷_ 58 (List._∷_ 58 (List._∷_ 67 (List._∷_ 111 (List._∷_ 100 (List._∷_ 101 (List._∷_ 115 (List._∷_ 116 (List._∷_ 114 (List._∷_
+      101 (List._∷_ 97 (List._∷_ 109 (List._∷_ 79 (List._∷_ 102 (List._∷_ 102 (List._∷_ 115 (List._∷_ 101 (List._∷_ 116 List.[]))))))))))))))))))))))) (Syntax.tcons (Syntax.tyInt
+      Syntax.w64) Syntax.tnil)) (Syntax.tcons (Syntax.tyInt Syntax.w64) Syntax.tnil)))) 2048) Syntax.tnil))),
 ) (List._∷_ (
   1,
-  Rows'.sslice (Referent.rtF (Referent.fInt Syntax.w8)) (Syntax.tyRef (Syntax.named 0)
-      Syntax.imm (Syntax.tyInt Syntax.w8)) 0,
-) (List._∷_ (2, Mut.mslice (Referent.rtF (Referent.fInt Syntax.w8)) (Syntax.tyRef (Syntax.named 1) Syntax.mut (Syntax.tyInt Syntax.w8)) 1)
-    (List._∷_ (3, Rows'.any-gone (Syntax.tyArray LentTilePartEntry.spelled 2048)) (List._∷_ (4, Rows'.whole (Declared.row MainHeader.the-type)) (List._∷_ (
-      5,
-      Rows.arrF
-          LentTilePartEntry.row 2048 0,
-    ) (List._∷_ (6, Rows'.any-gone (Syntax.tyRef Syntax.erased Syntax.mut (Syntax.tyArray LentTilePartEntry.pointee 2048))) (List._∷_ (
-      7,
-      Rows'.any-gone
-          (Syntax.tyStruct (List._∷_ 38 (List._∷_ 91 (List._∷_ 93 List.[]))) (Syntax.tcons (Syntax.tyRef Syntax.erased Syntax.mut LentTilePartEntry.pointee) (Syntax.tcons (Syntax.tyInt
-          Syntax.w64) Syntax.tnil))),
-    ) (List._∷_ (8, Rows'.any-gone (Syntax.tyRef Syntax.erased Syntax.mut (Syntax.tyInt Syntax.w8))) (List._∷_ (
-      9,
-      Rows'.any-gone (Syntax.tyStruct
-          (List._∷_ 38 (List._∷_ 91 (List._∷_ 93 List.[]))) (Syntax.tcons (Syntax.tyRef Syntax.erased Syntax.mut (Syntax.tyInt Syntax.w8)) (Syntax.tcons (Syntax.tyInt Syntax.w64)
-          Syntax.tnil))),
-    ) List.[])))))))))
+  Rows'.sslice (Referent.rtF (Referent.fInt Syntax.w8))
+      (Syntax.tyRef (Syntax.named 0) Syntax.imm (Syntax.tyInt Syntax.w8)) 0,
+) (List._∷_ (
+  2,
+  Mut.mslice (Referent.rtF (Referent.fInt Syntax.w8)) (Syntax.tyRef (Syntax.named 1)
+      Syntax.mut (Syntax.tyInt Syntax.w8)) 1,
+) (List._∷_ (3, Rows'.any-gone (Syntax.tyArray LentTilePartEntry.spelled 2048)) (List._∷_ (
+  4,
+  Rows'.whole (Declared.row
+      MainHeader.the-type),
+) (List._∷_ (5, Rows.arrF LentTilePartEntry.row 2048 0) (List._∷_ (
+  6,
+  Rows'.any-gone (Syntax.tyRef Syntax.erased Syntax.mut (Syntax.tyArray
+      LentTilePartEntry.pointee 2048)),
+) (List._∷_ (
+  7,
+  Rows'.any-gone (Syntax.tyStruct (List._∷_ 38 (List._∷_ 91 (List._∷_ 93 List.[]))) (Syntax.tcons (Syntax.tyRef Syntax.erased
+      Syntax.mut LentTilePartEntry.pointee) (Syntax.tcons (Syntax.tyInt Syntax.w64) Syntax.tnil))),
+) (List._∷_ (
+  8,
+  Rows'.any-gone (Syntax.tyRef Syntax.erased Syntax.mut (Syntax.tyInt
+      Syntax.w8)),
+) (List._∷_ (
+  9,
+  Rows'.any-gone (Syntax.tyStruct (List._∷_ 38 (List._∷_ 91 (List._∷_ 93 List.[]))) (Syntax.tcons (Syntax.tyRef Syntax.erased Syntax.mut (Syntax.tyInt
+      Syntax.w8)) (Syntax.tcons (Syntax.tyInt Syntax.w64) Syntax.tnil))),
+) List.[])))))))))
 
 abbrev pub t14 : List.List Row.Entry
 t14 = List._∷_ (0, Rows'.whole (Declared'.row HeaderTable.the-type)) (List._∷_ (
@@ -988,19 +1034,26 @@ t15 = List._∷_ (0, Rows'.whole (Declared'.row HeaderTable.the-type)) (List._�
           114 (List._∷_ 73 (List._∷_ 110 (List._∷_ 102 (List._∷_ 111 List.[]))))))))))))))))))))))))))))) (Syntax.tcons (Syntax.tyStruct (List._∷_ 116 (List._∷_ 121 (List._∷_ 112
           (List._∷_ 101 (List._∷_ 115 (List._∷_ 58 (List._∷_ 58 (List._∷_ 67 (List._∷_ 111 (List._∷_ 100 (List._∷_ 101 (List._∷_ 115 (List._∷_ 116 (List._∷_ 114 (List._∷_ 101 (List._∷_
           97 (List._∷_ 109 (List._∷_ 79 (List._∷_ 102 (List._∷_ 102 (List._∷_ 115 (List._∷_ 101 (List._∷_ 116 List.[]))))))))))))))))))))))) (Syntax.tcons (Syntax.tyInt Syntax.w64)
-          Syntax.tnil)) (Syntax.tcons (Syntax.tyInt Syntax.w64) (Syntax.tcons (Syntax.tyInt Syntax.w64) Syntax.tnil)))) Syntax.tnil) (Syntax.ttcons (Syntax.tcons (Syntax.tyStruct
-          (List._∷_ 116 (List._∷_ 121 (List._∷_ 112 (List._∷_ 101 (List._∷_ 115 (List._∷_ 58 (List._∷_ 58 (List._∷_ 82 (List._∷_ 101 (List._∷_ 102 (List._∷_ 117 (List._∷_ 115 (List._∷_
-          97 (List._∷_ 108 List.[])))))))))))))) (Syntax.tcons (Syntax.tyInt Syntax.w32) (Syntax.tcons (Syntax.tyInt Syntax.w64) Syntax.tnil))) Syntax.tnil) Syntax.ttnil))),
-    ) (List._∷_
-    (5, Rows.arrF LentTilePartEntry.row 2048 0) (List._∷_ (6, Rows'.any-gone (Syntax.tyRef Syntax.erased Syntax.mut (Syntax.tyArray LentTilePartEntry.pointee 2048))) (List._∷_ (
+          Syntax.tnil)) (Syntax.tcons (Syntax.tyInt Syntax.w64) (Syntax.tcons (Syntax.tyInt Syntax.w64) (Syntax.tcons (Syntax.tyInt Syntax.w64) Syntax.tnil))))) Syntax.tnil)
+          (Syntax.ttcons (Syntax.tcons (Syntax.tyStruct (List._∷_ 116 (List._∷_ 121 (List._∷_ 112 (List._∷_ 101 (List._∷_ 115 (List._∷_ 58 (List._∷_ 58 (List._∷_ 82 (List._∷_ 101
+          (List._∷_ 102 (List._∷_ 117 (List._∷_ 115 (List._∷_ 97 (List._∷_ 108 List.[])))))))))))))) (Syntax.tcons (Syntax.tyInt Syntax.w32) (Syntax.tcons (Syntax.tyInt Syntax.w64)
+          Syntax.tnil))) Syntax.tnil) Syntax.ttnil))),
+    ) (List._∷_ (5, Rows.arrF LentTilePartEntry.row 2048 0) (List._∷_ (
+      6,
+      Rows'.any-gone (Syntax.tyRef Syntax.erased Syntax.mut
+          (Syntax.tyArray LentTilePartEntry.pointee 2048)),
+    ) (List._∷_ (
       7,
-      Rows'.any-gone (Syntax.tyStruct (List._∷_ 38 (List._∷_ 91 (List._∷_ 93 List.[]))) (Syntax.tcons (Syntax.tyRef Syntax.erased Syntax.mut LentTilePartEntry.pointee) (Syntax.tcons
-          (Syntax.tyInt Syntax.w64) Syntax.tnil))),
-    ) (List._∷_ (8, Rows'.any-gone (Syntax.tyRef Syntax.erased Syntax.mut (Syntax.tyInt Syntax.w8))) (List._∷_ (
+      Rows'.any-gone (Syntax.tyStruct (List._∷_ 38 (List._∷_ 91 (List._∷_ 93 List.[]))) (Syntax.tcons (Syntax.tyRef
+          Syntax.erased Syntax.mut LentTilePartEntry.pointee) (Syntax.tcons (Syntax.tyInt Syntax.w64) Syntax.tnil))),
+    ) (List._∷_ (
+      8,
+      Rows'.any-gone (Syntax.tyRef Syntax.erased Syntax.mut
+          (Syntax.tyInt Syntax.w8)),
+    ) (List._∷_ (
       9,
-      Rows'.any-gone
-          (Syntax.tyStruct (List._∷_ 38 (List._∷_ 91 (List._∷_ 93 List.[]))) (Syntax.tcons (Syntax.tyRef Syntax.erased Syntax.mut (Syntax.tyInt Syntax.w8)) (Syntax.tcons (Syntax.tyInt
-          Syntax.w64) Syntax.tnil))),
+      Rows'.any-gone (Syntax.tyStruct (List._∷_ 38 (List._∷_ 91 (List._∷_ 93 List.[]))) (Syntax.tcons (Syntax.tyRef Syntax.erased Syntax.mut
+          (Syntax.tyInt Syntax.w8)) (Syntax.tcons (Syntax.tyInt Syntax.w64) Syntax.tnil))),
     ) List.[])))))))))
 
 abbrev pub T0 : Row.Cx
@@ -1124,9 +1177,10 @@ module _ (claims· : Claims) where
       (List._∷_ 73 (List._∷_ 110 (List._∷_ 102 (List._∷_ 111 List.[]))))))))))))))))))))))))))))) (Syntax.tcons (Syntax.tyStruct (List._∷_ 116 (List._∷_ 121 (List._∷_ 112 (List._∷_
       101 (List._∷_ 115 (List._∷_ 58 (List._∷_ 58 (List._∷_ 67 (List._∷_ 111 (List._∷_ 100 (List._∷_ 101 (List._∷_ 115 (List._∷_ 116 (List._∷_ 114 (List._∷_ 101 (List._∷_ 97
       (List._∷_ 109 (List._∷_ 79 (List._∷_ 102 (List._∷_ 102 (List._∷_ 115 (List._∷_ 101 (List._∷_ 116 List.[]))))))))))))))))))))))) (Syntax.tcons (Syntax.tyInt Syntax.w64)
-      Syntax.tnil)) (Syntax.tcons (Syntax.tyInt Syntax.w64) (Syntax.tcons (Syntax.tyInt Syntax.w64) Syntax.tnil)))) Syntax.tnil) (Syntax.ttcons (Syntax.tcons (Syntax.tyStruct
-      (List._∷_ 116 (List._∷_ 121 (List._∷_ 112 (List._∷_ 101 (List._∷_ 115 (List._∷_ 58 (List._∷_ 58 (List._∷_ 82 (List._∷_ 101 (List._∷_ 102 (List._∷_ 117 (List._∷_ 115 (List._∷_
-      97 (List._∷_ 108 List.[])))))))))))))) (Syntax.tcons (Syntax.tyInt Syntax.w32) (Syntax.tcons (Syntax.tyInt Syntax.w64) Syntax.tnil))) Syntax.tnil) Syntax.ttnil)))
+      Syntax.tnil)) (Syntax.tcons (Syntax.tyInt Syntax.w64) (Syntax.tcons (Syntax.tyInt Syntax.w64) (Syntax.tcons (Syntax.tyInt Syntax.w64) Syntax.tnil))))) Syntax.tnil)
+      (Syntax.ttcons (Syntax.tcons (Syntax.tyStruct (List._∷_ 116 (List._∷_ 121 (List._∷_ 112 (List._∷_ 101 (List._∷_ 115 (List._∷_ 58 (List._∷_ 58 (List._∷_ 82 (List._∷_ 101
+      (List._∷_ 102 (List._∷_ 117 (List._∷_ 115 (List._∷_ 97 (List._∷_ 108 List.[])))))))))))))) (Syntax.tcons (Syntax.tyInt Syntax.w32) (Syntax.tcons (Syntax.tyInt Syntax.w64)
+      Syntax.tnil))) Syntax.tnil) Syntax.ttnil)))
 
   abbrev s13 : (bs : List.List Nat.ℕ) → Typed.Both T13 T15
   s13 = λ bs. Borrow.k-back-arr LentTilePartEntry.row T13 7 3 2 2048 (Syntax.tyRef Syntax.erased Syntax.mut LentTilePartEntry.pointee) (λ x. x) λ x. x
@@ -1157,15 +1211,15 @@ module _ (claims· : Claims) where
       100 (List._∷_ 101 (List._∷_ 114 (List._∷_ 73 (List._∷_ 110 (List._∷_ 102 (List._∷_ 111 List.[]))))))))))))))))))))))))))))) (Syntax.tcons (Syntax.tyStruct (List._∷_ 116
       (List._∷_ 121 (List._∷_ 112 (List._∷_ 101 (List._∷_ 115 (List._∷_ 58 (List._∷_ 58 (List._∷_ 67 (List._∷_ 111 (List._∷_ 100 (List._∷_ 101 (List._∷_ 115 (List._∷_ 116 (List._∷_
       114 (List._∷_ 101 (List._∷_ 97 (List._∷_ 109 (List._∷_ 79 (List._∷_ 102 (List._∷_ 102 (List._∷_ 115 (List._∷_ 101 (List._∷_ 116 List.[]))))))))))))))))))))))) (Syntax.tcons
-      (Syntax.tyInt Syntax.w64) Syntax.tnil)) (Syntax.tcons (Syntax.tyInt Syntax.w64) (Syntax.tcons (Syntax.tyInt Syntax.w64) Syntax.tnil)))) Syntax.tnil) (Syntax.ttcons
-      (Syntax.tcons (Syntax.tyStruct (List._∷_ 116 (List._∷_ 121 (List._∷_ 112 (List._∷_ 101 (List._∷_ 115 (List._∷_ 58 (List._∷_ 58 (List._∷_ 82 (List._∷_ 101 (List._∷_ 102
-      (List._∷_ 117 (List._∷_ 115 (List._∷_ 97 (List._∷_ 108 List.[])))))))))))))) (Syntax.tcons (Syntax.tyInt Syntax.w32) (Syntax.tcons (Syntax.tyInt Syntax.w64) Syntax.tnil)))
-      Syntax.tnil) Syntax.ttnil))) (Syntax.tcons (Syntax.tyArray (Syntax.tyStruct (List._∷_ 116 (List._∷_ 121 (List._∷_ 112 (List._∷_ 101 (List._∷_ 115 (List._∷_ 58 (List._∷_ 58
-      (List._∷_ 84 (List._∷_ 105 (List._∷_ 108 (List._∷_ 101 (List._∷_ 80 (List._∷_ 97 (List._∷_ 114 (List._∷_ 116 (List._∷_ 69 (List._∷_ 110 (List._∷_ 116 (List._∷_ 114 (List._∷_
-      121 List.[])))))))))))))))))))) (Syntax.tcons (Syntax.tyInt Syntax.w16) (Syntax.tcons (Syntax.tyStruct (List._∷_ 116 (List._∷_ 121 (List._∷_ 112 (List._∷_ 101 (List._∷_ 115
-      (List._∷_ 58 (List._∷_ 58 (List._∷_ 67 (List._∷_ 111 (List._∷_ 100 (List._∷_ 101 (List._∷_ 115 (List._∷_ 116 (List._∷_ 114 (List._∷_ 101 (List._∷_ 97 (List._∷_ 109 (List._∷_
-      79 (List._∷_ 102 (List._∷_ 102 (List._∷_ 115 (List._∷_ 101 (List._∷_ 116 List.[]))))))))))))))))))))))) (Syntax.tcons (Syntax.tyInt Syntax.w64) Syntax.tnil)) (Syntax.tcons
-      (Syntax.tyInt Syntax.w64) Syntax.tnil)))) 2048) Syntax.tnil)))
+      (Syntax.tyInt Syntax.w64) Syntax.tnil)) (Syntax.tcons (Syntax.tyInt Syntax.w64) (Syntax.tcons (Syntax.tyInt Syntax.w64) (Syntax.tcons (Syntax.tyInt Syntax.w64)
+      Syntax.tnil))))) Syntax.tnil) (Syntax.ttcons (Syntax.tcons (Syntax.tyStruct (List._∷_ 116 (List._∷_ 121 (List._∷_ 112 (List._∷_ 101 (List._∷_ 115 (List._∷_ 58 (List._∷_ 58
+      (List._∷_ 82 (List._∷_ 101 (List._∷_ 102 (List._∷_ 117 (List._∷_ 115 (List._∷_ 97 (List._∷_ 108 List.[])))))))))))))) (Syntax.tcons (Syntax.tyInt Syntax.w32) (Syntax.tcons
+      (Syntax.tyInt Syntax.w64) Syntax.tnil))) Syntax.tnil) Syntax.ttnil))) (Syntax.tcons (Syntax.tyArray (Syntax.tyStruct (List._∷_ 116 (List._∷_ 121 (List._∷_ 112 (List._∷_ 101
+      (List._∷_ 115 (List._∷_ 58 (List._∷_ 58 (List._∷_ 84 (List._∷_ 105 (List._∷_ 108 (List._∷_ 101 (List._∷_ 80 (List._∷_ 97 (List._∷_ 114 (List._∷_ 116 (List._∷_ 69 (List._∷_
+      110 (List._∷_ 116 (List._∷_ 114 (List._∷_ 121 List.[])))))))))))))))))))) (Syntax.tcons (Syntax.tyInt Syntax.w16) (Syntax.tcons (Syntax.tyStruct (List._∷_ 116 (List._∷_ 121
+      (List._∷_ 112 (List._∷_ 101 (List._∷_ 115 (List._∷_ 58 (List._∷_ 58 (List._∷_ 67 (List._∷_ 111 (List._∷_ 100 (List._∷_ 101 (List._∷_ 115 (List._∷_ 116 (List._∷_ 114 (List._∷_
+      101 (List._∷_ 97 (List._∷_ 109 (List._∷_ 79 (List._∷_ 102 (List._∷_ 102 (List._∷_ 115 (List._∷_ 101 (List._∷_ 116 List.[]))))))))))))))))))))))) (Syntax.tcons (Syntax.tyInt
+      Syntax.w64) Syntax.tnil)) (Syntax.tcons (Syntax.tyInt Syntax.w64) Syntax.tnil)))) 2048) Syntax.tnil)))
 
   abbrev s22 : (bs : List.List Nat.ℕ) → Typed.Mo T23 → Typed.Mo T24
   s22 = λ bs. Scalar.n-room T23 4 (Syntax.tyEnum (List._∷_ 104 (List._∷_ 101 (List._∷_ 97 (List._∷_ 100 (List._∷_ 101 (List._∷_ 114 (List._∷_ 58 (List._∷_ 58 (List._∷_ 112
@@ -1176,9 +1230,9 @@ module _ (claims· : Claims) where
       111 List.[]))))))))))))))))))))))))))))) (Syntax.tcons (Syntax.tyStruct (List._∷_ 116 (List._∷_ 121 (List._∷_ 112 (List._∷_ 101 (List._∷_ 115 (List._∷_ 58 (List._∷_ 58
       (List._∷_ 67 (List._∷_ 111 (List._∷_ 100 (List._∷_ 101 (List._∷_ 115 (List._∷_ 116 (List._∷_ 114 (List._∷_ 101 (List._∷_ 97 (List._∷_ 109 (List._∷_ 79 (List._∷_ 102 (List._∷_
       102 (List._∷_ 115 (List._∷_ 101 (List._∷_ 116 List.[]))))))))))))))))))))))) (Syntax.tcons (Syntax.tyInt Syntax.w64) Syntax.tnil)) (Syntax.tcons (Syntax.tyInt Syntax.w64)
-      (Syntax.tcons (Syntax.tyInt Syntax.w64) Syntax.tnil)))) Syntax.tnil) (Syntax.ttcons (Syntax.tcons (Syntax.tyStruct (List._∷_ 116 (List._∷_ 121 (List._∷_ 112 (List._∷_ 101
-      (List._∷_ 115 (List._∷_ 58 (List._∷_ 58 (List._∷_ 82 (List._∷_ 101 (List._∷_ 102 (List._∷_ 117 (List._∷_ 115 (List._∷_ 97 (List._∷_ 108 List.[])))))))))))))) (Syntax.tcons
-      (Syntax.tyInt Syntax.w32) (Syntax.tcons (Syntax.tyInt Syntax.w64) Syntax.tnil))) Syntax.tnil) Syntax.ttnil)))
+      (Syntax.tcons (Syntax.tyInt Syntax.w64) (Syntax.tcons (Syntax.tyInt Syntax.w64) Syntax.tnil))))) Syntax.tnil) (Syntax.ttcons (Syntax.tcons (Syntax.tyStruct (List._∷_ 116
+      (List._∷_ 121 (List._∷_ 112 (List._∷_ 101 (List._∷_ 115 (List._∷_ 58 (List._∷_ 58 (List._∷_ 82 (List._∷_ 101 (List._∷_ 102 (List._∷_ 117 (List._∷_ 115 (List._∷_ 97 (List._∷_
+      108 List.[])))))))))))))) (Syntax.tcons (Syntax.tyInt Syntax.w32) (Syntax.tcons (Syntax.tyInt Syntax.w64) Syntax.tnil))) Syntax.tnil) Syntax.ttnil)))
 
   abbrev s23 : (bs : List.List Nat.ℕ) → Typed.Mo T24 → Typed.Mo T25
   s23 = λ bs. Scalar.n-room T24 5 (Syntax.tyArray LentTilePartEntry.spelled 2048)
@@ -1290,53 +1344,52 @@ module _ (claims· : Claims) where
               List.[]))))))))))))))))))))))))))))) (Syntax.tcons (Syntax.tyStruct (List._∷_ 116 (List._∷_ 121 (List._∷_ 112 (List._∷_ 101 (List._∷_ 115 (List._∷_ 58 (List._∷_ 58
               (List._∷_ 67 (List._∷_ 111 (List._∷_ 100 (List._∷_ 101 (List._∷_ 115 (List._∷_ 116 (List._∷_ 114 (List._∷_ 101 (List._∷_ 97 (List._∷_ 109 (List._∷_ 79 (List._∷_ 102
               (List._∷_ 102 (List._∷_ 115 (List._∷_ 101 (List._∷_ 116 List.[]))))))))))))))))))))))) (Syntax.tcons (Syntax.tyInt Syntax.w64) Syntax.tnil)) (Syntax.tcons (Syntax.tyInt
-              Syntax.w64) (Syntax.tcons (Syntax.tyInt Syntax.w64) Syntax.tnil)))) Syntax.tnil) (Syntax.ttcons (Syntax.tcons (Syntax.tyStruct (List._∷_ 116 (List._∷_ 121 (List._∷_ 112
-              (List._∷_ 101 (List._∷_ 115 (List._∷_ 58 (List._∷_ 58 (List._∷_ 82 (List._∷_ 101 (List._∷_ 102 (List._∷_ 117 (List._∷_ 115 (List._∷_ 97 (List._∷_ 108
-              List.[])))))))))))))) (Syntax.tcons (Syntax.tyInt Syntax.w32) (Syntax.tcons (Syntax.tyInt Syntax.w64) Syntax.tnil))) Syntax.tnil) Syntax.ttnil))) (Syntax.tcons
-              (Syntax.tyArray (Syntax.tyStruct (List._∷_ 116 (List._∷_ 121 (List._∷_ 112 (List._∷_ 101 (List._∷_ 115 (List._∷_ 58 (List._∷_ 58 (List._∷_ 84 (List._∷_ 105 (List._∷_
-              108 (List._∷_ 101 (List._∷_ 80 (List._∷_ 97 (List._∷_ 114 (List._∷_ 116 (List._∷_ 69 (List._∷_ 110 (List._∷_ 116 (List._∷_ 114 (List._∷_ 121 List.[]))))))))))))))))))))
-              (Syntax.tcons (Syntax.tyInt Syntax.w16) (Syntax.tcons (Syntax.tyStruct (List._∷_ 116 (List._∷_ 121 (List._∷_ 112 (List._∷_ 101 (List._∷_ 115 (List._∷_ 58 (List._∷_ 58
-              (List._∷_ 67 (List._∷_ 111 (List._∷_ 100 (List._∷_ 101 (List._∷_ 115 (List._∷_ 116 (List._∷_ 114 (List._∷_ 101 (List._∷_ 97 (List._∷_ 109 (List._∷_ 79 (List._∷_ 102
-              (List._∷_ 102 (List._∷_ 115 (List._∷_ 101 (List._∷_ 116 List.[]))))))))))))))))))))))) (Syntax.tcons (Syntax.tyInt Syntax.w64) Syntax.tnil)) (Syntax.tcons (Syntax.tyInt
-              Syntax.w64) Syntax.tnil)))) 2048) Syntax.tnil))),
+              Syntax.w64) (Syntax.tcons (Syntax.tyInt Syntax.w64) (Syntax.tcons (Syntax.tyInt Syntax.w64) Syntax.tnil))))) Syntax.tnil) (Syntax.ttcons (Syntax.tcons (Syntax.tyStruct
+              (List._∷_ 116 (List._∷_ 121 (List._∷_ 112 (List._∷_ 101 (List._∷_ 115 (List._∷_ 58 (List._∷_ 58 (List._∷_ 82 (List._∷_ 101 (List._∷_ 102 (List._∷_ 117 (List._∷_ 115
+              (List._∷_ 97 (List._∷_ 108 List.[])))))))))))))) (Syntax.tcons (Syntax.tyInt Syntax.w32) (Syntax.tcons (Syntax.tyInt Syntax.w64) Syntax.tnil))) Syntax.tnil)
+              Syntax.ttnil))) (Syntax.tcons (Syntax.tyArray (Syntax.tyStruct (List._∷_ 116 (List._∷_ 121 (List._∷_ 112 (List._∷_ 101 (List._∷_ 115 (List._∷_ 58 (List._∷_ 58 (List._∷_
+              84 (List._∷_ 105 (List._∷_ 108 (List._∷_ 101 (List._∷_ 80 (List._∷_ 97 (List._∷_ 114 (List._∷_ 116 (List._∷_ 69 (List._∷_ 110 (List._∷_ 116 (List._∷_ 114 (List._∷_ 121
+              List.[])))))))))))))))))))) (Syntax.tcons (Syntax.tyInt Syntax.w16) (Syntax.tcons (Syntax.tyStruct (List._∷_ 116 (List._∷_ 121 (List._∷_ 112 (List._∷_ 101 (List._∷_ 115
+              (List._∷_ 58 (List._∷_ 58 (List._∷_ 67 (List._∷_ 111 (List._∷_ 100 (List._∷_ 101 (List._∷_ 115 (List._∷_ 116 (List._∷_ 114 (List._∷_ 101 (List._∷_ 97 (List._∷_ 109
+              (List._∷_ 79 (List._∷_ 102 (List._∷_ 102 (List._∷_ 115 (List._∷_ 101 (List._∷_ 116 List.[]))))))))))))))))))))))) (Syntax.tcons (Syntax.tyInt Syntax.w64) Syntax.tnil))
+              (Syntax.tcons (Syntax.tyInt Syntax.w64) Syntax.tnil)))) 2048) Syntax.tnil))),
         ) (List._∷_ (
           1,
-          Rows'.sslice (Referent.rtF (Referent.fInt Syntax.w8)) (Syntax.tyRef (Syntax.named 0) Syntax.imm
-              (Syntax.tyInt Syntax.w8)) 0,
+          Rows'.sslice (Referent.rtF (Referent.fInt Syntax.w8)) (Syntax.tyRef
+              (Syntax.named 0) Syntax.imm (Syntax.tyInt Syntax.w8)) 0,
         ) (List._∷_ (
           2,
-          Relend.mslice-owed (Referent.rtF (Referent.fInt Syntax.w8)) (Syntax.tyRef (Syntax.named 1) Syntax.mut (Syntax.tyInt
-              Syntax.w8)) 1 3 (Row.lease (κs .1 .0) (qs .1 .0)),
+          Relend.mslice-owed (Referent.rtF (Referent.fInt Syntax.w8)) (Syntax.tyRef (Syntax.named 1)
+              Syntax.mut (Syntax.tyInt Syntax.w8)) 1 3 (Row.lease (κs .1 .0) (qs .1 .0)),
         ) (List._∷_ (3, Rows.arr-owed LentTilePartEntry.row 2048 2) (List._∷_ (
           4,
-          Rows'.any-gone (Syntax.tyEnum (List._∷_ 104
-              (List._∷_ 101 (List._∷_ 97 (List._∷_ 100 (List._∷_ 101 (List._∷_ 114 (List._∷_ 58 (List._∷_ 58 (List._∷_ 112 (List._∷_ 97 (List._∷_ 114 (List._∷_ 115 (List._∷_ 101
-              (List._∷_ 58 (List._∷_ 58 (List._∷_ 77 (List._∷_ 97 (List._∷_ 105 (List._∷_ 110 (List._∷_ 72 (List._∷_ 101 (List._∷_ 97 (List._∷_ 100 (List._∷_ 101 (List._∷_ 114
-              List.[]))))))))))))))))))))))))) (Syntax.ttcons (Syntax.tcons (Syntax.tyStruct (List._∷_ 104 (List._∷_ 101 (List._∷_ 97 (List._∷_ 100 (List._∷_ 101 (List._∷_ 114
-              (List._∷_ 58 (List._∷_ 58 (List._∷_ 112 (List._∷_ 97 (List._∷_ 114 (List._∷_ 115 (List._∷_ 101 (List._∷_ 58 (List._∷_ 58 (List._∷_ 77 (List._∷_ 97 (List._∷_ 105
-              (List._∷_ 110 (List._∷_ 72 (List._∷_ 101 (List._∷_ 97 (List._∷_ 100 (List._∷_ 101 (List._∷_ 114 (List._∷_ 73 (List._∷_ 110 (List._∷_ 102 (List._∷_ 111
-              List.[]))))))))))))))))))))))))))))) (Syntax.tcons (Syntax.tyStruct (List._∷_ 116 (List._∷_ 121 (List._∷_ 112 (List._∷_ 101 (List._∷_ 115 (List._∷_ 58 (List._∷_ 58
-              (List._∷_ 67 (List._∷_ 111 (List._∷_ 100 (List._∷_ 101 (List._∷_ 115 (List._∷_ 116 (List._∷_ 114 (List._∷_ 101 (List._∷_ 97 (List._∷_ 109 (List._∷_ 79 (List._∷_ 102
-              (List._∷_ 102 (List._∷_ 115 (List._∷_ 101 (List._∷_ 116 List.[]))))))))))))))))))))))) (Syntax.tcons (Syntax.tyInt Syntax.w64) Syntax.tnil)) (Syntax.tcons (Syntax.tyInt
-              Syntax.w64) (Syntax.tcons (Syntax.tyInt Syntax.w64) Syntax.tnil)))) Syntax.tnil) (Syntax.ttcons (Syntax.tcons (Syntax.tyStruct (List._∷_ 116 (List._∷_ 121 (List._∷_ 112
-              (List._∷_ 101 (List._∷_ 115 (List._∷_ 58 (List._∷_ 58 (List._∷_ 82 (List._∷_ 101 (List._∷_ 102 (List._∷_ 117 (List._∷_ 115 (List._∷_ 97 (List._∷_ 108
-              List.[])))))))))))))) (Syntax.tcons (Syntax.tyInt Syntax.w32) (Syntax.tcons (Syntax.tyInt Syntax.w64) Syntax.tnil))) Syntax.tnil) Syntax.ttnil))),
-        ) (List._∷_ (
-          5,
-          Rows'.any-gone (Syntax.tyArray LentTilePartEntry.spelled 2048),
-        ) (List._∷_ (
+          Rows'.any-gone
+              (Syntax.tyEnum (List._∷_ 104 (List._∷_ 101 (List._∷_ 97 (List._∷_ 100 (List._∷_ 101 (List._∷_ 114 (List._∷_ 58 (List._∷_ 58 (List._∷_ 112 (List._∷_ 97 (List._∷_ 114
+              (List._∷_ 115 (List._∷_ 101 (List._∷_ 58 (List._∷_ 58 (List._∷_ 77 (List._∷_ 97 (List._∷_ 105 (List._∷_ 110 (List._∷_ 72 (List._∷_ 101 (List._∷_ 97 (List._∷_ 100
+              (List._∷_ 101 (List._∷_ 114 List.[]))))))))))))))))))))))))) (Syntax.ttcons (Syntax.tcons (Syntax.tyStruct (List._∷_ 104 (List._∷_ 101 (List._∷_ 97 (List._∷_ 100
+              (List._∷_ 101 (List._∷_ 114 (List._∷_ 58 (List._∷_ 58 (List._∷_ 112 (List._∷_ 97 (List._∷_ 114 (List._∷_ 115 (List._∷_ 101 (List._∷_ 58 (List._∷_ 58 (List._∷_ 77
+              (List._∷_ 97 (List._∷_ 105 (List._∷_ 110 (List._∷_ 72 (List._∷_ 101 (List._∷_ 97 (List._∷_ 100 (List._∷_ 101 (List._∷_ 114 (List._∷_ 73 (List._∷_ 110 (List._∷_ 102
+              (List._∷_ 111 List.[]))))))))))))))))))))))))))))) (Syntax.tcons (Syntax.tyStruct (List._∷_ 116 (List._∷_ 121 (List._∷_ 112 (List._∷_ 101 (List._∷_ 115 (List._∷_ 58
+              (List._∷_ 58 (List._∷_ 67 (List._∷_ 111 (List._∷_ 100 (List._∷_ 101 (List._∷_ 115 (List._∷_ 116 (List._∷_ 114 (List._∷_ 101 (List._∷_ 97 (List._∷_ 109 (List._∷_ 79
+              (List._∷_ 102 (List._∷_ 102 (List._∷_ 115 (List._∷_ 101 (List._∷_ 116 List.[]))))))))))))))))))))))) (Syntax.tcons (Syntax.tyInt Syntax.w64) Syntax.tnil)) (Syntax.tcons
+              (Syntax.tyInt Syntax.w64) (Syntax.tcons (Syntax.tyInt Syntax.w64) (Syntax.tcons (Syntax.tyInt Syntax.w64) Syntax.tnil))))) Syntax.tnil) (Syntax.ttcons (Syntax.tcons
+              (Syntax.tyStruct (List._∷_ 116 (List._∷_ 121 (List._∷_ 112 (List._∷_ 101 (List._∷_ 115 (List._∷_ 58 (List._∷_ 58 (List._∷_ 82 (List._∷_ 101 (List._∷_ 102 (List._∷_ 117
+              (List._∷_ 115 (List._∷_ 97 (List._∷_ 108 List.[])))))))))))))) (Syntax.tcons (Syntax.tyInt Syntax.w32) (Syntax.tcons (Syntax.tyInt Syntax.w64) Syntax.tnil)))
+              Syntax.tnil) Syntax.ttnil))),
+        ) (List._∷_ (5, Rows'.any-gone (Syntax.tyArray LentTilePartEntry.spelled 2048)) (List._∷_ (
           6,
-          Rows'.any-gone (Syntax.tyRef Syntax.erased Syntax.mut (Syntax.tyArray
-              LentTilePartEntry.pointee 2048)),
-        ) (List._∷_ (7, Mut.mslice LentTilePartEntry.row (Syntax.tyRef Syntax.erased Syntax.mut LentTilePartEntry.pointee) 2) (List._∷_ (
-          8,
-          Relend.msptr (Referent.rtF (Referent.fInt Syntax.w8)) (Syntax.tyRef Syntax.erased Syntax.mut (Syntax.tyInt Syntax.w8)) 3,
+          Rows'.any-gone (Syntax.tyRef Syntax.erased
+              Syntax.mut (Syntax.tyArray LentTilePartEntry.pointee 2048)),
         ) (List._∷_ (
-          9,
-          Rows'.any-gone (Syntax.tyStruct
-              (List._∷_ 38 (List._∷_ 91 (List._∷_ 93 List.[]))) (Syntax.tcons (Syntax.tyRef Syntax.erased Syntax.mut (Syntax.tyInt Syntax.w8)) (Syntax.tcons (Syntax.tyInt Syntax.w64)
-              Syntax.tnil))),
-        ) List.[])))))))))
+          7,
+          Mut.mslice LentTilePartEntry.row (Syntax.tyRef Syntax.erased Syntax.mut
+              LentTilePartEntry.pointee) 2,
+        ) (List._∷_ (8, Relend.msptr (Referent.rtF (Referent.fInt Syntax.w8)) (Syntax.tyRef Syntax.erased Syntax.mut (Syntax.tyInt Syntax.w8)) 3)
+            (List._∷_ (
+              9,
+              Rows'.any-gone (Syntax.tyStruct (List._∷_ 38 (List._∷_ 91 (List._∷_ 93 List.[]))) (Syntax.tcons (Syntax.tyRef Syntax.erased Syntax.mut (Syntax.tyInt
+                  Syntax.w8)) (Syntax.tcons (Syntax.tyInt Syntax.w64) Syntax.tnil))),
+            ) List.[])))))))))
 
         abbrev g8 : List.List Row.Entry
         g8 = List._∷_ (
@@ -1352,51 +1405,50 @@ module _ (claims· : Claims) where
               List.[]))))))))))))))))))))))))))))) (Syntax.tcons (Syntax.tyStruct (List._∷_ 116 (List._∷_ 121 (List._∷_ 112 (List._∷_ 101 (List._∷_ 115 (List._∷_ 58 (List._∷_ 58
               (List._∷_ 67 (List._∷_ 111 (List._∷_ 100 (List._∷_ 101 (List._∷_ 115 (List._∷_ 116 (List._∷_ 114 (List._∷_ 101 (List._∷_ 97 (List._∷_ 109 (List._∷_ 79 (List._∷_ 102
               (List._∷_ 102 (List._∷_ 115 (List._∷_ 101 (List._∷_ 116 List.[]))))))))))))))))))))))) (Syntax.tcons (Syntax.tyInt Syntax.w64) Syntax.tnil)) (Syntax.tcons (Syntax.tyInt
-              Syntax.w64) (Syntax.tcons (Syntax.tyInt Syntax.w64) Syntax.tnil)))) Syntax.tnil) (Syntax.ttcons (Syntax.tcons (Syntax.tyStruct (List._∷_ 116 (List._∷_ 121 (List._∷_ 112
-              (List._∷_ 101 (List._∷_ 115 (List._∷_ 58 (List._∷_ 58 (List._∷_ 82 (List._∷_ 101 (List._∷_ 102 (List._∷_ 117 (List._∷_ 115 (List._∷_ 97 (List._∷_ 108
-              List.[])))))))))))))) (Syntax.tcons (Syntax.tyInt Syntax.w32) (Syntax.tcons (Syntax.tyInt Syntax.w64) Syntax.tnil))) Syntax.tnil) Syntax.ttnil))) (Syntax.tcons
-              (Syntax.tyArray (Syntax.tyStruct (List._∷_ 116 (List._∷_ 121 (List._∷_ 112 (List._∷_ 101 (List._∷_ 115 (List._∷_ 58 (List._∷_ 58 (List._∷_ 84 (List._∷_ 105 (List._∷_
-              108 (List._∷_ 101 (List._∷_ 80 (List._∷_ 97 (List._∷_ 114 (List._∷_ 116 (List._∷_ 69 (List._∷_ 110 (List._∷_ 116 (List._∷_ 114 (List._∷_ 121 List.[]))))))))))))))))))))
-              (Syntax.tcons (Syntax.tyInt Syntax.w16) (Syntax.tcons (Syntax.tyStruct (List._∷_ 116 (List._∷_ 121 (List._∷_ 112 (List._∷_ 101 (List._∷_ 115 (List._∷_ 58 (List._∷_ 58
-              (List._∷_ 67 (List._∷_ 111 (List._∷_ 100 (List._∷_ 101 (List._∷_ 115 (List._∷_ 116 (List._∷_ 114 (List._∷_ 101 (List._∷_ 97 (List._∷_ 109 (List._∷_ 79 (List._∷_ 102
-              (List._∷_ 102 (List._∷_ 115 (List._∷_ 101 (List._∷_ 116 List.[]))))))))))))))))))))))) (Syntax.tcons (Syntax.tyInt Syntax.w64) Syntax.tnil)) (Syntax.tcons (Syntax.tyInt
-              Syntax.w64) Syntax.tnil)))) 2048) Syntax.tnil))),
+              Syntax.w64) (Syntax.tcons (Syntax.tyInt Syntax.w64) (Syntax.tcons (Syntax.tyInt Syntax.w64) Syntax.tnil))))) Syntax.tnil) (Syntax.ttcons (Syntax.tcons (Syntax.tyStruct
+              (List._∷_ 116 (List._∷_ 121 (List._∷_ 112 (List._∷_ 101 (List._∷_ 115 (List._∷_ 58 (List._∷_ 58 (List._∷_ 82 (List._∷_ 101 (List._∷_ 102 (List._∷_ 117 (List._∷_ 115
+              (List._∷_ 97 (List._∷_ 108 List.[])))))))))))))) (Syntax.tcons (Syntax.tyInt Syntax.w32) (Syntax.tcons (Syntax.tyInt Syntax.w64) Syntax.tnil))) Syntax.tnil)
+              Syntax.ttnil))) (Syntax.tcons (Syntax.tyArray (Syntax.tyStruct (List._∷_ 116 (List._∷_ 121 (List._∷_ 112 (List._∷_ 101 (List._∷_ 115 (List._∷_ 58 (List._∷_ 58 (List._∷_
+              84 (List._∷_ 105 (List._∷_ 108 (List._∷_ 101 (List._∷_ 80 (List._∷_ 97 (List._∷_ 114 (List._∷_ 116 (List._∷_ 69 (List._∷_ 110 (List._∷_ 116 (List._∷_ 114 (List._∷_ 121
+              List.[])))))))))))))))))))) (Syntax.tcons (Syntax.tyInt Syntax.w16) (Syntax.tcons (Syntax.tyStruct (List._∷_ 116 (List._∷_ 121 (List._∷_ 112 (List._∷_ 101 (List._∷_ 115
+              (List._∷_ 58 (List._∷_ 58 (List._∷_ 67 (List._∷_ 111 (List._∷_ 100 (List._∷_ 101 (List._∷_ 115 (List._∷_ 116 (List._∷_ 114 (List._∷_ 101 (List._∷_ 97 (List._∷_ 109
+              (List._∷_ 79 (List._∷_ 102 (List._∷_ 102 (List._∷_ 115 (List._∷_ 101 (List._∷_ 116 List.[]))))))))))))))))))))))) (Syntax.tcons (Syntax.tyInt Syntax.w64) Syntax.tnil))
+              (Syntax.tcons (Syntax.tyInt Syntax.w64) Syntax.tnil)))) 2048) Syntax.tnil))),
         ) (List._∷_ (
           1,
-          Rows'.sslice (Referent.rtF (Referent.fInt Syntax.w8)) (Syntax.tyRef (Syntax.named 0) Syntax.imm
-              (Syntax.tyInt Syntax.w8)) 0,
+          Rows'.sslice (Referent.rtF (Referent.fInt Syntax.w8)) (Syntax.tyRef
+              (Syntax.named 0) Syntax.imm (Syntax.tyInt Syntax.w8)) 0,
         ) (List._∷_ (
           2,
-          Relend.mslice-owed (Referent.rtF (Referent.fInt Syntax.w8)) (Syntax.tyRef (Syntax.named 1) Syntax.mut (Syntax.tyInt
-              Syntax.w8)) 1 3 (Row.lease (κs .1 .0) (qs .1 .0)),
+          Relend.mslice-owed (Referent.rtF (Referent.fInt Syntax.w8)) (Syntax.tyRef (Syntax.named 1)
+              Syntax.mut (Syntax.tyInt Syntax.w8)) 1 3 (Row.lease (κs .1 .0) (qs .1 .0)),
         ) (List._∷_ (3, Rows.arr-owed LentTilePartEntry.row 2048 2) (List._∷_ (
           4,
-          Rows'.any-gone (Syntax.tyEnum (List._∷_ 104
-              (List._∷_ 101 (List._∷_ 97 (List._∷_ 100 (List._∷_ 101 (List._∷_ 114 (List._∷_ 58 (List._∷_ 58 (List._∷_ 112 (List._∷_ 97 (List._∷_ 114 (List._∷_ 115 (List._∷_ 101
-              (List._∷_ 58 (List._∷_ 58 (List._∷_ 77 (List._∷_ 97 (List._∷_ 105 (List._∷_ 110 (List._∷_ 72 (List._∷_ 101 (List._∷_ 97 (List._∷_ 100 (List._∷_ 101 (List._∷_ 114
-              List.[]))))))))))))))))))))))))) (Syntax.ttcons (Syntax.tcons (Syntax.tyStruct (List._∷_ 104 (List._∷_ 101 (List._∷_ 97 (List._∷_ 100 (List._∷_ 101 (List._∷_ 114
-              (List._∷_ 58 (List._∷_ 58 (List._∷_ 112 (List._∷_ 97 (List._∷_ 114 (List._∷_ 115 (List._∷_ 101 (List._∷_ 58 (List._∷_ 58 (List._∷_ 77 (List._∷_ 97 (List._∷_ 105
-              (List._∷_ 110 (List._∷_ 72 (List._∷_ 101 (List._∷_ 97 (List._∷_ 100 (List._∷_ 101 (List._∷_ 114 (List._∷_ 73 (List._∷_ 110 (List._∷_ 102 (List._∷_ 111
-              List.[]))))))))))))))))))))))))))))) (Syntax.tcons (Syntax.tyStruct (List._∷_ 116 (List._∷_ 121 (List._∷_ 112 (List._∷_ 101 (List._∷_ 115 (List._∷_ 58 (List._∷_ 58
-              (List._∷_ 67 (List._∷_ 111 (List._∷_ 100 (List._∷_ 101 (List._∷_ 115 (List._∷_ 116 (List._∷_ 114 (List._∷_ 101 (List._∷_ 97 (List._∷_ 109 (List._∷_ 79 (List._∷_ 102
-              (List._∷_ 102 (List._∷_ 115 (List._∷_ 101 (List._∷_ 116 List.[]))))))))))))))))))))))) (Syntax.tcons (Syntax.tyInt Syntax.w64) Syntax.tnil)) (Syntax.tcons (Syntax.tyInt
-              Syntax.w64) (Syntax.tcons (Syntax.tyInt Syntax.w64) Syntax.tnil)))) Syntax.tnil) (Syntax.ttcons (Syntax.tcons (Syntax.tyStruct (List._∷_ 116 (List._∷_ 121 (List._∷_ 112
-              (List._∷_ 101 (List._∷_ 115 (List._∷_ 58 (List._∷_ 58 (List._∷_ 82 (List._∷_ 101 (List._∷_ 102 (List._∷_ 117 (List._∷_ 115 (List._∷_ 97 (List._∷_ 108
-              List.[])))))))))))))) (Syntax.tcons (Syntax.tyInt Syntax.w32) (Syntax.tcons (Syntax.tyInt Syntax.w64) Syntax.tnil))) Syntax.tnil) Syntax.ttnil))),
-        ) (List._∷_ (
-          5,
-          Rows'.any-gone (Syntax.tyArray LentTilePartEntry.spelled 2048),
-        ) (List._∷_ (
+          Rows'.any-gone
+              (Syntax.tyEnum (List._∷_ 104 (List._∷_ 101 (List._∷_ 97 (List._∷_ 100 (List._∷_ 101 (List._∷_ 114 (List._∷_ 58 (List._∷_ 58 (List._∷_ 112 (List._∷_ 97 (List._∷_ 114
+              (List._∷_ 115 (List._∷_ 101 (List._∷_ 58 (List._∷_ 58 (List._∷_ 77 (List._∷_ 97 (List._∷_ 105 (List._∷_ 110 (List._∷_ 72 (List._∷_ 101 (List._∷_ 97 (List._∷_ 100
+              (List._∷_ 101 (List._∷_ 114 List.[]))))))))))))))))))))))))) (Syntax.ttcons (Syntax.tcons (Syntax.tyStruct (List._∷_ 104 (List._∷_ 101 (List._∷_ 97 (List._∷_ 100
+              (List._∷_ 101 (List._∷_ 114 (List._∷_ 58 (List._∷_ 58 (List._∷_ 112 (List._∷_ 97 (List._∷_ 114 (List._∷_ 115 (List._∷_ 101 (List._∷_ 58 (List._∷_ 58 (List._∷_ 77
+              (List._∷_ 97 (List._∷_ 105 (List._∷_ 110 (List._∷_ 72 (List._∷_ 101 (List._∷_ 97 (List._∷_ 100 (List._∷_ 101 (List._∷_ 114 (List._∷_ 73 (List._∷_ 110 (List._∷_ 102
+              (List._∷_ 111 List.[]))))))))))))))))))))))))))))) (Syntax.tcons (Syntax.tyStruct (List._∷_ 116 (List._∷_ 121 (List._∷_ 112 (List._∷_ 101 (List._∷_ 115 (List._∷_ 58
+              (List._∷_ 58 (List._∷_ 67 (List._∷_ 111 (List._∷_ 100 (List._∷_ 101 (List._∷_ 115 (List._∷_ 116 (List._∷_ 114 (List._∷_ 101 (List._∷_ 97 (List._∷_ 109 (List._∷_ 79
+              (List._∷_ 102 (List._∷_ 102 (List._∷_ 115 (List._∷_ 101 (List._∷_ 116 List.[]))))))))))))))))))))))) (Syntax.tcons (Syntax.tyInt Syntax.w64) Syntax.tnil)) (Syntax.tcons
+              (Syntax.tyInt Syntax.w64) (Syntax.tcons (Syntax.tyInt Syntax.w64) (Syntax.tcons (Syntax.tyInt Syntax.w64) Syntax.tnil))))) Syntax.tnil) (Syntax.ttcons (Syntax.tcons
+              (Syntax.tyStruct (List._∷_ 116 (List._∷_ 121 (List._∷_ 112 (List._∷_ 101 (List._∷_ 115 (List._∷_ 58 (List._∷_ 58 (List._∷_ 82 (List._∷_ 101 (List._∷_ 102 (List._∷_ 117
+              (List._∷_ 115 (List._∷_ 97 (List._∷_ 108 List.[])))))))))))))) (Syntax.tcons (Syntax.tyInt Syntax.w32) (Syntax.tcons (Syntax.tyInt Syntax.w64) Syntax.tnil)))
+              Syntax.tnil) Syntax.ttnil))),
+        ) (List._∷_ (5, Rows'.any-gone (Syntax.tyArray LentTilePartEntry.spelled 2048)) (List._∷_ (
           6,
-          Rows'.any-gone (Syntax.tyRef Syntax.erased Syntax.mut (Syntax.tyArray
-              LentTilePartEntry.pointee 2048)),
-        ) (List._∷_ (7, Mut.mslice LentTilePartEntry.row (Syntax.tyRef Syntax.erased Syntax.mut LentTilePartEntry.pointee) 2) (List._∷_ (
-          8,
-          Rows'.any-gone (Syntax.tyRef Syntax.erased Syntax.mut (Syntax.tyInt Syntax.w8)),
+          Rows'.any-gone (Syntax.tyRef Syntax.erased
+              Syntax.mut (Syntax.tyArray LentTilePartEntry.pointee 2048)),
         ) (List._∷_ (
+          7,
+          Mut.mslice LentTilePartEntry.row (Syntax.tyRef Syntax.erased Syntax.mut
+              LentTilePartEntry.pointee) 2,
+        ) (List._∷_ (8, Rows'.any-gone (Syntax.tyRef Syntax.erased Syntax.mut (Syntax.tyInt Syntax.w8))) (List._∷_ (
           9,
-          Mut.mslice (Referent.rtF (Referent.fInt Syntax.w8)) (Syntax.tyRef
-              Syntax.erased Syntax.mut (Syntax.tyInt Syntax.w8)) 3,
+          Mut.mslice (Referent.rtF
+              (Referent.fInt Syntax.w8)) (Syntax.tyRef Syntax.erased Syntax.mut (Syntax.tyInt Syntax.w8)) 3,
         ) List.[])))))))))
 
         abbrev g9 : List.List Row.Entry
@@ -1413,37 +1465,40 @@ module _ (claims· : Claims) where
               List.[]))))))))))))))))))))))))))))) (Syntax.tcons (Syntax.tyStruct (List._∷_ 116 (List._∷_ 121 (List._∷_ 112 (List._∷_ 101 (List._∷_ 115 (List._∷_ 58 (List._∷_ 58
               (List._∷_ 67 (List._∷_ 111 (List._∷_ 100 (List._∷_ 101 (List._∷_ 115 (List._∷_ 116 (List._∷_ 114 (List._∷_ 101 (List._∷_ 97 (List._∷_ 109 (List._∷_ 79 (List._∷_ 102
               (List._∷_ 102 (List._∷_ 115 (List._∷_ 101 (List._∷_ 116 List.[]))))))))))))))))))))))) (Syntax.tcons (Syntax.tyInt Syntax.w64) Syntax.tnil)) (Syntax.tcons (Syntax.tyInt
-              Syntax.w64) (Syntax.tcons (Syntax.tyInt Syntax.w64) Syntax.tnil)))) Syntax.tnil) (Syntax.ttcons (Syntax.tcons (Syntax.tyStruct (List._∷_ 116 (List._∷_ 121 (List._∷_ 112
-              (List._∷_ 101 (List._∷_ 115 (List._∷_ 58 (List._∷_ 58 (List._∷_ 82 (List._∷_ 101 (List._∷_ 102 (List._∷_ 117 (List._∷_ 115 (List._∷_ 97 (List._∷_ 108
-              List.[])))))))))))))) (Syntax.tcons (Syntax.tyInt Syntax.w32) (Syntax.tcons (Syntax.tyInt Syntax.w64) Syntax.tnil))) Syntax.tnil) Syntax.ttnil))) (Syntax.tcons
-              (Syntax.tyArray (Syntax.tyStruct (List._∷_ 116 (List._∷_ 121 (List._∷_ 112 (List._∷_ 101 (List._∷_ 115 (List._∷_ 58 (List._∷_ 58 (List._∷_ 84 (List._∷_ 105 (List._∷_
-              108 (List._∷_ 101 (List._∷_ 80 (List._∷_ 97 (List._∷_ 114 (List._∷_ 116 (List._∷_ 69 (List._∷_ 110 (List._∷_ 116 (List._∷_ 114 (List._∷_ 121 List.[]))))))))))))))))))))
-              (Syntax.tcons (Syntax.tyInt Syntax.w16) (Syntax.tcons (Syntax.tyStruct (List._∷_ 116 (List._∷_ 121 (List._∷_ 112 (List._∷_ 101 (List._∷_ 115 (List._∷_ 58 (List._∷_ 58
-              (List._∷_ 67 (List._∷_ 111 (List._∷_ 100 (List._∷_ 101 (List._∷_ 115 (List._∷_ 116 (List._∷_ 114 (List._∷_ 101 (List._∷_ 97 (List._∷_ 109 (List._∷_ 79 (List._∷_ 102
-              (List._∷_ 102 (List._∷_ 115 (List._∷_ 101 (List._∷_ 116 List.[]))))))))))))))))))))))) (Syntax.tcons (Syntax.tyInt Syntax.w64) Syntax.tnil)) (Syntax.tcons (Syntax.tyInt
-              Syntax.w64) Syntax.tnil)))) 2048) Syntax.tnil))),
+              Syntax.w64) (Syntax.tcons (Syntax.tyInt Syntax.w64) (Syntax.tcons (Syntax.tyInt Syntax.w64) Syntax.tnil))))) Syntax.tnil) (Syntax.ttcons (Syntax.tcons (Syntax.tyStruct
+              (List._∷_ 116 (List._∷_ 121 (List._∷_ 112 (List._∷_ 101 (List._∷_ 115 (List._∷_ 58 (List._∷_ 58 (List._∷_ 82 (List._∷_ 101 (List._∷_ 102 (List._∷_ 117 (List._∷_ 115
+              (List._∷_ 97 (List._∷_ 108 List.[])))))))))))))) (Syntax.tcons (Syntax.tyInt Syntax.w32) (Syntax.tcons (Syntax.tyInt Syntax.w64) Syntax.tnil))) Syntax.tnil)
+              Syntax.ttnil))) (Syntax.tcons (Syntax.tyArray (Syntax.tyStruct (List._∷_ 116 (List._∷_ 121 (List._∷_ 112 (List._∷_ 101 (List._∷_ 115 (List._∷_ 58 (List._∷_ 58 (List._∷_
+              84 (List._∷_ 105 (List._∷_ 108 (List._∷_ 101 (List._∷_ 80 (List._∷_ 97 (List._∷_ 114 (List._∷_ 116 (List._∷_ 69 (List._∷_ 110 (List._∷_ 116 (List._∷_ 114 (List._∷_ 121
+              List.[])))))))))))))))))))) (Syntax.tcons (Syntax.tyInt Syntax.w16) (Syntax.tcons (Syntax.tyStruct (List._∷_ 116 (List._∷_ 121 (List._∷_ 112 (List._∷_ 101 (List._∷_ 115
+              (List._∷_ 58 (List._∷_ 58 (List._∷_ 67 (List._∷_ 111 (List._∷_ 100 (List._∷_ 101 (List._∷_ 115 (List._∷_ 116 (List._∷_ 114 (List._∷_ 101 (List._∷_ 97 (List._∷_ 109
+              (List._∷_ 79 (List._∷_ 102 (List._∷_ 102 (List._∷_ 115 (List._∷_ 101 (List._∷_ 116 List.[]))))))))))))))))))))))) (Syntax.tcons (Syntax.tyInt Syntax.w64) Syntax.tnil))
+              (Syntax.tcons (Syntax.tyInt Syntax.w64) Syntax.tnil)))) 2048) Syntax.tnil))),
         ) (List._∷_ (
           1,
-          Rows'.sslice (Referent.rtF (Referent.fInt Syntax.w8)) (Syntax.tyRef (Syntax.named 0) Syntax.imm
-              (Syntax.tyInt Syntax.w8)) 0,
+          Rows'.sslice (Referent.rtF (Referent.fInt Syntax.w8)) (Syntax.tyRef
+              (Syntax.named 0) Syntax.imm (Syntax.tyInt Syntax.w8)) 0,
         ) (List._∷_ (
           2,
-          Relend.mslice-owed (Referent.rtF (Referent.fInt Syntax.w8)) (Syntax.tyRef (Syntax.named 1) Syntax.mut (Syntax.tyInt
-              Syntax.w8)) 1 3 (Row.lease (κs .1 .0) (qs .1 .0)),
+          Relend.mslice-owed (Referent.rtF (Referent.fInt Syntax.w8)) (Syntax.tyRef (Syntax.named 1)
+              Syntax.mut (Syntax.tyInt Syntax.w8)) 1 3 (Row.lease (κs .1 .0) (qs .1 .0)),
         ) (List._∷_ (3, Rows.arr-owed LentTilePartEntry.row 2048 2) (List._∷_ (
           4,
-          Rows'.whole (Declared.row
-              MainHeader.the-type),
+          Rows'.whole
+              (Declared.row MainHeader.the-type),
         ) (List._∷_ (5, Rows'.any-gone (Syntax.tyArray LentTilePartEntry.spelled 2048)) (List._∷_ (
           6,
-          Rows'.any-gone (Syntax.tyRef Syntax.erased Syntax.mut
-              (Syntax.tyArray LentTilePartEntry.pointee 2048)),
-        ) (List._∷_ (7, Mut.msleft LentTilePartEntry.row (Syntax.tyRef Syntax.erased Syntax.mut LentTilePartEntry.pointee))
-            (List._∷_ (8, Rows'.any-gone (Syntax.tyRef Syntax.erased Syntax.mut (Syntax.tyInt Syntax.w8))) (List._∷_ (
-              9,
-              Mut.msleft (Referent.rtF (Referent.fInt Syntax.w8))
-                  (Syntax.tyRef Syntax.erased Syntax.mut (Syntax.tyInt Syntax.w8)),
-            ) List.[])))))))))
+          Rows'.any-gone (Syntax.tyRef
+              Syntax.erased Syntax.mut (Syntax.tyArray LentTilePartEntry.pointee 2048)),
+        ) (List._∷_ (
+          7,
+          Mut.msleft LentTilePartEntry.row (Syntax.tyRef Syntax.erased Syntax.mut
+              LentTilePartEntry.pointee),
+        ) (List._∷_ (8, Rows'.any-gone (Syntax.tyRef Syntax.erased Syntax.mut (Syntax.tyInt Syntax.w8))) (List._∷_ (
+          9,
+          Mut.msleft (Referent.rtF
+              (Referent.fInt Syntax.w8)) (Syntax.tyRef Syntax.erased Syntax.mut (Syntax.tyInt Syntax.w8)),
+        ) List.[])))))))))
 
         abbrev g10 : List.List Row.Entry
         g10 = List._∷_ (
@@ -1459,41 +1514,43 @@ module _ (claims· : Claims) where
               List.[]))))))))))))))))))))))))))))) (Syntax.tcons (Syntax.tyStruct (List._∷_ 116 (List._∷_ 121 (List._∷_ 112 (List._∷_ 101 (List._∷_ 115 (List._∷_ 58 (List._∷_ 58
               (List._∷_ 67 (List._∷_ 111 (List._∷_ 100 (List._∷_ 101 (List._∷_ 115 (List._∷_ 116 (List._∷_ 114 (List._∷_ 101 (List._∷_ 97 (List._∷_ 109 (List._∷_ 79 (List._∷_ 102
               (List._∷_ 102 (List._∷_ 115 (List._∷_ 101 (List._∷_ 116 List.[]))))))))))))))))))))))) (Syntax.tcons (Syntax.tyInt Syntax.w64) Syntax.tnil)) (Syntax.tcons (Syntax.tyInt
-              Syntax.w64) (Syntax.tcons (Syntax.tyInt Syntax.w64) Syntax.tnil)))) Syntax.tnil) (Syntax.ttcons (Syntax.tcons (Syntax.tyStruct (List._∷_ 116 (List._∷_ 121 (List._∷_ 112
-              (List._∷_ 101 (List._∷_ 115 (List._∷_ 58 (List._∷_ 58 (List._∷_ 82 (List._∷_ 101 (List._∷_ 102 (List._∷_ 117 (List._∷_ 115 (List._∷_ 97 (List._∷_ 108
-              List.[])))))))))))))) (Syntax.tcons (Syntax.tyInt Syntax.w32) (Syntax.tcons (Syntax.tyInt Syntax.w64) Syntax.tnil))) Syntax.tnil) Syntax.ttnil))) (Syntax.tcons
-              (Syntax.tyArray (Syntax.tyStruct (List._∷_ 116 (List._∷_ 121 (List._∷_ 112 (List._∷_ 101 (List._∷_ 115 (List._∷_ 58 (List._∷_ 58 (List._∷_ 84 (List._∷_ 105 (List._∷_
-              108 (List._∷_ 101 (List._∷_ 80 (List._∷_ 97 (List._∷_ 114 (List._∷_ 116 (List._∷_ 69 (List._∷_ 110 (List._∷_ 116 (List._∷_ 114 (List._∷_ 121 List.[]))))))))))))))))))))
-              (Syntax.tcons (Syntax.tyInt Syntax.w16) (Syntax.tcons (Syntax.tyStruct (List._∷_ 116 (List._∷_ 121 (List._∷_ 112 (List._∷_ 101 (List._∷_ 115 (List._∷_ 58 (List._∷_ 58
-              (List._∷_ 67 (List._∷_ 111 (List._∷_ 100 (List._∷_ 101 (List._∷_ 115 (List._∷_ 116 (List._∷_ 114 (List._∷_ 101 (List._∷_ 97 (List._∷_ 109 (List._∷_ 79 (List._∷_ 102
-              (List._∷_ 102 (List._∷_ 115 (List._∷_ 101 (List._∷_ 116 List.[]))))))))))))))))))))))) (Syntax.tcons (Syntax.tyInt Syntax.w64) Syntax.tnil)) (Syntax.tcons (Syntax.tyInt
-              Syntax.w64) Syntax.tnil)))) 2048) Syntax.tnil))),
+              Syntax.w64) (Syntax.tcons (Syntax.tyInt Syntax.w64) (Syntax.tcons (Syntax.tyInt Syntax.w64) Syntax.tnil))))) Syntax.tnil) (Syntax.ttcons (Syntax.tcons (Syntax.tyStruct
+              (List._∷_ 116 (List._∷_ 121 (List._∷_ 112 (List._∷_ 101 (List._∷_ 115 (List._∷_ 58 (List._∷_ 58 (List._∷_ 82 (List._∷_ 101 (List._∷_ 102 (List._∷_ 117 (List._∷_ 115
+              (List._∷_ 97 (List._∷_ 108 List.[])))))))))))))) (Syntax.tcons (Syntax.tyInt Syntax.w32) (Syntax.tcons (Syntax.tyInt Syntax.w64) Syntax.tnil))) Syntax.tnil)
+              Syntax.ttnil))) (Syntax.tcons (Syntax.tyArray (Syntax.tyStruct (List._∷_ 116 (List._∷_ 121 (List._∷_ 112 (List._∷_ 101 (List._∷_ 115 (List._∷_ 58 (List._∷_ 58 (List._∷_
+              84 (List._∷_ 105 (List._∷_ 108 (List._∷_ 101 (List._∷_ 80 (List._∷_ 97 (List._∷_ 114 (List._∷_ 116 (List._∷_ 69 (List._∷_ 110 (List._∷_ 116 (List._∷_ 114 (List._∷_ 121
+              List.[])))))))))))))))))))) (Syntax.tcons (Syntax.tyInt Syntax.w16) (Syntax.tcons (Syntax.tyStruct (List._∷_ 116 (List._∷_ 121 (List._∷_ 112 (List._∷_ 101 (List._∷_ 115
+              (List._∷_ 58 (List._∷_ 58 (List._∷_ 67 (List._∷_ 111 (List._∷_ 100 (List._∷_ 101 (List._∷_ 115 (List._∷_ 116 (List._∷_ 114 (List._∷_ 101 (List._∷_ 97 (List._∷_ 109
+              (List._∷_ 79 (List._∷_ 102 (List._∷_ 102 (List._∷_ 115 (List._∷_ 101 (List._∷_ 116 List.[]))))))))))))))))))))))) (Syntax.tcons (Syntax.tyInt Syntax.w64) Syntax.tnil))
+              (Syntax.tcons (Syntax.tyInt Syntax.w64) Syntax.tnil)))) 2048) Syntax.tnil))),
         ) (List._∷_ (
           1,
-          Rows'.sslice (Referent.rtF (Referent.fInt Syntax.w8)) (Syntax.tyRef (Syntax.named 0) Syntax.imm
-              (Syntax.tyInt Syntax.w8)) 0,
+          Rows'.sslice (Referent.rtF (Referent.fInt Syntax.w8)) (Syntax.tyRef
+              (Syntax.named 0) Syntax.imm (Syntax.tyInt Syntax.w8)) 0,
         ) (List._∷_ (
           2,
-          Relend.mslice-owed (Referent.rtF (Referent.fInt Syntax.w8)) (Syntax.tyRef (Syntax.named 1) Syntax.mut (Syntax.tyInt
-              Syntax.w8)) 1 3 (Row.lease (κs .1 .0) (qs .1 .0)),
-        ) (List._∷_ (3, Rows.arrF LentTilePartEntry.row 2048 0) (List._∷_ (4, Rows'.whole (Declared.row MainHeader.the-type))
-            (List._∷_ (5, Rows'.any-gone (Syntax.tyArray LentTilePartEntry.spelled 2048)) (List._∷_ (
-              6,
-              Rows'.any-gone (Syntax.tyRef Syntax.erased Syntax.mut (Syntax.tyArray
-                  LentTilePartEntry.pointee 2048)),
-            ) (List._∷_ (
-              7,
-              Rows'.any-gone (Syntax.tyStruct (List._∷_ 38 (List._∷_ 91 (List._∷_ 93 List.[]))) (Syntax.tcons (Syntax.tyRef
-                  Syntax.erased Syntax.mut LentTilePartEntry.pointee) (Syntax.tcons (Syntax.tyInt Syntax.w64) Syntax.tnil))),
-            ) (List._∷_ (
-              8,
-              Rows'.any-gone (Syntax.tyRef Syntax.erased
-                  Syntax.mut (Syntax.tyInt Syntax.w8)),
-            ) (List._∷_ (
-              9,
-              Mut.msleft (Referent.rtF (Referent.fInt Syntax.w8)) (Syntax.tyRef Syntax.erased Syntax.mut (Syntax.tyInt
-                  Syntax.w8)),
-            ) List.[])))))))))
+          Relend.mslice-owed (Referent.rtF (Referent.fInt Syntax.w8)) (Syntax.tyRef (Syntax.named 1)
+              Syntax.mut (Syntax.tyInt Syntax.w8)) 1 3 (Row.lease (κs .1 .0) (qs .1 .0)),
+        ) (List._∷_ (3, Rows.arrF LentTilePartEntry.row 2048 0) (List._∷_ (
+          4,
+          Rows'.whole
+              (Declared.row MainHeader.the-type),
+        ) (List._∷_ (5, Rows'.any-gone (Syntax.tyArray LentTilePartEntry.spelled 2048)) (List._∷_ (
+          6,
+          Rows'.any-gone (Syntax.tyRef
+              Syntax.erased Syntax.mut (Syntax.tyArray LentTilePartEntry.pointee 2048)),
+        ) (List._∷_ (
+          7,
+          Rows'.any-gone (Syntax.tyStruct (List._∷_ 38 (List._∷_ 91 (List._∷_ 93
+              List.[]))) (Syntax.tcons (Syntax.tyRef Syntax.erased Syntax.mut LentTilePartEntry.pointee) (Syntax.tcons (Syntax.tyInt Syntax.w64) Syntax.tnil))),
+        ) (List._∷_ (
+          8,
+          Rows'.any-gone (Syntax.tyRef Syntax.erased Syntax.mut (Syntax.tyInt Syntax.w8)),
+        ) (List._∷_ (
+          9,
+          Mut.msleft (Referent.rtF (Referent.fInt Syntax.w8)) (Syntax.tyRef
+              Syntax.erased Syntax.mut (Syntax.tyInt Syntax.w8)),
+        ) List.[])))))))))
 
         abbrev G0 : Row.Cx
         G0 = record { locals = t0; slots = List._∷_ (Row.lease (κs .0) (qs .0)) (List._∷_ (Row.lease (κs .1 .0) (qs .1 .0)) (List._∷_ Row.off (List._∷_ Row.off List.[]))) }
@@ -1598,21 +1655,21 @@ module _ (claims· : Claims) where
               List.[]))))))))))))))))))))))))))))) (Syntax.tcons (Syntax.tyStruct (List._∷_ 116 (List._∷_ 121 (List._∷_ 112 (List._∷_ 101 (List._∷_ 115 (List._∷_ 58 (List._∷_ 58
               (List._∷_ 67 (List._∷_ 111 (List._∷_ 100 (List._∷_ 101 (List._∷_ 115 (List._∷_ 116 (List._∷_ 114 (List._∷_ 101 (List._∷_ 97 (List._∷_ 109 (List._∷_ 79 (List._∷_ 102
               (List._∷_ 102 (List._∷_ 115 (List._∷_ 101 (List._∷_ 116 List.[]))))))))))))))))))))))) (Syntax.tcons (Syntax.tyInt Syntax.w64) Syntax.tnil)) (Syntax.tcons
-              (Syntax.tyInt Syntax.w64) (Syntax.tcons (Syntax.tyInt Syntax.w64) Syntax.tnil)))) Syntax.tnil) (Syntax.ttcons (Syntax.tcons (Syntax.tyStruct (List._∷_ 116 (List._∷_
-              121 (List._∷_ 112 (List._∷_ 101 (List._∷_ 115 (List._∷_ 58 (List._∷_ 58 (List._∷_ 82 (List._∷_ 101 (List._∷_ 102 (List._∷_ 117 (List._∷_ 115 (List._∷_ 97 (List._∷_
-              108 List.[])))))))))))))) (Syntax.tcons (Syntax.tyInt Syntax.w32) (Syntax.tcons (Syntax.tyInt Syntax.w64) Syntax.tnil))) Syntax.tnil) Syntax.ttnil)))
-              (Local.room-whole 𝓤 H A W (Declared.row MainHeader.the-type) (Syntax.tyEnum (List._∷_ 104 (List._∷_ 101 (List._∷_ 97 (List._∷_ 100 (List._∷_ 101 (List._∷_ 114
-              (List._∷_ 58 (List._∷_ 58 (List._∷_ 112 (List._∷_ 97 (List._∷_ 114 (List._∷_ 115 (List._∷_ 101 (List._∷_ 58 (List._∷_ 58 (List._∷_ 77 (List._∷_ 97 (List._∷_ 105
-              (List._∷_ 110 (List._∷_ 72 (List._∷_ 101 (List._∷_ 97 (List._∷_ 100 (List._∷_ 101 (List._∷_ 114 List.[]))))))))))))))))))))))))) (Syntax.ttcons (Syntax.tcons
-              (Syntax.tyStruct (List._∷_ 104 (List._∷_ 101 (List._∷_ 97 (List._∷_ 100 (List._∷_ 101 (List._∷_ 114 (List._∷_ 58 (List._∷_ 58 (List._∷_ 112 (List._∷_ 97 (List._∷_ 114
-              (List._∷_ 115 (List._∷_ 101 (List._∷_ 58 (List._∷_ 58 (List._∷_ 77 (List._∷_ 97 (List._∷_ 105 (List._∷_ 110 (List._∷_ 72 (List._∷_ 101 (List._∷_ 97 (List._∷_ 100
-              (List._∷_ 101 (List._∷_ 114 (List._∷_ 73 (List._∷_ 110 (List._∷_ 102 (List._∷_ 111 List.[]))))))))))))))))))))))))))))) (Syntax.tcons (Syntax.tyStruct (List._∷_ 116
-              (List._∷_ 121 (List._∷_ 112 (List._∷_ 101 (List._∷_ 115 (List._∷_ 58 (List._∷_ 58 (List._∷_ 67 (List._∷_ 111 (List._∷_ 100 (List._∷_ 101 (List._∷_ 115 (List._∷_ 116
-              (List._∷_ 114 (List._∷_ 101 (List._∷_ 97 (List._∷_ 109 (List._∷_ 79 (List._∷_ 102 (List._∷_ 102 (List._∷_ 115 (List._∷_ 101 (List._∷_ 116
-              List.[]))))))))))))))))))))))) (Syntax.tcons (Syntax.tyInt Syntax.w64) Syntax.tnil)) (Syntax.tcons (Syntax.tyInt Syntax.w64) (Syntax.tcons (Syntax.tyInt Syntax.w64)
-              Syntax.tnil)))) Syntax.tnil) (Syntax.ttcons (Syntax.tcons (Syntax.tyStruct (List._∷_ 116 (List._∷_ 121 (List._∷_ 112 (List._∷_ 101 (List._∷_ 115 (List._∷_ 58
-              (List._∷_ 58 (List._∷_ 82 (List._∷_ 101 (List._∷_ 102 (List._∷_ 117 (List._∷_ 115 (List._∷_ 97 (List._∷_ 108 List.[])))))))))))))) (Syntax.tcons (Syntax.tyInt
-              Syntax.w32) (Syntax.tcons (Syntax.tyInt Syntax.w64) Syntax.tnil))) Syntax.tnil) Syntax.ttnil))) Path'.refl)) d1
+              (Syntax.tyInt Syntax.w64) (Syntax.tcons (Syntax.tyInt Syntax.w64) (Syntax.tcons (Syntax.tyInt Syntax.w64) Syntax.tnil))))) Syntax.tnil) (Syntax.ttcons (Syntax.tcons
+              (Syntax.tyStruct (List._∷_ 116 (List._∷_ 121 (List._∷_ 112 (List._∷_ 101 (List._∷_ 115 (List._∷_ 58 (List._∷_ 58 (List._∷_ 82 (List._∷_ 101 (List._∷_ 102 (List._∷_
+              117 (List._∷_ 115 (List._∷_ 97 (List._∷_ 108 List.[])))))))))))))) (Syntax.tcons (Syntax.tyInt Syntax.w32) (Syntax.tcons (Syntax.tyInt Syntax.w64) Syntax.tnil)))
+              Syntax.tnil) Syntax.ttnil))) (Local.room-whole 𝓤 H A W (Declared.row MainHeader.the-type) (Syntax.tyEnum (List._∷_ 104 (List._∷_ 101 (List._∷_ 97 (List._∷_ 100
+              (List._∷_ 101 (List._∷_ 114 (List._∷_ 58 (List._∷_ 58 (List._∷_ 112 (List._∷_ 97 (List._∷_ 114 (List._∷_ 115 (List._∷_ 101 (List._∷_ 58 (List._∷_ 58 (List._∷_ 77
+              (List._∷_ 97 (List._∷_ 105 (List._∷_ 110 (List._∷_ 72 (List._∷_ 101 (List._∷_ 97 (List._∷_ 100 (List._∷_ 101 (List._∷_ 114 List.[])))))))))))))))))))))))))
+              (Syntax.ttcons (Syntax.tcons (Syntax.tyStruct (List._∷_ 104 (List._∷_ 101 (List._∷_ 97 (List._∷_ 100 (List._∷_ 101 (List._∷_ 114 (List._∷_ 58 (List._∷_ 58 (List._∷_
+              112 (List._∷_ 97 (List._∷_ 114 (List._∷_ 115 (List._∷_ 101 (List._∷_ 58 (List._∷_ 58 (List._∷_ 77 (List._∷_ 97 (List._∷_ 105 (List._∷_ 110 (List._∷_ 72 (List._∷_ 101
+              (List._∷_ 97 (List._∷_ 100 (List._∷_ 101 (List._∷_ 114 (List._∷_ 73 (List._∷_ 110 (List._∷_ 102 (List._∷_ 111 List.[]))))))))))))))))))))))))))))) (Syntax.tcons
+              (Syntax.tyStruct (List._∷_ 116 (List._∷_ 121 (List._∷_ 112 (List._∷_ 101 (List._∷_ 115 (List._∷_ 58 (List._∷_ 58 (List._∷_ 67 (List._∷_ 111 (List._∷_ 100 (List._∷_
+              101 (List._∷_ 115 (List._∷_ 116 (List._∷_ 114 (List._∷_ 101 (List._∷_ 97 (List._∷_ 109 (List._∷_ 79 (List._∷_ 102 (List._∷_ 102 (List._∷_ 115 (List._∷_ 101 (List._∷_
+              116 List.[]))))))))))))))))))))))) (Syntax.tcons (Syntax.tyInt Syntax.w64) Syntax.tnil)) (Syntax.tcons (Syntax.tyInt Syntax.w64) (Syntax.tcons (Syntax.tyInt
+              Syntax.w64) (Syntax.tcons (Syntax.tyInt Syntax.w64) Syntax.tnil))))) Syntax.tnil) (Syntax.ttcons (Syntax.tcons (Syntax.tyStruct (List._∷_ 116 (List._∷_ 121 (List._∷_
+              112 (List._∷_ 101 (List._∷_ 115 (List._∷_ 58 (List._∷_ 58 (List._∷_ 82 (List._∷_ 101 (List._∷_ 102 (List._∷_ 117 (List._∷_ 115 (List._∷_ 97 (List._∷_ 108
+              List.[])))))))))))))) (Syntax.tcons (Syntax.tyInt Syntax.w32) (Syntax.tcons (Syntax.tyInt Syntax.w64) Syntax.tnil))) Syntax.tnil) Syntax.ttnil))) Path'.refl)) d1
 
           d3 : Typed.Typed 𝓤 H A 𝓣 E G22 b10 Δ0 (at3 bs)
           d3 = Typed.s-seq 𝓤 H A W 𝓣 E G22 G23 b8 b9 Δ0 (Typed.both (s21 bs)) (at2 bs) (Plain.t-call-plain 𝓤 H A W 𝓣 0 ps·2 r·2 (claims· .4) (claims· .5)
@@ -1654,16 +1711,16 @@ module _ (claims· : Claims) where
               (List._∷_ 114 (List._∷_ 73 (List._∷_ 110 (List._∷_ 102 (List._∷_ 111 List.[]))))))))))))))))))))))))))))) (Syntax.tcons (Syntax.tyStruct (List._∷_ 116 (List._∷_ 121
               (List._∷_ 112 (List._∷_ 101 (List._∷_ 115 (List._∷_ 58 (List._∷_ 58 (List._∷_ 67 (List._∷_ 111 (List._∷_ 100 (List._∷_ 101 (List._∷_ 115 (List._∷_ 116 (List._∷_ 114
               (List._∷_ 101 (List._∷_ 97 (List._∷_ 109 (List._∷_ 79 (List._∷_ 102 (List._∷_ 102 (List._∷_ 115 (List._∷_ 101 (List._∷_ 116 List.[])))))))))))))))))))))))
-              (Syntax.tcons (Syntax.tyInt Syntax.w64) Syntax.tnil)) (Syntax.tcons (Syntax.tyInt Syntax.w64) (Syntax.tcons (Syntax.tyInt Syntax.w64) Syntax.tnil)))) Syntax.tnil)
-              (Syntax.ttcons (Syntax.tcons (Syntax.tyStruct (List._∷_ 116 (List._∷_ 121 (List._∷_ 112 (List._∷_ 101 (List._∷_ 115 (List._∷_ 58 (List._∷_ 58 (List._∷_ 82 (List._∷_
-              101 (List._∷_ 102 (List._∷_ 117 (List._∷_ 115 (List._∷_ 97 (List._∷_ 108 List.[])))))))))))))) (Syntax.tcons (Syntax.tyInt Syntax.w32) (Syntax.tcons (Syntax.tyInt
-              Syntax.w64) Syntax.tnil))) Syntax.tnil) Syntax.ttnil))) (Syntax.tcons (Syntax.tyArray (Syntax.tyStruct (List._∷_ 116 (List._∷_ 121 (List._∷_ 112 (List._∷_ 101
-              (List._∷_ 115 (List._∷_ 58 (List._∷_ 58 (List._∷_ 84 (List._∷_ 105 (List._∷_ 108 (List._∷_ 101 (List._∷_ 80 (List._∷_ 97 (List._∷_ 114 (List._∷_ 116 (List._∷_ 69
-              (List._∷_ 110 (List._∷_ 116 (List._∷_ 114 (List._∷_ 121 List.[])))))))))))))))))))) (Syntax.tcons (Syntax.tyInt Syntax.w16) (Syntax.tcons (Syntax.tyStruct (List._∷_
-              116 (List._∷_ 121 (List._∷_ 112 (List._∷_ 101 (List._∷_ 115 (List._∷_ 58 (List._∷_ 58 (List._∷_ 67 (List._∷_ 111 (List._∷_ 100 (List._∷_ 101 (List._∷_ 115 (List._∷_
-              116 (List._∷_ 114 (List._∷_ 101 (List._∷_ 97 (List._∷_ 109 (List._∷_ 79 (List._∷_ 102 (List._∷_ 102 (List._∷_ 115 (List._∷_ 101 (List._∷_ 116
-              List.[]))))))))))))))))))))))) (Syntax.tcons (Syntax.tyInt Syntax.w64) Syntax.tnil)) (Syntax.tcons (Syntax.tyInt Syntax.w64) Syntax.tnil)))) 2048) Syntax.tnil)))) tt
-              Path'.refl) d2
+              (Syntax.tcons (Syntax.tyInt Syntax.w64) Syntax.tnil)) (Syntax.tcons (Syntax.tyInt Syntax.w64) (Syntax.tcons (Syntax.tyInt Syntax.w64) (Syntax.tcons (Syntax.tyInt
+              Syntax.w64) Syntax.tnil))))) Syntax.tnil) (Syntax.ttcons (Syntax.tcons (Syntax.tyStruct (List._∷_ 116 (List._∷_ 121 (List._∷_ 112 (List._∷_ 101 (List._∷_ 115
+              (List._∷_ 58 (List._∷_ 58 (List._∷_ 82 (List._∷_ 101 (List._∷_ 102 (List._∷_ 117 (List._∷_ 115 (List._∷_ 97 (List._∷_ 108 List.[])))))))))))))) (Syntax.tcons
+              (Syntax.tyInt Syntax.w32) (Syntax.tcons (Syntax.tyInt Syntax.w64) Syntax.tnil))) Syntax.tnil) Syntax.ttnil))) (Syntax.tcons (Syntax.tyArray (Syntax.tyStruct (List._∷_
+              116 (List._∷_ 121 (List._∷_ 112 (List._∷_ 101 (List._∷_ 115 (List._∷_ 58 (List._∷_ 58 (List._∷_ 84 (List._∷_ 105 (List._∷_ 108 (List._∷_ 101 (List._∷_ 80 (List._∷_ 97
+              (List._∷_ 114 (List._∷_ 116 (List._∷_ 69 (List._∷_ 110 (List._∷_ 116 (List._∷_ 114 (List._∷_ 121 List.[])))))))))))))))))))) (Syntax.tcons (Syntax.tyInt Syntax.w16)
+              (Syntax.tcons (Syntax.tyStruct (List._∷_ 116 (List._∷_ 121 (List._∷_ 112 (List._∷_ 101 (List._∷_ 115 (List._∷_ 58 (List._∷_ 58 (List._∷_ 67 (List._∷_ 111 (List._∷_
+              100 (List._∷_ 101 (List._∷_ 115 (List._∷_ 116 (List._∷_ 114 (List._∷_ 101 (List._∷_ 97 (List._∷_ 109 (List._∷_ 79 (List._∷_ 102 (List._∷_ 102 (List._∷_ 115 (List._∷_
+              101 (List._∷_ 116 List.[]))))))))))))))))))))))) (Syntax.tcons (Syntax.tyInt Syntax.w64) Syntax.tnil)) (Syntax.tcons (Syntax.tyInt Syntax.w64) Syntax.tnil)))) 2048)
+              Syntax.tnil)))) tt Path'.refl) d2
 
           d4 : Typed.Typed 𝓤 H A 𝓣 E G21 b10 Δ0 (at4 bs)
           d4 = Typed.g-pre 𝓤 H A W 𝓣 E G21 G22 b10 Δ0 (Typed.pass T21 T22 (s20 bs)) (at3 bs) (Scalar.g-room 𝓤 H A W E G21 3 (Syntax.tyArray LentTilePartEntry.spelled 2048)
@@ -1755,10 +1812,10 @@ module _ (claims· : Claims) where
               (List._∷_ 73 (List._∷_ 110 (List._∷_ 102 (List._∷_ 111 List.[]))))))))))))))))))))))))))))) (Syntax.tcons (Syntax.tyStruct (List._∷_ 116 (List._∷_ 121 (List._∷_ 112
               (List._∷_ 101 (List._∷_ 115 (List._∷_ 58 (List._∷_ 58 (List._∷_ 67 (List._∷_ 111 (List._∷_ 100 (List._∷_ 101 (List._∷_ 115 (List._∷_ 116 (List._∷_ 114 (List._∷_ 101
               (List._∷_ 97 (List._∷_ 109 (List._∷_ 79 (List._∷_ 102 (List._∷_ 102 (List._∷_ 115 (List._∷_ 101 (List._∷_ 116 List.[]))))))))))))))))))))))) (Syntax.tcons
-              (Syntax.tyInt Syntax.w64) Syntax.tnil)) (Syntax.tcons (Syntax.tyInt Syntax.w64) (Syntax.tcons (Syntax.tyInt Syntax.w64) Syntax.tnil)))) Syntax.tnil) (Syntax.ttcons
-              (Syntax.tcons (Syntax.tyStruct (List._∷_ 116 (List._∷_ 121 (List._∷_ 112 (List._∷_ 101 (List._∷_ 115 (List._∷_ 58 (List._∷_ 58 (List._∷_ 82 (List._∷_ 101 (List._∷_
-              102 (List._∷_ 117 (List._∷_ 115 (List._∷_ 97 (List._∷_ 108 List.[])))))))))))))) (Syntax.tcons (Syntax.tyInt Syntax.w32) (Syntax.tcons (Syntax.tyInt Syntax.w64)
-              Syntax.tnil))) Syntax.tnil) Syntax.ttnil)))) (tt, (tt, (tt, tt))) Path'.refl) d12
+              (Syntax.tyInt Syntax.w64) Syntax.tnil)) (Syntax.tcons (Syntax.tyInt Syntax.w64) (Syntax.tcons (Syntax.tyInt Syntax.w64) (Syntax.tcons (Syntax.tyInt Syntax.w64)
+              Syntax.tnil))))) Syntax.tnil) (Syntax.ttcons (Syntax.tcons (Syntax.tyStruct (List._∷_ 116 (List._∷_ 121 (List._∷_ 112 (List._∷_ 101 (List._∷_ 115 (List._∷_ 58
+              (List._∷_ 58 (List._∷_ 82 (List._∷_ 101 (List._∷_ 102 (List._∷_ 117 (List._∷_ 115 (List._∷_ 97 (List._∷_ 108 List.[])))))))))))))) (Syntax.tcons (Syntax.tyInt
+              Syntax.w32) (Syntax.tcons (Syntax.tyInt Syntax.w64) Syntax.tnil))) Syntax.tnil) Syntax.ttnil)))) (tt, (tt, (tt, tt))) Path'.refl) d12
 
           d14 : Typed.Typed 𝓤 H A 𝓣 E G11 b13 Δ0 (at14 bs)
           d14 = Typed.s-seq 𝓤 H A W 𝓣 E G11 G12 b5 b12 Δ0 (Typed.ask (s10 bs)) (at13 bs) (Relend.t-sl-aggregate 𝓤 H A W E (Referent.rtF (Referent.fInt Syntax.w8)) 𝓣 (Relend.asMut
