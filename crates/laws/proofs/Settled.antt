@@ -17,52 +17,52 @@ use Rattle.reader.proofs as reader
 use Rattle.host.proofs as host
 use Rattle.probe.proofs as probe
 use Rattle.laws.specs.Settles.{Settles, SettlesAs}
-use Rattle.laws.proofs.Settling.{one, two, three, four, six, nine, by-first}
+use Rattle.laws.proofs.Settling.{last, before, settles, by-first}
 
 -- ---- numbers
 
 pub clamped-sub : {M : Type 1} → Settles M numbers.clamped_sub.ended numbers.clamped_sub.clauses
-clamped-sub m κs a g = one m λ x y e i. (e i, x .1)
+clamped-sub m κs a g = settles m (last m) λ x y e i. (e i, x .1)
 
 pub minimum : {M : Type 1} → Settles M numbers.minimum.ended numbers.minimum.clauses
-minimum m κs a g = one m λ x y e i. (e i, x .1)
+minimum m κs a g = settles m (last m) λ x y e i. (e i, x .1)
 
 pub maximum : {M : Type 1} → Settles M numbers.maximum.ended numbers.maximum.clauses
-maximum m κs a g = one m λ x y e i. (e i, x .1)
+maximum m κs a g = settles m (last m) λ x y e i. (e i, x .1)
 
 -- ---- types
 
 pub codestream-at : {M : Type 1} → Settles M types.CodestreamOffset.at.ended types.CodestreamOffset.at.clauses
-codestream-at m κs a g = one m λ x y e i. (record { 0 = e i }, x .1)
+codestream-at m κs a g = settles m (last m) λ x y e i. (record { 0 = e i }, x .1)
 
 pub codestream-position : {M : Type 1} → Settles M types.CodestreamOffset.position.ended types.CodestreamOffset.position.clauses
-codestream-position m κs a g = one m λ x y e i. (e i, x .1)
+codestream-position m κs a g = settles m (last m) λ x y e i. (e i, x .1)
 
 pub file-position : {M : Type 1} → Settles M types.FileOffset.position.ended types.FileOffset.position.clauses
-file-position m κs a g = one m λ x y e i. (e i, x .1)
+file-position m κs a g = settles m (last m) λ x y e i. (e i, x .1)
 
 pub in-file : {M : Type 1} → Settles M types.CodestreamOffset.in_file.ended types.CodestreamOffset.in_file.clauses
-in-file m κs a g = one m λ x y e i. (e i, x .1)
+in-file m κs a g = settles m (last m) λ x y e i. (e i, x .1)
 
 pub in-codestream : {M : Type 1} → Settles M types.FileOffset.in_codestream.ended types.FileOffset.in_codestream.clauses
-in-codestream m κs a g = one m λ x y e i. (e i, x .1)
+in-codestream m κs a g = settles m (last m) λ x y e i. (e i, x .1)
 
 -- ---- header
 
 pub main-header-extent : {M : Type 1} → Settles M header.extent.main_header_extent.ended header.extent.main_header_extent.clauses
-main-header-extent m κs a g = one m λ x y e i. (e i, x .1)
+main-header-extent m κs a g = settles m (last m) λ x y e i. (e i, x .1)
 
 pub find-marker : {M : Type 1} → Settles M header.find.find_marker.ended header.find.find_marker.clauses
-find-marker m κs a g = one m λ x y e i. (e i, x .1)
+find-marker m κs a g = settles m (last m) λ x y e i. (e i, x .1)
 
 pub test-front : {M : Type 1} → Settles M header.parse.test_front.ended header.parse.test_front.clauses
-test-front m κs a g = one m λ x y e i. (e i, x .1)
+test-front m κs a g = settles m (last m) λ x y e i. (e i, x .1)
 
 pub header-decide : {M : Type 1} → Settles M header.parse.decide.ended header.parse.decide.clauses
-header-decide m κs a g = one m λ x y e i. (e i, x .1)
+header-decide m κs a g = settles m (last m) λ x y e i. (e i, x .1)
 
 pub header-tell : {M : Type 1} → Settles M header.parse.tell.ended header.parse.tell.clauses
-header-tell m κs a g = four m λ x y e i. (e .0 i, (tt, (e .1 i, (e .2 i, (e .3 i, tt)))))
+header-tell m κs a g = settles m (before m (before m (before m (before m (last m))))) λ x y e i. (e .0 i, (tt, (e .1 .0 i, (e .1 .1 .0 i, (e .1 .1 .1 .0 i, (e .1 .1 .1 .1 i, tt))))))
 
 pub parse-main-header : {M : Type 1} → Settles M header.parse.parse_main_header.ended header.parse.parse_main_header.clauses
 parse-main-header m κs a g =
@@ -72,34 +72,34 @@ parse-main-header m κs a g =
 -- ---- parts
 
 pub scan-step : {M : Type 1} → Settles M parts.scan.scan_step.ended parts.scan.scan_step.clauses
-scan-step m κs a g = one m λ x y e i. (e i, x .1)
+scan-step m κs a g = settles m (last m) λ x y e i. (e i, x .1)
 
 pub parts-decide : {M : Type 1} → Settles M parts.scan.decide.ended parts.scan.decide.clauses
-parts-decide m κs a g = one m λ x y e i. (e i, x .1)
+parts-decide m κs a g = settles m (last m) λ x y e i. (e i, x .1)
 
 pub scan-tell : {M : Type 1} → Settles M parts.scan.tell.ended parts.scan.tell.clauses
-scan-tell m κs a g = two m λ x y e i. (e .0 i, (tt, (e .1 i, tt)))
+scan-tell m κs a g = settles m (before m (last m)) λ x y e i. (e .0 i, (tt, (e .1 i, tt)))
 
 pub scan-sot-markers : {M : Type 1} → Settles M parts.scan.scan_sot_markers.ended parts.scan.scan_sot_markers.clauses
-scan-sot-markers m κs a g = two m λ x y e i. (e .0 i, (tt, (tt, (e .1 i, tt))))
+scan-sot-markers m κs a g = settles m (before m (last m)) λ x y e i. (e .0 i, (tt, (tt, (e .1 i, tt))))
 
 pub split-count : {M : Type 1} → Settles M parts.split.split_count.ended parts.split.split_count.clauses
-split-count m κs a g = one m λ x y e i. (e i, x .1)
+split-count m κs a g = settles m (last m) λ x y e i. (e i, x .1)
 
 -- the bytes of the part; not where in the slice they lie
 pub split-part : {M : Type 1} → SettlesAs M parts.split.split_part.ended parts.split.split_part.clauses (λ κs. List ℕ) (λ κs r. now r)
-split-part m κs a g = one m λ x y e i. (e i, x .1)
+split-part m κs a g = settles m (last m) λ x y e i. (e i, x .1)
 
 pub split-at : {M : Type 1} → SettlesAs M parts.split.split_at.ended parts.split.split_at.clauses (λ κs. List ℕ) (λ κs r. now r)
-split-at m κs a g = one m λ x y e i. (e i, x .1)
+split-at m κs a g = settles m (last m) λ x y e i. (e i, x .1)
 
 pub split-tell : {M : Type 1} → Settles M parts.split.tell.ended parts.split.tell.clauses
-split-tell m κs a g = three m λ x y e i. (e .0 i, (tt, (e .2 i, (e .1 i, tt))))
+split-tell m κs a g = settles m (before m (before m (last m))) λ x y e i. (e .0 i, (tt, (e .1 .1 i, (e .1 .0 i, tt))))
 
 -- ---- records
 
 pub records-scan-sot-markers : {M : Type 1} → Settles M records.scan.scan_sot_markers.ended records.scan.scan_sot_markers.clauses
-records-scan-sot-markers m κs a g = two m λ x y e i. (e .0 i, (tt, (tt, (e .1 i, tt))))
+records-scan-sot-markers m κs a g = settles m (before m (last m)) λ x y e i. (e .0 i, (tt, (tt, (e .1 i, tt))))
 
 pub records-parse-main-header : {M : Type 1} → Settles M records.main_header.parse_main_header.ended records.main_header.parse_main_header.clauses
 records-parse-main-header m κs a g =
@@ -107,7 +107,7 @@ records-parse-main-header m κs a g =
     (e .0 i, (tt, (e .1 i, (e .2 i, tt))))
 
 pub scan-table : {M : Type 1} → Settles M records.tables.scan_table.ended records.tables.scan_table.clauses
-scan-table m κs a g = two m λ x y e i. (record { answer = e .0 i; table = e .1 i }, x .1)
+scan-table m κs a g = settles m (before m (last m)) λ x y e i. (record { answer = e .0 i; table = e .1 i }, x .1)
 
 pub header-table : {M : Type 1} → Settles M records.tables.header_table.ended records.tables.header_table.clauses
 header-table m κs a g =
@@ -117,145 +117,145 @@ header-table m κs a g =
 -- ---- tile
 
 pub tile-size : {M : Type 1} → Settles M tile.rewrite.tile_size.ended tile.rewrite.tile_size.clauses
-tile-size m κs a g = one m λ x y e i. (e i, x .1)
+tile-size m κs a g = settles m (last m) λ x y e i. (e i, x .1)
 
 pub judge : {M : Type 1} → Settles M tile.rewrite.judge.ended tile.rewrite.judge.clauses
-judge m κs a g = one m λ x y e i. (e i, x .1)
+judge m κs a g = settles m (last m) λ x y e i. (e i, x .1)
 
 pub rewrite-siz-for-tile : {M : Type 1} → Settles M tile.rewrite.rewrite_siz_for_tile.ended tile.rewrite.rewrite_siz_for_tile.clauses
-rewrite-siz-for-tile m κs a g = two m λ x y e i. (e .0 i, (tt, (tt, (tt, (e .1 i, tt)))))
+rewrite-siz-for-tile m κs a g = settles m (before m (last m)) λ x y e i. (e .0 i, (tt, (tt, (tt, (e .1 i, tt)))))
 
 pub build-minimal-codestream : {M : Type 1} → Settles M tile.assembly.build_minimal_codestream.ended tile.assembly.build_minimal_codestream.clauses
-build-minimal-codestream m κs a g = two m λ x y e i. (e .0 i, (tt, (tt, (tt, (tt, (e .1 i, tt))))))
+build-minimal-codestream m κs a g = settles m (before m (last m)) λ x y e i. (e .0 i, (tt, (tt, (tt, (tt, (e .1 i, tt))))))
 
 -- ---- reader
 
 pub parse-siz-marker : {M : Type 1} → Settles M reader.siz.parse_siz_marker.ended reader.siz.parse_siz_marker.clauses
-parse-siz-marker m κs a g = one m λ x y e i. (e i, x .1)
+parse-siz-marker m κs a g = settles m (last m) λ x y e i. (e i, x .1)
 
 pub pixel-type-from-siz : {M : Type 1} → Settles M reader.siz.pixel_type_from_siz.ended reader.siz.pixel_type_from_siz.clauses
-pixel-type-from-siz m κs a g = one m λ x y e i. (e i, x .1)
+pixel-type-from-siz m κs a g = settles m (last m) λ x y e i. (e i, x .1)
 
 pub box-at : {M : Type 1} → Settles M reader.search.box_at.ended reader.search.box_at.clauses
-box-at m κs a g = one m λ x y e i. (e i, x .1)
+box-at m κs a g = settles m (last m) λ x y e i. (e i, x .1)
 
 pub find-codestream : {M : Type 1} → Settles M reader.search.find_codestream.ended reader.search.find_codestream.clauses
-find-codestream m κs a g = one m λ x y e i. (e i, x .1)
+find-codestream m κs a g = settles m (last m) λ x y e i. (e i, x .1)
 
 pub codestream-of : {M : Type 1} → SettlesAs M reader.search.codestream_of.ended reader.search.codestream_of.clauses (λ κs. List ℕ) (λ κs r. now r)
-codestream-of m κs a g = one m λ x y e i. (e i, x .1)
+codestream-of m κs a g = settles m (last m) λ x y e i. (e i, x .1)
 
 pub next-region : {M : Type 1} → Settles M reader.growth.next_region.ended reader.growth.next_region.clauses
-next-region m κs a g = one m λ x y e i. (e i, x .1)
+next-region m κs a g = settles m (last m) λ x y e i. (e i, x .1)
 
 pub grow-header-region : {M : Type 1} → Settles M reader.growth.grow_header_region.ended reader.growth.grow_header_region.clauses
-grow-header-region m κs a g = one m λ x y e i. (e i, x .1)
+grow-header-region m κs a g = settles m (last m) λ x y e i. (e i, x .1)
 
 pub read-components : {M : Type 1} → Settles M reader.components.read_components.ended reader.components.read_components.clauses
-read-components m κs a g = one m λ x y e i. (e i, x .1)
+read-components m κs a g = settles m (last m) λ x y e i. (e i, x .1)
 
 pub read-components-in-tile : {M : Type 1} → Settles M reader.components.read_components_in_tile.ended reader.components.read_components_in_tile.clauses
-read-components-in-tile m κs a g = one m λ x y e i. (e i, x .1)
+read-components-in-tile m κs a g = settles m (last m) λ x y e i. (e i, x .1)
 
 pub component : {M : Type 1} → Settles M reader.components.component.ended reader.components.component.clauses
-component m κs a g = one m λ x y e i. (e i, x .1)
+component m κs a g = settles m (last m) λ x y e i. (e i, x .1)
 
 pub component-in-tile : {M : Type 1} → Settles M reader.components.component_in_tile.ended reader.components.component_in_tile.clauses
-component-in-tile m κs a g = one m λ x y e i. (e i, x .1)
+component-in-tile m κs a g = settles m (last m) λ x y e i. (e i, x .1)
 
 pub component-within : {M : Type 1} → Settles M reader.components.component_within.ended reader.components.component_within.clauses
-component-within m κs a g = one m λ x y e i. (e i, x .1)
+component-within m κs a g = settles m (last m) λ x y e i. (e i, x .1)
 
 -- ---- host, for C
 
 pub winterhasp-in-file : {M : Type 1} → Settles M host.offsets.winterhasp_in_file.ended host.offsets.winterhasp_in_file.clauses
-winterhasp-in-file m κs a g = two m λ x y e i. (e .0 i, (tt, (tt, (e .1 i, tt))))
+winterhasp-in-file m κs a g = settles m (before m (last m)) λ x y e i. (e .0 i, (tt, (tt, (e .1 i, tt))))
 
 pub winterhasp-find-marker : {M : Type 1} → Settles M host.find.winterhasp_find_marker.ended host.find.winterhasp_find_marker.clauses
-winterhasp-find-marker m κs a g = two m λ x y e i. (e .0 i, (tt, (tt, (e .1 i, tt))))
+winterhasp-find-marker m κs a g = settles m (before m (last m)) λ x y e i. (e .0 i, (tt, (tt, (e .1 i, tt))))
 
 pub winterhasp-main-header-extent : {M : Type 1} → Settles M host.extent.winterhasp_main_header_extent.ended host.extent.winterhasp_main_header_extent.clauses
-winterhasp-main-header-extent m κs a g = two m λ x y e i. (e .0 i, (tt, (e .1 i, tt)))
+winterhasp-main-header-extent m κs a g = settles m (before m (last m)) λ x y e i. (e .0 i, (tt, (e .1 i, tt)))
 
 pub winterhasp-parse-main-header : {M : Type 1} → Settles M host.parse.winterhasp_parse_main_header.ended host.parse.winterhasp_parse_main_header.clauses
-winterhasp-parse-main-header m κs a g = six m λ x y e i. (e .0 i, (tt, (e .4 i, (e .5 i, (e .1 i, (e .2 i, (e .3 i, tt)))))))
+winterhasp-parse-main-header m κs a g = settles m (before m (before m (before m (before m (before m (before m (last m))))))) λ x y e i. (e .0 i, (tt, (e .1 .1 .1 .1 .1 .0 i, (e .1 .1 .1 .1 .1 .1 i, (e .1 .0 i, (e .1 .1 .0 i, (e .1 .1 .1 .0 i, (e .1 .1 .1 .1 .0 i, tt))))))))
 
 pub winterhasp-scan-sot-markers : {M : Type 1} → Settles M host.scan.winterhasp_scan_sot_markers.ended host.scan.winterhasp_scan_sot_markers.clauses
-winterhasp-scan-sot-markers m κs a g = three m λ x y e i. (e .0 i, (tt, (tt, (e .2 i, (e .1 i, tt)))))
+winterhasp-scan-sot-markers m κs a g = settles m (before m (before m (last m))) λ x y e i. (e .0 i, (tt, (tt, (e .1 .1 i, (e .1 .0 i, tt)))))
 
 pub winterhasp-split-count : {M : Type 1} → Settles M host.split.winterhasp_split_count.ended host.split.winterhasp_split_count.clauses
-winterhasp-split-count m κs a g = one m λ x y e i. (e i, x .1)
+winterhasp-split-count m κs a g = settles m (last m) λ x y e i. (e i, x .1)
 
 pub winterhasp-split-part : {M : Type 1} → Settles M host.split.winterhasp_split_part.ended host.split.winterhasp_split_part.clauses
-winterhasp-split-part m κs a g = three m λ x y e i. (e .0 i, (tt, (tt, (e .2 i, (e .1 i, tt)))))
+winterhasp-split-part m κs a g = settles m (before m (before m (last m))) λ x y e i. (e .0 i, (tt, (tt, (e .1 .1 i, (e .1 .0 i, tt)))))
 
 pub winterhasp-split-at : {M : Type 1} → Settles M host.split.winterhasp_split_at.ended host.split.winterhasp_split_at.clauses
-winterhasp-split-at m κs a g = three m λ x y e i. (e .0 i, (tt, (tt, (e .2 i, (e .1 i, tt)))))
+winterhasp-split-at m κs a g = settles m (before m (before m (last m))) λ x y e i. (e .0 i, (tt, (tt, (e .1 .1 i, (e .1 .0 i, tt)))))
 
 pub tell-written : {M : Type 1} → Settles M host.rewrite.tell_written.ended host.rewrite.tell_written.clauses
-tell-written m κs a g = two m λ x y e i. (e .0 i, (tt, (e .1 i, tt)))
+tell-written m κs a g = settles m (before m (last m)) λ x y e i. (e .0 i, (tt, (e .1 i, tt)))
 
 pub winterhasp-rewrite-siz-for-tile : {M : Type 1} → Settles M host.rewrite.winterhasp_rewrite_siz_for_tile.ended host.rewrite.winterhasp_rewrite_siz_for_tile.clauses
-winterhasp-rewrite-siz-for-tile m κs a g = three m λ x y e i. (e .0 i, (tt, (tt, (e .2 i, (e .1 i, tt)))))
+winterhasp-rewrite-siz-for-tile m κs a g = settles m (before m (before m (last m))) λ x y e i. (e .0 i, (tt, (tt, (e .1 .1 i, (e .1 .0 i, tt)))))
 
 pub rule-of : {M : Type 1} → Settles M host.rules.rule_of.ended host.rules.rule_of.clauses
-rule-of m κs a g = one m λ x y e i. (e i, x .1)
+rule-of m κs a g = settles m (last m) λ x y e i. (e i, x .1)
 
 pub winterhasp-rewrite-siz-for-tile-by-rule : {M : Type 1} → Settles M host.rewrite.winterhasp_rewrite_siz_for_tile_by_rule.ended host.rewrite.winterhasp_rewrite_siz_for_tile_by_rule.clauses
-winterhasp-rewrite-siz-for-tile-by-rule m κs a g = three m λ x y e i. (e .0 i, (tt, (tt, (tt, (e .2 i, (e .1 i, tt))))))
+winterhasp-rewrite-siz-for-tile-by-rule m κs a g = settles m (before m (before m (last m))) λ x y e i. (e .0 i, (tt, (tt, (tt, (e .1 .1 i, (e .1 .0 i, tt))))))
 
 pub winterhasp-build-minimal-codestream : {M : Type 1} → Settles M host.assembly.winterhasp_build_minimal_codestream.ended host.assembly.winterhasp_build_minimal_codestream.clauses
-winterhasp-build-minimal-codestream m κs a g = three m λ x y e i. (e .0 i, (tt, (tt, (tt, (e .2 i, (e .1 i, tt))))))
+winterhasp-build-minimal-codestream m κs a g = settles m (before m (before m (last m))) λ x y e i. (e .0 i, (tt, (tt, (tt, (e .1 .1 i, (e .1 .0 i, tt))))))
 
 pub winterhasp-build-minimal-codestream-by-rule : {M : Type 1} → Settles M host.assembly.winterhasp_build_minimal_codestream_by_rule.ended host.assembly.winterhasp_build_minimal_codestream_by_rule.clauses
-winterhasp-build-minimal-codestream-by-rule m κs a g = three m λ x y e i. (e .0 i, (tt, (tt, (tt, (tt, (e .2 i, (e .1 i, tt)))))))
+winterhasp-build-minimal-codestream-by-rule m κs a g = settles m (before m (before m (last m))) λ x y e i. (e .0 i, (tt, (tt, (tt, (tt, (e .1 .1 i, (e .1 .0 i, tt)))))))
 
 pub winterhasp-find-codestream : {M : Type 1} → Settles M host.search.winterhasp_find_codestream.ended host.search.winterhasp_find_codestream.clauses
-winterhasp-find-codestream m κs a g = three m λ x y e i. (e .0 i, (tt, (e .1 i, (e .2 i, tt))))
+winterhasp-find-codestream m κs a g = settles m (before m (before m (last m))) λ x y e i. (e .0 i, (tt, (e .1 .0 i, (e .1 .1 i, tt))))
 
 pub winterhasp-parse-siz-marker : {M : Type 1} → Settles M host.siz.winterhasp_parse_siz_marker.ended host.siz.winterhasp_parse_siz_marker.clauses
-winterhasp-parse-siz-marker m κs a g = six m λ x y e i. (e .0 i, (tt, (e .1 i, (e .2 i, (e .3 i, (e .4 i, (e .5 i, tt)))))))
+winterhasp-parse-siz-marker m κs a g = settles m (before m (before m (before m (before m (before m (last m)))))) λ x y e i. (e .0 i, (tt, (e .1 .0 i, (e .1 .1 .0 i, (e .1 .1 .1 .0 i, (e .1 .1 .1 .1 .0 i, (e .1 .1 .1 .1 .1 i, tt)))))))
 
 pub winterhasp-pixel-type : {M : Type 1} → Settles M host.siz.winterhasp_pixel_type.ended host.siz.winterhasp_pixel_type.clauses
-winterhasp-pixel-type m κs a g = one m λ x y e i. (e i, x .1)
+winterhasp-pixel-type m κs a g = settles m (last m) λ x y e i. (e i, x .1)
 
 pub winterhasp-grow-header-region : {M : Type 1} → Settles M host.growth.winterhasp_grow_header_region.ended host.growth.winterhasp_grow_header_region.clauses
-winterhasp-grow-header-region m κs a g = three m λ x y e i. (e .0 i, (tt, (e .1 i, (e .2 i, tt))))
+winterhasp-grow-header-region m κs a g = settles m (before m (before m (last m))) λ x y e i. (e .0 i, (tt, (e .1 .0 i, (e .1 .1 i, tt))))
 
 pub winterhasp-next-region : {M : Type 1} → Settles M host.growth.winterhasp_next_region.ended host.growth.winterhasp_next_region.clauses
-winterhasp-next-region m κs a g = one m λ x y e i. (e i, x .1)
+winterhasp-next-region m κs a g = settles m (last m) λ x y e i. (e i, x .1)
 
 pub sign : {M : Type 1} → Settles M host.siz.sign.ended host.siz.sign.clauses
-sign m κs a g = one m λ x y e i. (e i, x .1)
+sign m κs a g = settles m (last m) λ x y e i. (e i, x .1)
 
 pub winterhasp-read-components : {M : Type 1} → Settles M host.components.winterhasp_read_components.ended host.components.winterhasp_read_components.clauses
-winterhasp-read-components m κs a g = six m λ x y e i. (e .0 i, (tt, (e .1 i, (e .2 i, (e .3 i, (e .4 i, (e .5 i, tt)))))))
+winterhasp-read-components m κs a g = settles m (before m (before m (before m (before m (before m (last m)))))) λ x y e i. (e .0 i, (tt, (e .1 .0 i, (e .1 .1 .0 i, (e .1 .1 .1 .0 i, (e .1 .1 .1 .1 .0 i, (e .1 .1 .1 .1 .1 i, tt)))))))
 
 pub winterhasp-read-components-in-tile : {M : Type 1} → Settles M host.components.winterhasp_read_components_in_tile.ended host.components.winterhasp_read_components_in_tile.clauses
-winterhasp-read-components-in-tile m κs a g = six m λ x y e i. (e .0 i, (tt, (tt, (e .1 i, (e .2 i, (e .3 i, (e .4 i, (e .5 i, tt))))))))
+winterhasp-read-components-in-tile m κs a g = settles m (before m (before m (before m (before m (before m (last m)))))) λ x y e i. (e .0 i, (tt, (tt, (e .1 .0 i, (e .1 .1 .0 i, (e .1 .1 .1 .0 i, (e .1 .1 .1 .1 .0 i, (e .1 .1 .1 .1 .1 i, tt))))))))
 
 pub winterhasp-read-components-in-tile-by-rule : {M : Type 1} → Settles M host.components.winterhasp_read_components_in_tile_by_rule.ended host.components.winterhasp_read_components_in_tile_by_rule.clauses
-winterhasp-read-components-in-tile-by-rule m κs a g = six m λ x y e i. (e .0 i, (tt, (tt, (tt, (e .1 i, (e .2 i, (e .3 i, (e .4 i, (e .5 i, tt)))))))))
+winterhasp-read-components-in-tile-by-rule m κs a g = settles m (before m (before m (before m (before m (before m (last m)))))) λ x y e i. (e .0 i, (tt, (tt, (tt, (e .1 .0 i, (e .1 .1 .0 i, (e .1 .1 .1 .0 i, (e .1 .1 .1 .1 .0 i, (e .1 .1 .1 .1 .1 i, tt)))))))))
 
 pub winterhasp-component : {M : Type 1} → Settles M host.components.winterhasp_component.ended host.components.winterhasp_component.clauses
-winterhasp-component m κs a g = nine m λ x y e i. (e .0 i, (tt, (tt, (e .1 i, (e .2 i, (e .3 i, (e .4 i, (e .5 i, (e .6 i, (e .7 i, (e .8 i, tt)))))))))))
+winterhasp-component m κs a g = settles m (before m (before m (before m (before m (before m (before m (before m (before m (last m))))))))) λ x y e i. (e .0 i, (tt, (tt, (e .1 .0 i, (e .1 .1 .0 i, (e .1 .1 .1 .0 i, (e .1 .1 .1 .1 .0 i, (e .1 .1 .1 .1 .1 .0 i, (e .1 .1 .1 .1 .1 .1 .0 i, (e .1 .1 .1 .1 .1 .1 .1 .0 i, (e .1 .1 .1 .1 .1 .1 .1 .1 i, tt)))))))))))
 
 pub winterhasp-component-in-tile : {M : Type 1} → Settles M host.components.winterhasp_component_in_tile.ended host.components.winterhasp_component_in_tile.clauses
-winterhasp-component-in-tile m κs a g = nine m λ x y e i. (e .0 i, (tt, (tt, (tt, (e .1 i, (e .2 i, (e .3 i, (e .4 i, (e .5 i, (e .6 i, (e .7 i, (e .8 i, tt))))))))))))
+winterhasp-component-in-tile m κs a g = settles m (before m (before m (before m (before m (before m (before m (before m (before m (last m))))))))) λ x y e i. (e .0 i, (tt, (tt, (tt, (e .1 .0 i, (e .1 .1 .0 i, (e .1 .1 .1 .0 i, (e .1 .1 .1 .1 .0 i, (e .1 .1 .1 .1 .1 .0 i, (e .1 .1 .1 .1 .1 .1 .0 i, (e .1 .1 .1 .1 .1 .1 .1 .0 i, (e .1 .1 .1 .1 .1 .1 .1 .1 i, tt))))))))))))
 
 pub winterhasp-component-in-tile-by-rule : {M : Type 1} → Settles M host.components.winterhasp_component_in_tile_by_rule.ended host.components.winterhasp_component_in_tile_by_rule.clauses
-winterhasp-component-in-tile-by-rule m κs a g = nine m λ x y e i. (e .0 i, (tt, (tt, (tt, (tt, (e .1 i, (e .2 i, (e .3 i, (e .4 i, (e .5 i, (e .6 i, (e .7 i, (e .8 i, tt)))))))))))))
+winterhasp-component-in-tile-by-rule m κs a g = settles m (before m (before m (before m (before m (before m (before m (before m (before m (last m))))))))) λ x y e i. (e .0 i, (tt, (tt, (tt, (tt, (e .1 .0 i, (e .1 .1 .0 i, (e .1 .1 .1 .0 i, (e .1 .1 .1 .1 .0 i, (e .1 .1 .1 .1 .1 .0 i, (e .1 .1 .1 .1 .1 .1 .0 i, (e .1 .1 .1 .1 .1 .1 .1 .0 i, (e .1 .1 .1 .1 .1 .1 .1 .1 i, tt)))))))))))))
 
 pub winterhasp-component-within : {M : Type 1} → Settles M host.components.winterhasp_component_within.ended host.components.winterhasp_component_within.clauses
-winterhasp-component-within m κs a g = nine m λ x y e i. (e .0 i, (tt, (tt, (tt, (tt, (tt, (tt, (e .1 i, (e .2 i, (e .3 i, (e .4 i, (e .5 i, (e .6 i, (e .7 i, (e .8 i, tt)))))))))))))))
+winterhasp-component-within m κs a g = settles m (before m (before m (before m (before m (before m (before m (before m (before m (last m))))))))) λ x y e i. (e .0 i, (tt, (tt, (tt, (tt, (tt, (tt, (e .1 .0 i, (e .1 .1 .0 i, (e .1 .1 .1 .0 i, (e .1 .1 .1 .1 .0 i, (e .1 .1 .1 .1 .1 .0 i, (e .1 .1 .1 .1 .1 .1 .0 i, (e .1 .1 .1 .1 .1 .1 .1 .0 i, (e .1 .1 .1 .1 .1 .1 .1 .1 i, tt)))))))))))))))
 
 -- ---- probe, for C
 
 pub winterhasp-scan-records : {M : Type 1} → Settles M probe.winterhasp_scan_records.ended probe.winterhasp_scan_records.clauses
-winterhasp-scan-records m κs a g = three m λ x y e i. (e .0 i, (tt, (tt, (e .2 i, (e .1 i, tt)))))
+winterhasp-scan-records m κs a g = settles m (before m (before m (last m))) λ x y e i. (e .0 i, (tt, (tt, (e .1 .1 i, (e .1 .0 i, tt)))))
 
 pub winterhasp-codestream-of : {M : Type 1} → Settles M probe.winterhasp_codestream_of.ended probe.winterhasp_codestream_of.clauses
-winterhasp-codestream-of m κs a g = three m λ x y e i. (e .0 i, (tt, (e .2 i, (e .1 i, tt))))
+winterhasp-codestream-of m κs a g = settles m (before m (before m (last m))) λ x y e i. (e .0 i, (tt, (e .1 .1 i, (e .1 .0 i, tt))))
 
 pub winterhasp-header-records : {M : Type 1} → Settles M probe.main_header.winterhasp_header_records.ended probe.main_header.winterhasp_header_records.clauses
-winterhasp-header-records m κs a g = six m λ x y e i. (e .0 i, (tt, (e .4 i, (e .5 i, (e .1 i, (e .2 i, (e .3 i, tt)))))))
+winterhasp-header-records m κs a g = settles m (before m (before m (before m (before m (before m (before m (last m))))))) λ x y e i. (e .0 i, (tt, (e .1 .1 .1 .1 .1 .0 i, (e .1 .1 .1 .1 .1 .1 i, (e .1 .0 i, (e .1 .1 .0 i, (e .1 .1 .1 .0 i, (e .1 .1 .1 .1 .0 i, tt))))))))
