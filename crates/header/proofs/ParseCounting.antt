@@ -1,12 +1,13 @@
 -- The walk that counts: what was stripped, the entries and the fillers so far, with what lies ahead, are those of the whole walk.
-use Prim.Native.Nat.{ℕ, _+_, _-_, _≤_}
+use Prim.Native.Nat.{ℕ, _+_, _-_, _^_, _≤_, _<_}
 use native.Mathlib.Nat.{zero-add}
 use native.Mathlib.Omega.{arith}
 use mathlib.Core.Path.{_≡_, refl, sym, ap, _∙_}
 use mathlib.Core.Bool.{Bool, true, false, cond}
 use mathlib.Core.List.{List, []}
 use lib.ListN.{length, take, drop, length-append, length-take}
-use mir.Val.{boolByte}
+use mir.Val.{boolByte, Fits}
+use mir.Syntax.{w64}
 use Rattle.types.specs.declared.Refusal.{Refusal}
 use Rattle.chain.specs.Chain.{Chain}
 use Rattle.header.specs.Tlm.{Entry, entriesIn}
@@ -46,17 +47,22 @@ counting-start s h =
       ends = refl;
     }
 
--- one more, or none: as a number a test is 1 or 0
+-- a test as a number: one more, or none
 pub bool-number : (b : Bool) → boolByte b ≡ cond b 1 0
 bool-number true = refl
 bool-number false = refl
 
-pub one-at-most : (b : Bool) → cond b 1 0 ≤ 1
+pub fits-more : (n : ℕ) (b : Bool) → n < 2 ^ 32 → Fits w64 (n + boolByte b)
+fits-more n true h = omega arith
+fits-more n false h = omega arith
+
+one-at-most : (b : Bool) → cond b 1 0 ≤ 1
 one-at-most true = omega arith
 one-at-most false = omega arith
 
-module _ (s : List ℕ) (at stripped entries filler : ℕ) (c : Counting s at stripped entries filler) (p : Passing) (found : walkStepAt s at ≡ Passed p) where
-  pub counting-plain : p .«is_tlm» ≡ false → Counting s (p .next) stripped entries (filler + cond (p .«is_filler») 1 0)
+module _ (s : List ℕ) (at stripped entries filler : ℕ) (c : Counting s at stripped entries filler) (p : Passing) (found : walkStepAt s at ≡ Passed p)
+    (more : ℕ) (fills : more ≡ cond (p .«is_filler») 1 0) where
+  pub counting-plain : p .«is_tlm» ≡ false → Counting s (p .next) stripped entries (filler + more)
   counting-plain plain =
       let told = passed-is s at p found in
       let past = told .past in
@@ -68,26 +74,26 @@ module _ (s : List ℕ) (at stripped entries filler : ℕ) (c : Counting s at st
         few = omega (arith, c .few);
         header = omega (arith, c .header, c .before, longer, length-visited s at (p .next) inside);
         records = ap (λ (es : List Entry). entries + length es) (sym (entries-plain s at p found plain)) ∙ c .records;
-        least = omega (arith, c .least, one-at-most (p .«is_filler»));
-        fill = omega (arith, c .fill, fillers-on s at p found);
+        least = omega (arith, c .least, fills, one-at-most (p .«is_filler»));
+        fill = omega (arith, c .fill, fills, fillers-on s at p found);
         stops = sym (stopped-on s at p found) ∙ c .stops;
         ends = sym (ended-on s at p found) ∙ c .ends;
       }
 
-  pub counting-tlm : p .«is_tlm» ≡ true → Counting s (p .next) (stripped + (p .next - at)) (entries + p .entries) (filler + cond (p .«is_filler») 1 0)
+  pub counting-tlm : p .«is_tlm» ≡ true → Counting s (p .next) (stripped + (p .next - at)) (entries + p .entries) (filler + more)
   counting-tlm is =
       let told = passed-is s at p found in
       let past = told .past in
       let few = entries-few s at p found is in
-      let more = ap length (entries-tlm s at p found is) ∙ length-append (entriesIn s at 0 (p .entries)) (entriesFrom s (p .next)) in
+      let longer = ap length (entries-tlm s at p found is) ∙ length-append (entriesIn s at 0 (p .entries)) (entriesFrom s (p .next)) in
       record {
         inside = told .inside;
         before = omega (arith, c .before);
         few = omega (arith, c .few);
         header = omega (arith, c .header, c .before, ap length (kept-tlm s at p found is));
-        records = omega (arith, c .records, more, length-entries s at 0 (p .entries));
-        least = omega (arith, c .least, one-at-most (p .«is_filler»));
-        fill = omega (arith, c .fill, fillers-on s at p found);
+        records = omega (arith, c .records, longer, length-entries s at 0 (p .entries));
+        least = omega (arith, c .least, fills, one-at-most (p .«is_filler»));
+        fill = omega (arith, c .fill, fills, fillers-on s at p found);
         stops = sym (stopped-on s at p found) ∙ c .stops;
         ends = sym (ended-on s at p found) ∙ c .ends;
       }

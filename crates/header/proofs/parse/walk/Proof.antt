@@ -9,7 +9,7 @@ use Rattle.header.proofs.WalkLaws.{passed-is, only-found}
 use Rattle.header.specs.declared.parse.MainHeader.the-variants.{Header}
 use Rattle.header.specs.declared.walk.WalkStep.the-variants.{Passed}
 use Rattle.header.specs.Walk.{walkStepAt}
-use Rattle.header.proofs.ParseCounting.{Counting, bool-number, one-at-most, counting-start, counting-plain, counting-tlm, counted-found, counted-refused}
+use Rattle.header.proofs.ParseCounting.{Counting, bool-number, fits-more, counting-start, counting-plain, counting-tlm, counted-found, counted-refused}
 use Rattle.header.proofs.parse.walk.Statement.{statement}
 use Rattle.header.proofs.parse.walk.Tie as tie
 
@@ -63,10 +63,8 @@ cast-fillers c = tt
 
 add-fillers : tie.Need-add-fillers Inv-loop μ-loop
 add-fillers c =
-    let i = c .before .before .before .before .before .loop .inv in
-    let told = passed-is _ _ _ (found (c .before)) in
-    let b = c .before .before .step .given .0 .0 .«is_filler» in
-    omega (arith, i .least, told .past, told .inside, bool-number b, one-at-most b)
+    let p = c .before .before .before .before .before in
+    fits-more _ (c .before .before .step .given .0 .0 .«is_filler») (omega (arith, p .loop .inv .least, p .loop .inv .inside, p .before .before .pre .1))
 
 sub-stripped : tie.Need-sub-stripped Inv-loop μ-loop
 sub-stripped c =
@@ -95,7 +93,7 @@ loop-again : tie.Need-loop-again Inv-loop μ-loop
 loop-again c =
     let c₁ = c .before .before .before .before in
     let l = c₁ .before .before .before .before .loop in
-    rw bool-number (counting-tlm _ (l .at) (l .stripped) (l .entries) (l .fillers) (l .inv) _ (found c₁) (c .before .before .if1 .taken))
+    counting-tlm _ (l .at) (l .stripped) (l .entries) (l .fillers) (l .inv) _ (found c₁) _ (bool-number (c₁ .before .step .given .0 .0 .«is_filler»)) (c .before .before .if1 .taken)
 
 loop-less-2 : tie.Need-loop-less-2 Inv-loop μ-loop
 loop-less-2 c =
@@ -106,7 +104,7 @@ loop-again-2 : tie.Need-loop-again-2 Inv-loop μ-loop
 loop-again-2 c =
     let c₁ = c .before .before in
     let l = c₁ .before .before .before .before .loop in
-    rw bool-number (counting-plain _ (l .at) (l .stripped) (l .entries) (l .fillers) (l .inv) _ (found c₁) (c .if1 .left))
+    counting-plain _ (l .at) (l .stripped) (l .entries) (l .fillers) (l .inv) _ (found c₁) _ (bool-number (c₁ .before .step .given .0 .0 .«is_filler»)) (c .if1 .left)
 
 pub walk-spec : {M : Type 1} → statement M
 walk-spec =
