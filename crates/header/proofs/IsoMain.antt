@@ -2,7 +2,7 @@
 -- the header without its TLM segments, and what it reads of these is their entries.
 use Prim.Native.Nat.{ℕ, suc, _+_, _-_, _^_, _≤_, _<_}
 use native.Mathlib.Omega.{arith}
-use mathlib.Core.Path.{_≡_, refl, sym, ap, ap₂, _∙_}
+use mathlib.Core.Path.{_≡_, refl, ap, ap₂, _∙_}
 use mathlib.Core.Bool.{true, false}
 use mathlib.Core.List.{List, [], _∷_, _++_, append-assoc}
 use lib.ListN.{length, take, drop, length-append}
@@ -28,7 +28,7 @@ use Rattle.header.proofs.WalkLaws.{pass-other, pass-tlm, walk-segment, 
 use Rattle.header.proofs.WalkVisited.{stopped-on, ended-on, keptFrom, entriesFrom, fillersFrom, fillers-on, kept-plain, entries-plain, kept-tlm, entries-tlm}
 use Rattle.header.proofs.ParseLaws.{judged-walk, stands-there}
 use Rattle.header.proofs.Iso.{siz-inside, segment-marker, segment-standard}
-use Rattle.header.proofs.IsoTlm.{tlm-step, tlm-marker, tlm-read, tlm-entries, restarted-indexed, restarted-single}
+use Rattle.header.proofs.IsoTlm.{tlm-step, tlm-read, tlm-entries, restarted-indexed, restarted-single}
 
 -- ---- a walk over pieces
 

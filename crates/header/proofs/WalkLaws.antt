@@ -14,7 +14,7 @@ use Rattle.numbers.specs.Bytes.{be}
 use Rattle.types.specs.Markers.{TLM}
 use Rattle.chain.specs.Chain.{on, Chain, Rises, also}
 use Rattle.chain.proofs.ChainLaws.{chain-end, chain-on, end-on}
-use Rattle.header.specs.Step.{delimits, highFF, isFiller, segmentEnd, passing, stepAt}
+use Rattle.header.specs.Step.{delimits, highFF, isFiller, segmentEnd, stepAt}
 use Rattle.header.specs.Tlm.{ltlm, stlm, indexSize, entryCount, Within, Accepted, tlmAt}
 use Rattle.header.specs.Walk.{cutAt, plain, tlmStep, passedAt, walkStepOf, walkStepAt, WalkEnd, firstSot, refused, walkMove, walkAt, walkFrom}
 use Rattle.header.specs.declared.step.Marker.{Marker}

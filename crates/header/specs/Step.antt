@@ -15,10 +15,11 @@ use Rattle.header.specs.declared.step.HeaderStep.the-variants.{Sot, Deli
 unfoldable pub delimits : ℕ → Bool
 delimits marker = eqb (marker % 256) 0x92 || (leb 0x30 (marker % 256) && leb (marker % 256) 0x3f)
 
+-- its high byte is FF
 unfoldable pub highFF : ℕ → Bool
 highFF marker = eqb (marker / 256) 0xff
 
--- a delimiter whose high byte is not FF
+-- filler: a delimiter whose high byte is not FF
 unfoldable pub isFiller : ℕ → Bool
 unfolding delimits highFF
 isFiller marker = delimits marker && not (highFF marker)

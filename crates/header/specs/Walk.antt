@@ -23,7 +23,7 @@ use Rattle.header.specs.declared.walk.WalkStep.the-variants.{Passed, Fir
 unfoldable pub cutAt : List ℕ → ℕ → Refusal
 cutAt s at = cond (leb (at + 2) (length s)) (refusal 3 at) (refusal 6 (length s))
 
--- what is passed and is no TLM segment; a filler is a delimiter
+-- what is passed and is no TLM segment, and whether it is filler
 abbrev pub plain : Marker → Bool → Passing
 plain m filler = record { next = m .next; code = m .code; «is_filler» = filler; «is_tlm» = false; entries = 0 }
 

@@ -4,7 +4,7 @@ use mathlib.Core.Bool.{false}
 use mathlib.Core.Path.{_≡_, sym, ap, _∙_}
 use borrow.Author.Needs.{needs}
 use Rattle.header.proofs.StepLaws.{step-short, step-sot, step-delimiter, step-no-length, step-no-end, step-segment}
-use Rattle.header.specs.Step.{delimits, segmentEnd, passing}
+use Rattle.header.specs.Step.{delimits, segmentEnd}
 use Rattle.types.specs.Markers.{SOT}
 use Rattle.numbers.specs.Bytes.{be}
 use Rattle.header.specs.declared.step.HeaderStep.the-variants.{Delimiter, Segment}

@@ -1,5 +1,5 @@
 -- By what stands there.
-use mathlib.Core.Path.{_≡_, sym, _∙_, ap}
+use mathlib.Core.Path.{sym, _∙_, ap}
 use borrow.Author.Needs.{needs}
 use Rattle.header.proofs.StepLaws.{neither, only-cut}
 use Rattle.header.proofs.WalkLaws.{walk-sot, walk-cut, walk-segment, walk-delimiter, segment-within}
