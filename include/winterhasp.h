@@ -119,10 +119,11 @@ uint32_t winterhasp_main_header_extent(const uint8_t *prefix, size_t prefix_len,
 
 /* "Main header". Its TLM entries go to the rows of `table`, the header without TLM segments to `out`: the decode header, which
    rewrite and assembly take. `first_sot` is where the first tile-part stands, then the decode header's length and the number
-   of rows. Refusals: 19, 1 to 6, 18, 17. */
+   of rows. `fillers` counts the delimiters (second byte 92, or 30 to 3F) whose first byte is not FF: the walk passes them, and no
+   edition of the standard allows them. Refusals: 19, 1 to 6, 18, 17. */
 uint32_t winterhasp_parse_main_header(const uint8_t *codestream, size_t codestream_len, uint8_t *table, size_t table_len,
                                       uint8_t *out, size_t out_len, uint64_t *first_sot, uint64_t *decode_length,
-                                      uint64_t *entries);
+                                      uint64_t *entries, uint64_t *fillers);
 
 /* "Markers in the header". Where the first marker of a code, such as 0xFF60 (PPM), stands in the main header: of those that the walk
    stops at, from SIZ at 2 on and without the first SOT, so that bytes inside a segment are none. WINTERHASP_NO_SUCH_MARKER where

@@ -195,23 +195,42 @@ static void components_by_rule(const uint8_t *sample)
 static void main_header(const uint8_t *sample, uint8_t *decode_header)
 {
     uint8_t table[3 * WINTERHASP_ROW_BYTES], out[46];
-    uint64_t first, length = 7, entries = 7;
+    uint64_t first, length = 7, entries = 7, fillers = 7;
     memset(table, HELD, sizeof table);
     memset(out, HELD, sizeof out);
-    CHECK(winterhasp_parse_main_header(sample, SAMPLE_BYTES, NULL, 0, NULL, 0, &first, &length, &entries) ==
+    CHECK(winterhasp_parse_main_header(sample, SAMPLE_BYTES, NULL, 0, NULL, 0, &first, &length, &entries, &fillers) ==
           WINTERHASP_TABLE_TOO_SMALL);
-    CHECK(first == 2 && length == 7 && entries == 7);
-    CHECK(winterhasp_parse_main_header(sample, SAMPLE_BYTES, table, sizeof table, out, 44, &first, &length, &entries) ==
+    CHECK(first == 2 && length == 7 && entries == 7 && fillers == 7);
+    CHECK(winterhasp_parse_main_header(sample, SAMPLE_BYTES, table, sizeof table, out, 44, &first, &length, &entries, &fillers) ==
           WINTERHASP_OUTPUT_TOO_SMALL);
-    CHECK(first == 45 && all_held(table, sizeof table) && all_held(out, sizeof out));
-    CHECK(winterhasp_parse_main_header(sample, SAMPLE_BYTES, table, sizeof table, out, sizeof out, &first, &length,
-                                       &entries) == 0);
-    CHECK(first == FIRST_SOT && length == 45 && entries == 2);
+    CHECK(first == 45 && fillers == 7 && all_held(table, sizeof table) && all_held(out, sizeof out));
+    CHECK(winterhasp_parse_main_header(sample, SAMPLE_BYTES, table, sizeof table, out, sizeof out, &first, &length, &entries,
+                                       &fillers) == 0);
+    CHECK(first == FIRST_SOT && length == 45 && entries == 2 && fillers == 0);
     CHECK(memcmp(out, sample, 45) == 0 && out[45] == HELD);
     const uint8_t *second = table + WINTERHASP_ROW_BYTES;
     CHECK(winterhasp_row_index(second) == 5 && winterhasp_row_offset(second) == 71 && winterhasp_row_length(second) == 16);
     CHECK(all_held(second + WINTERHASP_ROW_BYTES, WINTERHASP_ROW_BYTES));
     memcpy(decode_header, out, 45);
+}
+
+/* Of the steps behind SIZ the delimiters 0030 and FE92 are fillers; FF3F, the segment 0064 and what it holds, and what stands
+   behind SOT are none. */
+static void header_with_fillers(void)
+{
+    static const uint8_t codestream[] = { 0xFF, 0x4F, 0xFF, 0x51, 0, 2, 0, 0x30, 0xFF, 0x3F, 0, 0x64, 0, 4, 0, 0x30, 0xFE, 0x92,
+                                          0xFF, 0x90, 0, 0x30 };
+    uint8_t out[18];
+    uint64_t first = 7, length = 7, entries = 7, fillers = 7;
+    CHECK(winterhasp_parse_main_header(codestream, sizeof codestream, NULL, 0, out, 17, &first, &length, &entries, &fillers) ==
+          WINTERHASP_OUTPUT_TOO_SMALL);
+    CHECK(first == 18 && length == 7 && entries == 7 && fillers == 7);
+    CHECK(winterhasp_parse_main_header(codestream, 10, NULL, 0, out, sizeof out, &first, &length, &entries, &fillers) ==
+          WINTERHASP_NO_TILE_PART);
+    CHECK(first == 10 && length == 7 && entries == 7 && fillers == 7);
+    CHECK(winterhasp_parse_main_header(codestream, sizeof codestream, NULL, 0, out, sizeof out, &first, &length, &entries,
+                                       &fillers) == 0);
+    CHECK(first == 18 && length == 18 && entries == 0 && fillers == 2 && memcmp(out, codestream, 18) == 0);
 }
 
 static void parts(const uint8_t *sample)
@@ -373,6 +392,7 @@ int main(void)
     components(sample);
     components_by_rule(sample);
     main_header(sample, decode_header);
+    header_with_fillers();
     parts(sample);
     tile(sample, decode_header);
     tile_by_rule(sample);

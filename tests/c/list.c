@@ -23,7 +23,7 @@ static void list_rows(const char *name, const uint8_t *table, uint64_t rows)
 static int list(const uint8_t *file, size_t size)
 {
     static uint8_t table[TABLE_BYTES], decode_header[FILE_BYTES];
-    uint64_t start, length, first_sot, decode_length, entries, parts;
+    uint64_t start, length, first_sot, decode_length, entries, fillers, parts;
 
     uint32_t status = winterhasp_find_codestream(file, size, &start, &length);
     if (status != 0)
@@ -32,7 +32,7 @@ static int list(const uint8_t *file, size_t size)
 
     const uint8_t *codestream = file + start;
     status = winterhasp_parse_main_header(codestream, length, table, sizeof table, decode_header, sizeof decode_header,
-                                          &first_sot, &decode_length, &entries);
+                                          &first_sot, &decode_length, &entries, &fillers);
     if (status != 0)
         return refused(status, first_sot);
     printf("header %llu %llu\n", (unsigned long long)first_sot, (unsigned long long)decode_length);
