@@ -1,4 +1,4 @@
-//! "Header walk", "Header extent", "TLM", "Decode header", "Markers in the header".
+//! "Header walk", "Header extent", "TLM", "Decode header", "Main header", "Markers in the header".
 
 use std::iter;
 
@@ -10,6 +10,7 @@ pub struct Header {
     pub first_sot: u64,
     pub decode_header: Vec<u8>,
     pub entries: Vec<Entry>,
+    pub fillers: u64,
 }
 
 impl Header {
@@ -50,6 +51,7 @@ pub fn parse_main_header(codestream: &[u8]) -> Result<Header, Refusal> {
         first_sot: at,
         decode_header,
         entries: placed(at, listed),
+        fillers: fillers(codestream),
     })
 }
 
@@ -94,6 +96,13 @@ pub fn markers(codestream: &[u8]) -> impl Iterator<Item = (u64, u16)> + '_ {
     })
 }
 
+/// Of the places at which the steps stand: delimiters whose first byte isn't FF.
+pub fn fillers(codestream: &[u8]) -> u64 {
+    let is_filler = |marker: u16| is_delimiter(marker) && marker >> 8 != 0xFF;
+    let found = markers(codestream).filter(|&(_, marker)| is_filler(marker));
+    found.count() as u64
+}
+
 /// The first SOT, if the walk comes to it.
 pub fn main_header_extent(prefix: &[u8]) -> Option<u64> {
     if prefix.len() < 4 || read(prefix, 0, 2)? != SOC.into() {
@@ -111,11 +120,15 @@ pub fn main_header_extent(prefix: &[u8]) -> Option<u64> {
 
 /// Where a delimiter or a segment ends, if that is inside.
 fn step(codestream: &[u8], marker: u64, at: u64) -> Option<u64> {
-    let end = match marker & 0xFF {
-        0x92 | 0x30..=0x3F => at + 2,
-        _ => at + 2 + read(codestream, at + 2, 2)?,
+    let end = match is_delimiter(marker as u16) {
+        true => at + 2,
+        false => at + 2 + read(codestream, at + 2, 2)?,
     };
     (end <= codestream.len() as u64).then_some(end)
+}
+
+pub fn is_delimiter(marker: u16) -> bool {
+    matches!(marker & 0xFF, 0x92 | 0x30..=0x3F)
 }
 
 /// Index and length of each entry; `body` is from Ltlm on. Or the refusal's number.
@@ -152,10 +165,10 @@ fn placed(first_sot: u64, listed: Vec<(u16, u64)>) -> Vec<Entry> {
 
 #[cfg(test)]
 mod tests {
-    use super::{find_marker, markers};
+    use super::{find_marker, markers, parse_main_header};
     use crate::model::Refusal;
     use crate::sample::codestream::{Codestream, COM, EPH, PPM, SIZ, SOC, SOT, TLM};
-    use crate::sample::{opened, sample_a};
+    use crate::sample::{fillers, opened, sample_a};
 
     /// In a header that is accepted.
     fn place(codestream: &[u8], marker: u16) -> Option<u64> {
@@ -180,6 +193,18 @@ mod tests {
         assert_eq!(place(&built.bytes, PPM), Some(16));
         assert_eq!(place(&built.bytes, 0), Some(18));
         assert_eq!(place(&built.bytes, 0x0060), None);
+    }
+
+    #[test]
+    fn fillers_are_counted_as_by_hand() {
+        let count = |codestream: &[u8]| {
+            let header = parse_main_header(codestream).expect("accepted");
+            header.fillers
+        };
+        assert_eq!(count(&sample_a()), 0);
+        for (codestream, by_hand) in fillers::counted() {
+            assert_eq!(count(&codestream), by_hand, "{codestream:02X?}");
+        }
     }
 
     /// Wherever the marker stands.

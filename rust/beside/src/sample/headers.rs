@@ -151,13 +151,13 @@ fn delimiter(random: &mut Random, built: &mut Codestream) {
 fn short_segment(random: &mut Random, built: &mut Codestream) {
     let code = random.pick(&CODES);
     let size = random.below(4);
-    let filler = random.bytes(size);
+    let body = random.bytes(size);
     match random.below(5) {
         0 => built.segment_saying(code, 0, &[0, 2]),
         // Marker 0000, whose length field follows.
         1 => built
             .segment_saying(code, 0, &[0, 2 + size as u8])
-            .raw(&filler),
+            .raw(&body),
         // Delimiter 0130 up to 013F, or 0192.
         2 => built.segment_saying(code, 1, &[0x30 + random.below(16) as u8]),
         3 => built.segment_saying(code, 1, &[EPH as u8]),
@@ -192,10 +192,10 @@ pub fn segments(mut built: Codestream, count: usize, body: &[u8]) -> Vec<u8> {
     built.bytes
 }
 
-/// The same of delimiters.
-pub fn delimiters(mut built: Codestream, count: usize) -> Vec<u8> {
+/// The same of delimiters of one code.
+pub fn delimiters(mut built: Codestream, code: u16, count: usize) -> Vec<u8> {
     for _ in 0..count {
-        built.marker(EPH);
+        built.marker(code);
     }
     built.marker(SOT);
     built.bytes

@@ -4,6 +4,7 @@ pub mod boxes;
 pub mod codestream;
 pub mod components;
 pub mod damage;
+pub mod fillers;
 pub mod headers;
 pub mod markers;
 pub mod parts;

@@ -4,7 +4,7 @@ use original::markers::{self, MainHeaderExtent};
 use probe::host;
 
 use crate::bench::{row, Benchmark, ORIGINAL};
-use crate::sample::codestream::Codestream;
+use crate::sample::codestream::{Codestream, EPH};
 use crate::sample::headers::{delimiters, segments};
 use crate::sample::{padded, sample_a, SAMPLE_A_FIRST_SOT};
 use crate::wanted;
@@ -42,6 +42,6 @@ fn rows() {
     let thousand = segments(soc(), 1000, &[0; 12]);
     measure("1,000 segments of 16 bytes", &thousand);
     measure("16,000 segments of L = 2", &segments(soc(), 16_000, &[]));
-    measure("30,000 delimiters", &delimiters(soc(), 30_000));
+    measure("30,000 delimiters", &delimiters(soc(), EPH, 30_000));
     measure("SOT at 1 MB, longest segments", &padded(1 << 20));
 }

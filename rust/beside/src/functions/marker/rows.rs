@@ -6,7 +6,7 @@ use probe::host;
 use crate::bench::{row, Benchmark};
 use crate::functions::plain::{self, PLAIN};
 use crate::model::header::NO_SUCH_MARKER;
-use crate::sample::codestream::{COM, PPM, SOT, TLM};
+use crate::sample::codestream::{COM, EPH, PPM, SOT, TLM};
 use crate::sample::headers::{delimiters, segments};
 use crate::sample::{opened, sample_a, tlms};
 use crate::wanted;
@@ -51,7 +51,7 @@ fn rows() {
         measure(&format!("{name}, the third"), header(), COM);
         measure(&format!("{name}, no PPM"), header(), PPM);
     }
-    let header = delimiters(opened(), 30_000);
+    let header = delimiters(opened(), EPH, 30_000);
     measure("30,000 delimiters, no PPM", header, PPM);
     let header = tlms::many(1_000, 10, 0x60);
     measure("1,000 TLM of 10 entries, no PPM", header, PPM);
