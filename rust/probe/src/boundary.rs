@@ -38,6 +38,7 @@ mod archive {
             first_sot: *mut u64,
             decode_length: *mut u64,
             entries: *mut u64,
+            fillers: *mut u64,
         ) -> u32;
 
         pub fn winterhasp_scan_records(
@@ -64,7 +65,7 @@ pub fn header_records(
     codestream: &[u8],
     table: &mut [TilePartEntry],
     out: &mut [u8],
-    [first_sot, decode_length, entries]: &mut [u64; 3],
+    [first_sot, decode_length, entries, fillers]: &mut [u64; 4],
 ) -> u32 {
     // SAFETY: as at the top of this file.
     unsafe {
@@ -78,6 +79,7 @@ pub fn header_records(
             first_sot,
             decode_length,
             entries,
+            fillers,
         )
     }
 }

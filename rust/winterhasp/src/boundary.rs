@@ -25,6 +25,7 @@ mod archive {
             first_sot: *mut u64,
             decode_length: *mut u64,
             entries: *mut u64,
+            fillers: *mut u64,
         ) -> u32;
 
         pub fn winterhasp_find_marker(
@@ -246,12 +247,12 @@ pub fn main_header_extent(prefix: &[u8], value: &mut u64) -> u32 {
 }
 
 /// TLM entries go to `table` as rows of 18 bytes, the decode header to `out`. Numbers: first SOT,
-/// the decode header's length, entries.
+/// the decode header's length, entries, fillers.
 pub fn parse_main_header(
     codestream: &[u8],
     table: &mut [u8],
     out: &mut [u8],
-    [first_sot, decode_length, entries]: &mut [u64; 3],
+    [first_sot, decode_length, entries, fillers]: &mut [u64; 4],
 ) -> u32 {
     // SAFETY: as at the top of this file.
     unsafe {
@@ -265,6 +266,7 @@ pub fn parse_main_header(
             first_sot,
             decode_length,
             entries,
+            fillers,
         )
     }
 }

@@ -16,6 +16,9 @@ pub struct MainHeader {
     /// The tile-parts by the header's own length table, if it has entries. Nothing says that they
     /// stand there: [`scan_sot_markers`](crate::scan_sot_markers) does.
     pub tlm: Option<Vec<TilePart>>,
+    /// How many fillers the header holds: delimiters (second byte 92, or 30 to 3F) whose first byte is
+    /// not FF. The walk passes them, and no edition of the standard allows them.
+    pub fillers: u64,
 }
 
 /// Reads the main header of `codestream`, which may be cut behind the first SOT marker. At most
@@ -30,6 +33,13 @@ pub struct MainHeader {
 /// assert_eq!(header.first_sot, CodestreamOffset(57));
 /// assert_eq!(header.decode_header, codestream[..45]);
 /// assert_eq!(header.tlm.map(|parts| parts.len()), Some(2));
+/// assert_eq!(header.fillers, 0);
+///
+/// // SOC, SIZ without a body, a delimiter without FF, SOT; then the delimiter with FF
+/// let mut short = [0xFF, 0x4F, 0xFF, 0x51, 0x00, 0x02, 0x00, 0x30, 0xFF, 0x90];
+/// assert_eq!(parse_main_header(&short)?.fillers, 1);
+/// short[6] = 0xFF;
+/// assert_eq!(parse_main_header(&short)?.fillers, 0);
 ///
 /// let refusal = parse_main_header(&codestream[..50]).unwrap_err();
 /// assert_eq!((refusal.number(), refusal.place()), (3, 45));
@@ -39,10 +49,11 @@ pub fn parse_main_header(codestream: &[u8]) -> Result<MainHeader, Refusal> {
     let (lent, numbers) = lend(|lent, numbers| {
         boundary::parse_main_header(codestream, &mut lent.table, &mut lent.out, numbers)
     })?;
-    let [first_sot, _, entries] = numbers;
+    let [first_sot, _, entries, fillers] = numbers;
     Ok(MainHeader {
         first_sot: CodestreamOffset(first_sot),
         decode_header: lent.out,
         tlm: (entries > 0).then(|| from_rows(&lent.table)),
+        fillers,
     })
 }

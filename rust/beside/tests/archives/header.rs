@@ -1,31 +1,33 @@
-//! "Header walk", "TLM", "Decode header", "Markers in the header"; and the same with records.
+//! "Header walk", "TLM", "Decode header", "Main header", "Markers in the header"; and the same with
+//! records.
 
 use beside::model::header::NO_SUCH_MARKER;
 use beside::model::rows;
 use beside::sample::codestream::{Codestream, Tlm, COM, EOC, EPH, PPM, SIZ, SOC, SOD, SOT, TLM};
+use beside::sample::fillers::counted;
 use beside::sample::tlms::STLM;
 use beside::sample::{opened, sample_a};
 use probe::{host, TilePartEntry};
 
 /// Status, numbers, table, output; 20 rows and 200 bytes are lent.
-fn parsed(codestream: &[u8]) -> (u32, [u64; 3], Vec<u8>, Vec<u8>) {
+fn parsed(codestream: &[u8]) -> (u32, [u64; 4], Vec<u8>, Vec<u8>) {
     let (mut table, mut out) = (vec![0xEE; 360], vec![0xEE; 200]);
-    let mut values = [7; 3];
+    let mut values = [7; 4];
     let status = host::parse_main_header(codestream, &mut table, &mut out, &mut values);
     (status, values, table, out)
 }
 
 fn entries(built: &mut Codestream) -> Vec<u8> {
     built.marker(SOT);
-    let (status, [_, _, entries], mut table, _) = parsed(&built.bytes);
+    let (status, [_, _, entries, _], mut table, _) = parsed(&built.bytes);
     assert_eq!(status, 0);
     table.truncate(18 * entries as usize);
     table
 }
 
 fn refused(codestream: &[u8]) -> (u32, u64) {
-    let (status, [place, second, third], table, out) = parsed(codestream);
-    assert_eq!([second, third], [7, 7]);
+    let (status, [place, others @ ..], table, out) = parsed(codestream);
+    assert_eq!(others, [7; 3]);
     assert!(table.into_iter().chain(out).all(|byte| byte == 0xEE));
     (status, place)
 }
@@ -34,7 +36,7 @@ fn refused(codestream: &[u8]) -> (u32, u64) {
 fn sample_a_is_as_listed() {
     let sample = sample_a();
     let (status, values, table, out) = parsed(&sample);
-    assert_eq!((status, values), (0, [57, 45, 2]));
+    assert_eq!((status, values), (0, [57, 45, 2, 0]));
     assert_eq!(table[..36], rows(&[(0, 57, 14), (5, 71, 16)]));
     assert_eq!(out[..45], sample[..45]);
     assert!(table[36..]
@@ -83,13 +85,13 @@ fn too_little_room() {
     let sample = sample_a();
     for (rows, size, expected) in [(2, 45, 0), (2, 44, 17), (1, 45, 18), (1, 44, 18)] {
         let (mut table, mut out) = (vec![0xEE; 18 * rows], vec![0xEE; size]);
-        let mut values = [7; 3];
+        let mut values = [7; 4];
         let status = host::parse_main_header(&sample, &mut table, &mut out, &mut values);
         assert_eq!(status, expected);
         match expected {
-            17 => assert_eq!(values[0], 45),
-            18 => assert_eq!(values[0], 2),
-            _ => {}
+            17 => assert_eq!(values, [45, 7, 7, 7]),
+            18 => assert_eq!(values, [2, 7, 7, 7]),
+            _ => assert_eq!(values, [57, 45, 2, 0]),
         }
     }
 }
@@ -99,16 +101,36 @@ fn sample_a_s_entries_as_records() {
     let sample = sample_a();
     let record = TilePartEntry::new;
     let untouched = record(9, 9, 9);
-    let (mut table, mut out, mut values) = ([untouched; 3], [0xEE; 45], [7; 3]);
+    let (mut table, mut out, mut values) = ([untouched; 3], [0xEE; 45], [7; 4]);
     let status = probe::header_records(&sample, &mut table, &mut out, &mut values);
-    assert_eq!((status, values), (0, [57, 45, 2]));
+    assert_eq!((status, values), (0, [57, 45, 2, 0]));
     assert_eq!(table, [record(0, 57, 14), record(5, 71, 16), untouched]);
     assert_eq!(out, sample[..45]);
 
-    let (mut table, mut out, mut values) = ([untouched; 1], [0xEE; 45], [7; 3]);
+    let (mut table, mut out, mut values) = ([untouched; 1], [0xEE; 45], [7; 4]);
     let status = probe::header_records(&sample, &mut table, &mut out, &mut values);
-    assert_eq!((status, values), (18, [2, 7, 7]));
+    assert_eq!((status, values), (18, [2, 7, 7, 7]));
     assert_eq!((table, out), ([untouched; 1], [0xEE; 45]));
+}
+
+/// Of rows and of records; where there is no room the number stays.
+#[test]
+fn fillers_are_counted_as_by_hand() {
+    for (codestream, count) in counted() {
+        let (mut rows, mut out, mut values) = ([0; 18], vec![0; codestream.len()], [7; 4]);
+        let status = host::parse_main_header(&codestream, &mut rows, &mut out, &mut values);
+        assert_eq!((status, values[3]), (0, count), "{codestream:02X?}");
+        let (mut records, mut of_records) = ([TilePartEntry::default()], [7; 4]);
+        let status = probe::header_records(&codestream, &mut records, &mut out, &mut of_records);
+        assert_eq!((status, of_records), (0, values), "{codestream:02X?}");
+
+        let mut values = [7; 4];
+        let status = host::parse_main_header(&codestream, &mut rows, &mut out[..5], &mut values);
+        assert_eq!((status, values[3]), (17, 7), "{codestream:02X?}");
+        let mut values = [7; 4];
+        let status = probe::header_records(&codestream, &mut records, &mut out[..5], &mut values);
+        assert_eq!((status, values[3]), (17, 7), "{codestream:02X?}");
+    }
 }
 
 /// The answer, and the number lent as it stands after it.

@@ -1,5 +1,5 @@
 //! The comparison: first SOT, decode header, table of rows and of records, refusals, and all that is
-//! not to be written.
+//! not to be written; and the number of fillers, by the model.
 
 use probe::host;
 
@@ -38,12 +38,13 @@ fn fixed(run: &mut Run) {
     many_entries(run);
 }
 
-impl Leaves<3, 2> for Header {
-    fn leave(&self, before: Lent<3, 2>) -> Lent<3, 2> {
+impl Leaves<4, 2> for Header {
+    fn leave(&self, before: Lent<4, 2>) -> Lent<4, 2> {
         let values = [
             self.first_sot,
             self.decode_header.len() as u64,
             self.entries.len() as u64,
+            self.fillers,
         ];
         before.accepted(values, [&rows(&self.entries), &self.decode_header])
     }

@@ -42,19 +42,23 @@ impl Input {
     }
 }
 
-/// First SOT, the decode header's length, entries.
+/// First SOT, the decode header's length, entries: the numbers that the original has too.
 fn ours(input: &Input) -> Option<[u64; 3]> {
-    let mut values = [0; 3];
+    let mut values = [0; 4];
     let (mut table, mut out) = (input.table.borrow_mut(), input.out.borrow_mut());
     let status = host::parse_main_header(&input.codestream, &mut table, &mut out, &mut values);
-    (status == 0).then_some(values)
+    shared(status, values)
 }
 
 fn recorded(input: &Input) -> Option<[u64; 3]> {
-    let mut values = [0; 3];
+    let mut values = [0; 4];
     let (mut records, mut out) = (input.records.borrow_mut(), input.out.borrow_mut());
     let status = probe::header_records(&input.codestream, &mut records, &mut out, &mut values);
-    (status == 0).then_some(values)
+    shared(status, values)
+}
+
+fn shared(status: u32, [first_sot, decode_length, entries, _]: [u64; 4]) -> Option<[u64; 3]> {
+    (status == 0).then_some([first_sot, decode_length, entries])
 }
 
 fn theirs(input: &Input) -> Option<[u64; 3]> {
