@@ -87,18 +87,23 @@ pub struct Case<A, const V: usize, const M: usize> {
 }
 
 impl<A: Leaves<V, M>, const V: usize, const M: usize> Case<A, V, M> {
-    /// The case, and the same with what the other function of ours left. Both are held to the same,
-    /// and so to each other.
-    pub fn judge_both<O>(self, other: Lent<V, M>, run: &mut Run<O>, input: impl Fn() -> String)
-    where
+    /// The case, and the same with what the other function of ours left, with what the document accepts
+    /// counted under this label. Both are held to the same, and so to each other.
+    pub fn judge_both<O>(
+        self,
+        accepted: &'static str,
+        other: Lent<V, M>,
+        run: &mut Run<O>,
+        input: impl Fn() -> String,
+    ) where
         A: Clone,
     {
         let second = Case {
             ours: other,
             ..self.clone()
         };
-        self.judge(&mut run.tally, &input);
-        second.judge(&mut run.also[0], input);
+        self.judge_under(accepted, &mut run.tally, &input);
+        second.judge_under(accepted, &mut run.also[0], input);
     }
 
     /// Counted under the document's answer; where the original rightly says nothing the document alone

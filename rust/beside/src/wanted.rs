@@ -18,10 +18,13 @@ pub const EXTENT: Wanted = Wanted {
 
 /// Of a loan that is too long, which takes 4 GB.
 pub const TOO_LONG: &str = "refused 19";
+/// Of a header with fillers; the original tells all but their number.
+pub const FILLERS: &str = "accepted with fillers";
 pub const HEADER: Wanted = Wanted {
     name: "parse_main_header",
     answers: &[
-        (ACCEPTED, 30_000),
+        (ACCEPTED, 85_000),
+        (FILLERS, 15_000),
         ("refused 1", 100_000),
         ("refused 2", 15_000),
         ("refused 3", 200_000),
@@ -37,6 +40,13 @@ pub const HEADER_RECORDS: Wanted = Wanted {
     name: "header_records",
     ..HEADER
 };
+
+pub fn header(fillers: u64) -> &'static str {
+    match fillers {
+        0 => ACCEPTED,
+        _ => FILLERS,
+    }
+}
 
 /// Of a marker that isn't there.
 pub const NO_MARKER: &str = "no such marker";

@@ -79,13 +79,23 @@ fn header_input(random: &mut Random) -> (Vec<u8>, usize, usize) {
     (codestream, room(random, entries), room(random, size))
 }
 
+/// What is accepted is told apart by whether it has fillers.
+fn header_answer(codestream: &[u8]) -> impl Fn(u32) -> &'static str {
+    let fillers = model::header::fillers(codestream);
+    move |status| match status {
+        0 => wanted::header(fillers),
+        _ => usual(status),
+    }
+}
+
 fn header(calls: &mut Calls) {
     let (codestream, entries, size) = header_input(&mut calls.random);
     let table = table(&mut calls.random, entries);
+    let answer = header_answer(&codestream);
     calls.call(
         [codestream],
         [table, size],
-        usual,
+        answer,
         |[codestream], [table, out], values| {
             host::parse_main_header(codestream, table, out, values)
         },
@@ -94,11 +104,12 @@ fn header(calls: &mut Calls) {
 
 fn header_records(calls: &mut Calls) {
     let (codestream, entries, size) = header_input(&mut calls.random);
+    let answer = header_answer(&codestream);
     calls.with_table(
         [codestream],
         [size],
         entries,
-        usual,
+        answer,
         |[codestream], [out], table, values| probe::header_records(codestream, table, out, values),
     );
 }

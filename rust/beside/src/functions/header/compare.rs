@@ -12,9 +12,10 @@ use crate::lent::{room, table, Lent};
 use crate::model::header::{needed, parse_main_header, Header};
 use crate::model::rows;
 use crate::sample::codestream::{Codestream, SOT, TLM};
+use crate::sample::markers::holding;
 use crate::sample::short::each_behind;
 use crate::sample::zeros::zeros;
-use crate::sample::{headers, opened, sample_a, tlms, TELLING};
+use crate::sample::{fillers, headers, opened, sample_a, tlms, TELLING};
 use crate::tally::hex_of_front;
 use crate::wanted;
 
@@ -24,7 +25,7 @@ type Run = compare::Run<Original>;
 pub const COMPARISON: Comparison<Original> = Comparison {
     wanted: wanted::HEADER,
     also: &[wanted::HEADER_RECORDS],
-    minimum: 1_000_000,
+    minimum: 1_200_000,
     original,
     fixed,
     random: Some(random),
@@ -36,6 +37,8 @@ fn fixed(run: &mut Run) {
     short_strings(run);
     every_stlm(run);
     many_entries(run);
+    every_marker(run);
+    many_fillers(run);
 }
 
 impl Leaves<4, 2> for Header {
@@ -74,7 +77,8 @@ fn check_with(run: &mut Run, codestream: &[u8], entries: usize, size: usize) {
         told: Told::by(|| (run.original)(codestream)),
         document: parse_main_header(codestream).and_then(|header| header.fit(table, size)),
     };
-    case.judge_both(of_records, run, || {
+    let fillers = case.document.as_ref().map_or(0, |header| header.fillers);
+    case.judge_both(wanted::header(fillers), of_records, run, || {
         let codestream = hex_of_front(codestream);
         format!("{codestream}; table {table}, output {size}")
     });
@@ -150,9 +154,109 @@ fn many_entries(run: &mut Run) {
     }
 }
 
+/// Each code there is, by itself as delimiters are, and with a segment.
+fn every_marker(run: &mut Run) {
+    for marker in 0..=u16::MAX {
+        for header in holding(marker) {
+            check_with(run, &header, 0, header.len());
+        }
+    }
+}
+
+/// More than 16 bits count.
+fn many_fillers(run: &mut Run) {
+    for count in [65_535, 65_536, 65_537, 1 << 20] {
+        check_with(run, &fillers::many(count), 0, 6 + 2 * count);
+    }
+}
+
 fn random(run: &mut Run) {
     let built = headers::codestream(&mut run.random);
     every_room(run, &built);
     run.cut(2, &built, check);
     run.damaged(16, &built, check);
+    let built = fillers::header(&mut run.random);
+    check(run, &built);
+    run.damaged(3, &built, check);
+}
+
+#[cfg(test)]
+mod tests {
+    use super::{check_with, original, Original};
+    use crate::compare::{Compared, Comparison};
+    use crate::model::header::{fillers as counted, is_delimiter, markers, Header};
+    use crate::sample::fillers;
+    use crate::tally::Tally;
+    use crate::wanted::Wanted;
+    use std::time::Duration;
+
+    const ANY: Wanted = Wanted {
+        name: "f",
+        answers: &[],
+    };
+
+    /// On the headers whose fillers are counted by hand.
+    fn holds(original: Original) -> bool {
+        let comparison = Comparison {
+            wanted: ANY,
+            also: &[ANY],
+            minimum: 1,
+            original,
+            fixed: |run| {
+                for (codestream, _) in fillers::counted() {
+                    check_with(run, &codestream, 1, codestream.len());
+                }
+            },
+            random: None,
+        };
+        let tallies = comparison.tallies(0, Duration::ZERO);
+        tallies.iter().all(Tally::holds)
+    }
+
+    /// The original's answer with another number of fillers.
+    fn saying(fillers: u64, codestream: &[u8]) -> Option<Header> {
+        let told = original(codestream)?;
+        Some(Header { fillers, ..told })
+    }
+
+    fn steps(codestream: &[u8], counts: fn(u16) -> bool) -> u64 {
+        let found = markers(codestream).filter(|&(_, marker)| counts(marker));
+        found.count() as u64
+    }
+
+    /// Pairs of bytes that look like fillers.
+    fn pairs(bytes: &[u8]) -> u64 {
+        let alike = |pair: &&[u8]| pair[0] != 0xFF && is_delimiter(pair[1].into());
+        bytes.windows(2).filter(alike).count() as u64
+    }
+
+    #[test]
+    fn another_number_of_fillers_shows() {
+        assert!(holds(original));
+        let wrong: [Original; 8] = [
+            |codestream| saying(0, codestream),
+            |codestream| saying(counted(codestream).min(1), codestream),
+            |codestream| saying(counted(codestream) & 0xFF, codestream),
+            // segments without FF, delimiters with FF, and no delimiter but of 00
+            |codestream| saying(steps(codestream, |marker| marker >> 8 != 0xFF), codestream),
+            |codestream| saying(steps(codestream, is_delimiter), codestream),
+            |codestream| {
+                let of_00 = |marker| is_delimiter(marker) && marker >> 8 == 0;
+                saying(steps(codestream, of_00), codestream)
+            },
+            // inside segments, and behind the first SOT
+            |codestream| {
+                let first_sot = original(codestream)?.first_sot as usize;
+                saying(pairs(&codestream[..first_sot]), codestream)
+            },
+            |codestream| {
+                let first_sot = original(codestream)?.first_sot as usize;
+                let behind = pairs(&codestream[first_sot..]);
+                saying(counted(codestream) + behind, codestream)
+            },
+        ];
+        for (nth, wrong) in wrong.into_iter().enumerate() {
+            assert!(!holds(wrong), "{nth}");
+        }
+    }
 }

@@ -10,7 +10,7 @@ use crate::judge::{Case, Leaves, Told};
 use crate::lent::{room, table, Lent};
 use crate::model::header::parse_main_header;
 use crate::model::parts::{needed, scan_sot_markers};
-use crate::model::{rows, Entry, Refusal};
+use crate::model::{rows, Entry, Refusal, ACCEPTED};
 use crate::sample::codestream::EOC;
 use crate::sample::short::each_behind;
 use crate::sample::zeros::zeros;
@@ -81,7 +81,7 @@ fn check_with(run: &mut Run, codestream: &[u8], start: u64, entries: usize) {
         told: Told::by(|| (run.original)(codestream, start)),
         document: scan_sot_markers(codestream, start).and_then(fit),
     };
-    case.judge_both(of_records, run, || {
+    case.judge_both(ACCEPTED, of_records, run, || {
         let codestream = hex_of_front(codestream);
         format!("{codestream} from {start}; table {table}")
     });
