@@ -1,10 +1,11 @@
-//! The replay list's cases of kinds 2 and 10; the payload is the codestream.
+//! The replay list's cases of kinds 2 and 10; the payload is the codestream. The number of fillers is
+//! the model's.
 
 use super::original;
 use crate::cases::{listed, Kind};
 use crate::random::Random;
 use crate::sample::damage::damaged;
-use crate::sample::{headers, prefixes, sample_a, tlms};
+use crate::sample::{fillers, headers, prefixes, sample_a, tlms};
 use crate::tally::lower_hex;
 use crate::wanted;
 
@@ -32,9 +33,10 @@ fn answer(codestream: &[u8]) -> Option<String> {
         some => listed(some),
     };
     Some(format!(
-        "header {} {} {}{entries}",
+        "header {} {} {} {}{entries}",
         header.first_sot,
         header.decode_header.len(),
+        header.fillers,
         lower_hex(&header.decode_header),
     ))
 }
@@ -46,6 +48,7 @@ pub fn payloads(random: &mut Random) -> Vec<Vec<u8>> {
     payloads.extend(tlms::pairs());
     payloads.extend(tlms::odd_lengths());
     payloads.extend(headers::stops());
+    payloads.extend(fillers::counted().into_iter().map(|(header, _)| header));
     payloads.extend((0..100).map(|_| damaged(random, &sample)));
     payloads.extend(headers::short_ones(random, 150, 300));
     payloads
