@@ -1,6 +1,6 @@
 //! The benchmark: headers of one and many TLM segments, the entries into rows of bytes or into
-//! records. The table and the output that ours is lent are not cleared between calls; the original
-//! allocates its own.
+//! records, and of few and many fillers, which the original passes too and does not count. The table
+//! and the output that ours is lent are not cleared between calls; the original allocates its own.
 
 use std::cell::RefCell;
 
@@ -10,7 +10,7 @@ use crate::bench::{row, Benchmark, ORIGINAL};
 use crate::model::header::{parse_main_header, Header};
 use crate::model::ROW;
 use crate::sample::codestream::{Codestream, SOT};
-use crate::sample::{sample_a, tlms};
+use crate::sample::{fillers, sample_a, tlms};
 use crate::wanted;
 
 pub const BENCHMARK: Benchmark = Benchmark {
@@ -81,6 +81,9 @@ fn rows() {
     measure("1 TLM of 32,765 entries", tlms::many(1, 32_765, 0x00));
     both("100 TLM of 10,000 entries", tlms::many(100, 10_000, 0x60));
     measure("no TLM, SOT at 4 MB", padded(1 << 22));
+    measure("10 fillers", fillers::many(10));
+    measure("1,000 fillers", fillers::many(1_000));
+    measure("100,000 fillers", fillers::many(100_000));
 }
 
 fn both(name: &str, codestream: Vec<u8>) {
