@@ -85,6 +85,8 @@ struct Header {
     decode_length: u64,
     /// None: there is no table.
     tlm_entries: Option<u64>,
+    /// Delimiters without FF, which no edition of the standard allows.
+    fillers: u64,
     /// Where packet headers of all tiles start; none: there are none, and tiles can be cut out.
     ppm: Option<Offsets>,
 }
@@ -213,6 +215,7 @@ impl Report {
         let behind = [
             ("header", self.header.as_ref().map(Header::text)),
             ("tlm", self.header.as_ref().map(Header::tlm_text)),
+            ("filler", self.header.as_ref().map(Header::filler_text)),
             ("ppm", self.header.as_ref().and_then(Header::ppm_text)),
             ("tile-parts", self.tile_parts.as_ref().map(TileParts::text)),
             ("present", self.present_text()),
@@ -283,6 +286,7 @@ fn header_of(stages: &Stages) -> Option<Header> {
         length: header.first_sot.0,
         decode_length: header.decode_header.len() as u64,
         tlm_entries: header.tlm.as_ref().map(|entries| entries.len() as u64),
+        fillers: header.fillers,
         ppm: ppm.map(|at| Offsets::of(at, codestream.start)),
     })
 }
@@ -354,6 +358,16 @@ impl Header {
             Some(entries) => format!("{entries} entries"),
             None => "none".to_string(),
         }
+    }
+
+    fn filler_text(&self) -> String {
+        let fillers = self.fillers;
+        let delimiters = match fillers {
+            0 => return "none".to_string(),
+            1 => "DELIMITER",
+            _ => "DELIMITERS",
+        };
+        format!("{fillers} {delimiters} WITHOUT FF, which no edition of the standard allows")
     }
 
     fn ppm_text(&self) -> Option<String> {
@@ -446,5 +460,50 @@ impl Ended {
             ("end", _) => format!("at the codestream's end, without EOC, {place}: nothing is left unread"),
             _ => format!("at the codestream's end, {place}: the last tile-part (Psot 0) takes all bytes, EOC too"),
         }
+    }
+}
+
+#[cfg(test)]
+mod tests {
+    use std::path::Path;
+
+    use super::Report;
+
+    const SAMPLE: &[u8] = include_bytes!("../../../crates/tileparts/stdin");
+
+    /// In words and as JSON, of the sample with these bytes between SIZ and TLM.
+    fn told(between: &[u8]) -> [String; 2] {
+        let file = [&SAMPLE[..45], between, &SAMPLE[45..]].concat();
+        let (report, _) = Report::of(Path::new("a.j2k"), &file, None);
+        [report.text(), report.json().expect("JSON")]
+    }
+
+    #[test]
+    fn delimiters_without_ff_are_counted_behind_the_table() {
+        let counted = |between: &[u8], fillers: u64, line: &str| {
+            let [text, json] = told(between);
+            let line = format!("\ntlm         2 entries\nfiller      {line}\ntile-parts  ");
+            assert!(text.contains(&line), "{text}");
+            let field = format!("\"tlm_entries\":2,\"fillers\":{fillers},\"ppm\":null");
+            assert!(json.contains(&field), "{json}");
+        };
+        let one = "1 DELIMITER WITHOUT FF, which no edition of the standard allows";
+        let three = "3 DELIMITERS WITHOUT FF, which no edition of the standard allows";
+        counted(&[], 0, "none");
+        counted(&[0xFF, 0x30, 0xFF, 0x92], 0, "none");
+        counted(&[0, 0x30], 1, one);
+        counted(&[0, 0x30, 0x41, 0x92, 0xFE, 0x3F], 3, three);
+        // the second byte of a length of 1, and the byte behind it
+        counted(&[0xFF, 0x64, 0, 1, 0x30], 1, one);
+        // in a comment
+        counted(&[0xFF, 0x64, 0, 4, 0, 0x30], 0, "none");
+    }
+
+    #[test]
+    fn of_a_header_that_is_refused_none_are_told() {
+        let [text, json] = told(&[0, 0x30, 0xFF, 0x64, 0xFF, 0xFF]);
+        assert!(text.contains("\nrefused     3 47: "), "{text}");
+        assert!(!text.contains("\nfiller"), "{text}");
+        assert!(json.contains("\"header\":null"), "{json}");
     }
 }
