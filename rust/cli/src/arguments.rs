@@ -39,7 +39,12 @@ Components:
   8 bits, unsigned; 5 by 3, from 2, 1 on; a sample for 2 by 2
 is a component with 3 rows of 5 samples, the first at 2, 1 of its own grid; each stands for 2 columns and 2 rows of the image.
 Equal ones beside each other share a line, with the first and the last number, from 0. In JSON x0, y0 is the place of the first
-sample, and x1, y1 lie behind the last.";
+sample, and x1, y1 lie behind the last.
+
+Filler:
+  1 DELIMITER WITHOUT FF, which no edition of the standard allows
+is two bytes in the main header that stand where a marker does: the first is not FF, and the second is 92, or 30 to 3F. They are
+passed over, and the file is accepted all the same; tell its supplier, since OpenJPEG refuses it. JSON has their number as fillers.";
 
 const TILE: &str = "\
 Examples:
