@@ -119,6 +119,12 @@ def with_header(*segments, parts):
     return SOC + b"".join(segments) + parts + EOC
 
 
+def with_segments(segments):
+    """A tile-part of tile 0, with these behind its SOT."""
+    first = part(0, 14)
+    return first[:6] + struct.pack(">I", len(first) + len(segments)) + first[10:12] + segments + b"\xff\x93"
+
+
 # Tiles by each rule, in a codestream without TLM whose SIZ is whole
 
 FIELDS = ["Xsiz", "Ysiz", "XOsiz", "YOsiz", "XTsiz", "YTsiz", "XTOsiz", "YTOsiz"]
@@ -207,7 +213,9 @@ FAR = size_segment((2, 6), (2**32 - 1, 4), origin=(1, 0))
 # the packet headers of both parts, of 5 bytes each; the same bytes in a comment, and behind the first SOT
 PPM = segment(0xFF60, b"\0" + (struct.pack(">I", 5) + bytes(5)) * 2)
 COMMENT = segment(0xFF64, b"\0\1" + PPM)
-PPM_BEHIND = part(0, 14)[:6] + struct.pack(">I", 14 + len(PPM)) + part(0, 14)[10:12] + PPM + b"\xff\x93"
+PPM_BEHIND = with_segments(PPM)
+# three delimiters without FF
+FILLER = bytes.fromhex("0030 4192 fe3f")
 MANY = 12_000
 COMPONENTS = [(7, 1, 1), (7, 2, 3), (7, 2, 3), (0x8B, 1, 1)]
 MOST_COMPONENTS = 16_384
@@ -249,6 +257,7 @@ FILES = {
     "comment.j2k": with_header(siz(), COMMENT, parts=part(0, 14) + part(5, 20)),
     "ppm-behind.j2k": with_header(siz(), parts=PPM_BEHIND + part(5, 20)),
     "plm.j2k": with_header(siz(), segment(0xFF57, b"\0\1\x05\1\x05"), parts=part(0, 14) + part(5, 20)),
+    "filler-behind.j2k": with_header(siz(), parts=with_segments(FILLER) + part(5, 20)),
 }
 
 # Where PPM stands in a codestream whose tiles are not cut out, and the codestream's own place
@@ -263,6 +272,31 @@ FILES |= {
     "ppm.jp2": jp2(with_header(siz(), PPM, parts=part(0, 14) + part(5, 20))),
     "ppm-later.jp2": jp2(with_header(siz(), COMMENT, PPM, PPM, parts=part(0, 14) + part(5, 20))),
     "ppm-no-grid.j2k": with_header(size_segment((8, 8), (0, 4)), PPM, parts=part(0, 14)),
+}
+
+
+# What is put into a main header, and how many delimiters without FF the walk passes there
+FILLERS = {
+    "": 0,
+    "ff30": 0,
+    "ff3f ff92": 0,
+    "0030": 1,
+    "9292": 1,
+    FILLER.hex(): 3,
+    "0030 ff30 0030": 2,
+    # each second byte, and each first one
+    "".join(f"00{low:02x}" for low in [*range(0x30, 0x40), 0x92]): 17,
+    "".join(f"{high:02x}30" for high in range(256)): 255,
+    # more than the bytes that are asked for at first
+    "0030" * 70_000: 70_000,
+    # the second byte of a length of 1, and the byte behind it
+    "ff64 0001 30": 1,
+    "0064 0001 92 0030": 2,
+    # segments, whatever their first byte, with second bytes beside those of delimiters
+    "0064 0002 002f 0002 0040 0002 0090 0002 0091 0002 0093 0002": 0,
+    # in a comment, and in a segment whose marker has no FF either
+    f"ff64 000a 0001 {FILLER.hex()}": 0,
+    f"0064 0008 {FILLER.hex()}": 0,
 }
 
 
@@ -308,6 +342,9 @@ REFUSED = {
     "lsot.j2k": in_stage(LONG_LSOT, 8, SECOND, True),
     "cut.j2k": in_stage(CUT, 9, SECOND, True),
     "cut.jp2": in_stage(CUT, 9, SECOND, True, True),
+    "filler-header.j2k": in_stage(HEADER + FILLER + b"\xff\x64\0\x09", 3, len(HEADER) + 6, False),
+    "filler-tlm4.jp2": in_stage(HEADER + FILLER + SHORT_TLM[len(HEADER) :], 4, len(HEADER) + 6, False, True),
+    "filler-no-sot.j2k": in_stage(HEADER + FILLER, 6, len(HEADER) + 6, False),
 }
 FILES |= {name: refused.content for name, refused in REFUSED.items()}
 
@@ -365,32 +402,37 @@ def moved(tile, why):
     return f"note: tile {tile} is moved to the origin and may decode to other pixels than in the whole image, since {why}"
 
 
-def shown_sample(name, size, container, start):
+def filler_text(count):
+    delimiters = "DELIMITER" if count == 1 else "DELIMITERS"
+    return f"{count} {delimiters} WITHOUT FF, which no edition of the standard allows" if count else "none"
+
+
+def shown_sample(name, start, more=0, filler="none"):
+    """Of sample A, bare or in a JP2, with so many bytes more in its header."""
+    length = len(SAMPLE) + more
+    size = len(jp2(bytes(length))) if start else length
+    inside = f"JP2, with a codestream of {length} bytes from byte {start} of the file on"
     return f"""\
 file        {name}, {size} bytes
-container   {container}
+container   {inside if start else f"none: a bare codestream of {length} bytes"}
 image       10 by 6, from 0, 0 on
 tiles       4 by 4, from 0, 0 on; 6 in a grid of 3 by 2
 components  1 of 8 bits, unsigned; 10 by 6, from 0, 0 on
-header      57 bytes, 45 without TLM
+header      {57 + more} bytes, {45 + more} without TLM
 tlm         2 entries
-tile-parts  2, 30 bytes, from byte 57 of the codestream, byte {start + 57} of the file on
+filler      {filler}
+tile-parts  2, 30 bytes, from byte {57 + more} of the codestream, byte {start + 57 + more} of the file on
 present     2 of 6 tiles
 missing     4: 1-4
-scan ended  at EOC, byte 87 of the codestream, byte {start + 87} of the file: nothing is left unread
+scan ended  at EOC, byte {87 + more} of the codestream, byte {start + 87 + more} of the file: nothing is left unread
 """
 
 
-SHOWN = {
-    "a.j2k": shown_sample("a.j2k", 89, "none: a bare codestream of 89 bytes", 0),
-    "a.jp2": shown_sample(
-        "a.jp2", len(jp2(SAMPLE)), f"JP2, with a codestream of 89 bytes from byte {START} of the file on", START
-    ),
-}
+SHOWN = {"a.j2k": shown_sample("a.j2k", 0), "a.jp2": shown_sample("a.jp2", START)}
 
 # Single lines that `show` has to print
 SHOWS = {
-    "whole.j2k": ["present     6 of 6 tiles", "missing     none", "tlm         none"],
+    "whole.j2k": ["present     6 of 6 tiles", "missing     none", "tlm         none", "filler      none"],
     "twice.j2k": ["tile-parts  3, 49 bytes, from byte 45 of the codestream, byte 45 of the file on", "present     2 of 6 tiles"],
     "short-psot.jp2": [
         f"scan ended  AT OTHER BYTES (0000), byte {SECOND + 30} of the codestream, byte {START + SECOND + 30} of the file: "
@@ -412,6 +454,7 @@ SHOWS = {
     "moved.j2k": ["image       8 by 8, from 1, 0 on", "tiles       4 by 4, from 1, 0 on; 4 in a grid of 2 by 2"],
     "too-many.j2k": ["present     1 of 65536 tiles", "missing     65535; more tiles than an index can name"],
     "no-grid.j2k": ["tiles       0 by 4, from 0, 0 on; they make no grid"],
+    "filler-behind.j2k": ["filler      none"],
     "before.j2k": ["image       8 by 8, from 3, 0 on", "tiles       4 by 4, from 1, 0 on; 6 in a grid of 3 by 2"],
     "behind-it.jp2": ["tiles       4 by 4, from 2, 0 on; they make no grid"],
     "not-reached.j2k": ["tiles       4 by 4, from 0, 0 on; they make no grid"],
@@ -523,6 +566,10 @@ class Runs:
             status, out, said = self.run("show", file)
             last = f"refused     {refused_line(refused.number, refused.place)}"
             self.hold(f"show {file}", (status, out.splitlines()[-1], said), (1, last, error))
+            # filler is told with the header, and of none that was refused
+            labels = [line[:11].rstrip() for line in out.splitlines()]
+            saw = "header" in labels, "filler" in labels, json.loads(self.run("show", "--json", file)[1])["header"] is not None
+            self.hold(f"show {file}, its header", saw, (any(line.startswith("header ") for line in refused.before),) * 3)
         # where only TLM is wrong the scan is shown
         self.hold("show tlm4.jp2", "tile-parts  1, 14 bytes, " in self.run("show", "tlm4.jp2")[1], True)
         # SIZ is not looked into by the listing, and is by `show`
@@ -703,6 +750,53 @@ class Runs:
         for name, content in ("com.j2k", kept), ("behind-sot.j2k", behind):
             self.by_rules(name, content, [0, 4])
 
+    def fillers(self):
+        """Delimiters without FF in sample A's main header, before TLM, behind it, and both: `show` counts them, and all else is told
+        as of any other bytes there."""
+        for number, (between, count) in enumerate(FILLERS.items()):
+            between = bytes.fromhex(between)
+            for file, start, before, behind in ("before.j2k", 0, 1, 0), ("behind.jp2", START, 0, 1), ("both.jp2", START, 1, 1):
+                file = f"filler{number}-{file}"
+                content = SAMPLE[:45] + between * before + SAMPLE[45:57] + between * behind + SAMPLE[57:]
+                (self.folder / file).write_bytes(jp2(content) if start else content)
+                self.filled(file, start, len(content) - len(SAMPLE), count * (before + behind))
+        # of a file that is refused behind its header
+        content = SAMPLE[:45] + FILLER + SAMPLE[45:-4]
+        (self.folder / "filler-cut.j2k").write_bytes(content)
+        told = f"codestream 0 {len(content)}\nheader 63 51\ntlm 0 63 14\ntlm 5 77 16\nrefused 9 77\n"
+        self.case(Case(["list", "filler-cut.j2k"], 1, told, about("filler-cut.j2k", sentence(9, 77))))
+        status, out, _ = self.run("show", "filler-cut.j2k")
+        header = json.loads(self.run("show", "--json", "filler-cut.j2k")[1])["header"]
+        saw = status, f"filler      {filler_text(3)}" in out.splitlines(), header["fillers"]
+        self.hold("show filler-cut.j2k", saw, (1, True, 3))
+        # a tile that is cut out keeps them
+        for file in "filler-tile.j2k", "filler-tile.jp2":
+            self.by_rules(file, SAMPLE[:45] + FILLER + SAMPLE[57:], [0, 5])
+            for rule in RULES_OF_TILES:
+                self.run("tile", file, "5", "-o", OUT, "--rule", rule)
+                found = json.loads(self.run("show", "--json", OUT)[1])["header"]["fillers"]
+                self.hold(f"show tile 5 of {file} {rule}", found, 3)
+
+    def filled(self, file, start, more, count):
+        """Of sample A with so many bytes more, and so many fillers among them."""
+        self.case(Case(["show", file], out=shown_sample(file, start, more, filler_text(count))))
+        header = {"length": 57 + more, "decode_length": 45 + more, "tlm_entries": 2, "fillers": count, "ppm": None}
+        status, out, said = self.run("show", "--json", file)
+        self.hold(f"show --json {file}", (status, json.loads(out)["header"], said), (0, header, ""))
+        listed = [(tile, at + more, size) for tile, at, size in SAMPLE_LISTED]
+        self.case(Case(["list", file], out=listing(start, len(SAMPLE) + more, 57 + more, 45 + more, listed, listed)))
+        status, out, said = self.run("list", "--json", file)
+        rows = [{"tile": tile, "offset": at, "length": size} for tile, at, size in listed]
+        accepted = {
+            "file": file,
+            "status": "accepted",
+            "codestream": {"start": start, "length": len(SAMPLE) + more},
+            "header": {"first_sot": 57 + more, "decode_length": 45 + more, "tlm": rows},
+            "parts": [row | {"file_offset": start + row["offset"]} for row in rows],
+            "unread": 0,
+        }
+        self.hold(f"list --json {file}", (status, json.loads(out), said), (0, accepted, ""))
+
     def rules(self):
         """Tiles by each rule, where tiles start before the image: built here, by editing sample A, and of OpenJPEG, as it is and with
         a damaged SIZ."""
@@ -855,6 +949,8 @@ class Runs:
         _, out, _ = self.run("show", "--json", "a.jp2")
         found = json.loads(out)
         self.hold("show --json", found["grid"], {"columns": 3, "rows": 2, "tiles": 6})
+        header = {"length": 57, "decode_length": 45, "tlm_entries": 2, "fillers": 0, "ppm": None}
+        self.hold("show --json", found["header"], header)
         tiles = {"present": 2, "missing": 4, "missing_ranges": [[1, 4]], "outside_ranges": []}
         self.hold("show --json", found["tiles"], tiles)
         ended = {"at": "EOC", "offset": 87, "file_offset": START + 87, "bytes": None, "unread": 0}
@@ -930,6 +1026,7 @@ class Runs:
         help_text = self.run("tile", "--help")[1]
         for words in "in-place    the tile stays where it lies, with its own pixels", "[default: in-place]":
             self.hold(f"tile --help: {words}", words in help_text, True)
+        self.hold("show --help: filler", f"  {filler_text(1)}\n" in self.run("show", "--help")[1], True)
         self.hold("--version", self.run("--version"), (0, "winterhasp 0.1.0\n", ""))
         for words in [], *([command] for command in COMMANDS):
             status, out, error = self.run(*words, "--help")
@@ -1193,9 +1290,9 @@ class Runs:
 
 
 GROUPS = [
-    Runs.accepted, Runs.refused, Runs.components, Runs.tiles, Runs.packed, Runs.rules, Runs.never_over_the_input, Runs.machines,
-    Runs.pictures, Runs.not_read, Runs.words, Runs.not_written, Runs.streams, Runs.damaged, Runs.folders, Runs.large,
-    Runs.shrinking, Runs.encoders,
+    Runs.accepted, Runs.refused, Runs.components, Runs.tiles, Runs.packed, Runs.fillers, Runs.rules, Runs.never_over_the_input,
+    Runs.machines, Runs.pictures, Runs.not_read, Runs.words, Runs.not_written, Runs.streams, Runs.damaged, Runs.folders,
+    Runs.large, Runs.shrinking, Runs.encoders,
 ]  # fmt: skip
 
 
