@@ -776,6 +776,7 @@ class Runs:
                 self.run("tile", file, "5", "-o", OUT, "--rule", rule)
                 found = json.loads(self.run("show", "--json", OUT)[1])["header"]["fillers"]
                 self.hold(f"show tile 5 of {file} {rule}", found, 3)
+        self.fillers_of_openjpeg()
 
     def filled(self, file, start, more, count):
         """Of sample A with so many bytes more, and so many fillers among them."""
@@ -796,6 +797,37 @@ class Runs:
             "unread": 0,
         }
         self.hold(f"list --json {file}", (status, json.loads(out), said), (0, accepted, ""))
+
+    def fillers_of_openjpeg(self):
+        """In a file of OpenJPEG, between two segments of its main header: it decodes none with a filler, whole or a tile of it, and
+        one with another delimiter as before."""
+        self.slope()
+        words = "opj_compress -i slope.pgm -o plain.j2k -t 64,64 -n 3"
+        self.hold(words, subprocess.run(words.split(), cwd=self.folder, capture_output=True).returncode, 0)
+        content = (self.folder / "plain.j2k").read_bytes()
+        place = content.index(struct.pack(">H", packed.COM))
+        whole, tile = self.decoded("plain.j2k"), self.decoded_tile("plain.j2k")
+        self.hold("plain.j2k, decoded", (whole[0], tile[0]), (0, 0))
+        refused = 1, None, True
+        for delimiter, count in ("ff30", 0), ("0030", 1), ("4192", 1):
+            file = f"between{delimiter}.j2k"
+            (self.folder / file).write_bytes(content[:place] + bytes.fromhex(delimiter) + content[place:])
+            found = json.loads(self.run("show", "--json", file)[1])["header"]["fillers"]
+            self.hold(f"show --json {file}", found, count)
+            saw = self.decoded(file), self.decoded_tile(file)
+            self.hold(f"{file}, decoded", saw, (refused, refused) if count else (whole, tile))
+
+    def decoded(self, file):
+        """Status, picture, and whether OpenJPEG missed a marker."""
+        picture = self.folder / "decoded.pgm"
+        picture.unlink(missing_ok=True)
+        ended = subprocess.run(["opj_decompress", "-i", file, "-o", picture.name], cwd=self.folder, capture_output=True)
+        made = picture.read_bytes() if picture.exists() else None
+        return ended.returncode, made, b"A marker ID was expected (0xff--)" in ended.stdout + ended.stderr
+
+    def decoded_tile(self, file):
+        self.cut(file, 4, None)
+        return self.decoded(OUT)
 
     def rules(self):
         """Tiles by each rule, where tiles start before the image: built here, by editing sample A, and of OpenJPEG, as it is and with
