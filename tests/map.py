@@ -63,9 +63,10 @@ SHOWN = {
 
 # Definitions that go with a module of another name.
 ALSO = {
-    "header/parse": ["IsoMain"],
-    "header/step": ["Iso"],
+    "header/parse": ["IsoMain", "Base"],
+    "header/step": ["Iso", "Base"],
     "header/tlm": ["IsoTlm"],
+    "header/walk": ["Base"],
     "parts/scan": ["Sot", "Iso", "Tiles"],
     "parts/split": ["Sot", "Tiles"],
     "tile/annex_b": ["Iso"],
@@ -83,7 +84,8 @@ HEAD = """\
 A line a module: where its code stands, what it means, its laws, the wrong programs that must be refused, its kind in the
 replayed list (README.md) and the modules of `rust/beside/src/functions` that compare it with the original. `tests/map.py --write` makes
 this of the tree, and `.ci/run` sees that it is so. A law file has its definition's name in front: what is said of
-`specs/Scan.antt` stands in `proofs/Scan*.antt`. `Iso*` are the standard's own tables, and the laws that hold ours to them.
+`specs/Scan.antt` stands in `proofs/Scan*.antt`. `Iso*` are the standard's own tables, and the laws that hold ours to them;
+`Base` has the texts that definitions had before one changed, and the laws that hold the new ones to these.
 Proofs of single functions stand in `proofs/MODULE/FUNCTION/Proof.antt`.
 
 | module | code | definition | laws | must fail | replay | compared |
