@@ -1,6 +1,6 @@
 // Answers the stored list of cases in `cases`, a line for each; what it must write is what the original answered, and for
-// component sizes, tiles by Annex B or kept in place, and markers, of which that has no function, the model (rust/beside, program
-// `cases`). A case is its kind, a byte; the length of its payload, 4 bytes; the payload.
+// component sizes, tiles by Annex B or kept in place, markers and the number of fillers, which that does not tell, the model
+// (rust/beside, program `cases`). A case is its kind, a byte; the length of its payload, 4 bytes; the payload.
 mod answers;
 mod print;
 
