@@ -2,7 +2,7 @@
 use Prim.Native.Nat.{ℕ, _+_, _≤_, _<_}
 use native.Mathlib.Omega.{arith}
 use mathlib.Core.Path.{_≡_, refl, sym, ap, _∙_}
-use mathlib.Core.Bool.{Bool, true, false, not, _&&_}
+use mathlib.Core.Bool.{true, false, not}
 use mathlib.Core.List.{List, [], _∷_}
 use mathlib.Core.Logic.{⊎-elim}
 use lib.ListN.{length}
@@ -14,7 +14,7 @@ use Rattle.numbers.specs.Bytes.{be}
 use Rattle.types.specs.Markers.{TLM}
 use Rattle.chain.specs.Chain.{on, Chain, Rises, also}
 use Rattle.chain.proofs.ChainLaws.{chain-end, chain-on, end-on}
-use Rattle.header.specs.Step.{delimits, highFF, isFiller, segmentEnd, stepAt}
+use Rattle.header.specs.Step.{delimits, isFiller, segmentEnd, stepAt}
 use Rattle.header.specs.Tlm.{ltlm, stlm, indexSize, entryCount, Within, Accepted, tlmAt}
 use Rattle.header.specs.Walk.{cutAt, plain, tlmStep, passedAt, walkStepOf, walkStepAt, WalkEnd, firstSot, refused, walkMove, walkAt, walkFrom}
 use Rattle.header.specs.declared.step.Marker.{Marker}
@@ -27,7 +27,7 @@ use Rattle.header.specs.declared.walk.WalkStep.the-variants.{Passed, Fir
 use Rattle.header.proofs.walk.WalkStep.{the-type}
 use Rattle.types.specs.declared.Refusal.{Refusal}
 use Rattle.numbers.proofs.Choice.{by-test}
-use Rattle.header.proofs.StepLaws.{Told, step-told}
+use Rattle.header.proofs.StepLaws.{Told, step-told, saysFiller, filler-said}
 
 -- ---- what is passed
 
@@ -90,16 +90,7 @@ Tells s at (Refused r) = Unit {0}
 pub not-true-false : true ≡ false → ⊥
 not-true-false e = let z : _≡_ {A = ℕ} 0 1 = cc in omega arith
 
--- a delimiter is a filler by its high byte, and nothing else is one
-delimiter-filler : (marker : ℕ) → delimits marker ≡ true → not (highFF marker) ≡ isFiller marker
-unfolding isFiller
-delimiter-filler marker d = sym (ap (λ (b : Bool). b && not (highFF marker)) d)
-
-other-filler : (marker : ℕ) → delimits marker ≡ false → false ≡ isFiller marker
-unfolding isFiller
-other-filler marker d = sym (ap (λ (b : Bool). b && not (highFF marker)) d)
-
-module _ (s : List ℕ) (at : ℕ) (m : Marker) (told : Told s at (Segment m)) where
+module _ (s : List ℕ) (at : ℕ) (m : Marker) (told : Told s at (Segment m)) (none : isFiller (be 2 s at) ≡ false) where
   code-is : m .code ≡ be 2 s at
   code-is = ap (λ (k : Marker). k .code) (told .3)
 
@@ -117,7 +108,7 @@ module _ (s : List ℕ) (at : ℕ) (m : Marker) (told : Told s at (Segment m)) w
         past = two-past;
         inside = told .1;
         code = code-is;
-        filler = other-filler (be 2 s at) (told .6);
+        filler = sym none;
         plain = λ e. absurd (not-true-false e);
         tlm = λ _. record {
           marker = sym code-is ∙ is;
@@ -140,29 +131,33 @@ module _ (s : List ℕ) (at : ℕ) (m : Marker) (told : Told s at (Segment m)) w
         past = two-past;
         inside = told .1;
         code = code-is;
-        filler = other-filler (be 2 s at) (told .6);
+        filler = sym none;
         plain = λ _ e. eqb-false (m .code) TLM other (code-is ∙ e);
         tlm = λ e. absurd (not-true-false (sym e));
       })
 
-tells-step : (s : List ℕ) (at : ℕ) (found : HeaderStep) → Told s at found → Tells s at (walkStepOf s at found)
+tells-step : (s : List ℕ) (at : ℕ) (found : HeaderStep) → Told s at found → (at + 2 ≤ length s → isFiller (be 2 s at) ≡ saysFiller found)
+    → Tells s at (walkStepOf s at found)
 unfolding walkStepOf
-tells-step s at Sot told = tt
-tells-step s at (Delimiter m) told =
+tells-step s at Sot told said = tt
+tells-step s at (Delimiter m) told said =
     record {
       past = omega (arith, told .2);
       inside = told .1;
       code = ap (λ (k : Marker). k .code) (told .3);
-      filler = ap (λ (k : Marker). not (k .«high_ff»)) (told .3) ∙ delimiter-filler (be 2 s at) (told .4);
+      filler = sym (said (omega arith));
       plain = λ _ is. not-true-false (sym (told .4) ∙ ap delimits is ∙ tlm-no-delimiter);
       tlm = λ e. absurd (not-true-false (sym e));
     }
-tells-step s at (Segment m) told = tells-segment s at m told
-tells-step s at CutShort told = tt
+tells-step s at (Segment m) told said = tells-segment s at m told (said (omega arith))
+tells-step s at CutShort told said = tt
+
+tells : (s : List ℕ) (at : ℕ) → Tells s at (walkStepAt s at)
+unfolding walkStepAt
+tells s at = tells-step s at (stepAt s at) (step-told s at) (filler-said s at)
 
 pub passed-is : (s : List ℕ) (at : ℕ) (p : Passing) → walkStepAt s at ≡ Passed p → PassedIs s at p
-unfolding walkStepAt
-passed-is s at p e = rw e at (tells-step s at (stepAt s at) (step-told s at))
+passed-is s at p e = rw e at (tells s at)
 
 -- ---- the walk, by what the step finds
 
@@ -173,8 +168,8 @@ moved s at next FirstSot told e = absurd (end-on e)
 moved s at next (Refused r) told e = absurd (end-on e)
 
 pub walk-rises : (s : List ℕ) → Rises (walkAt s) (length s)
-unfolding walkAt walkStepAt
-walk-rises s at next e = moved s at next (walkStepAt s at) (tells-step s at (stepAt s at) (step-told s at)) e
+unfolding walkAt
+walk-rises s at next e = moved s at next (walkStepAt s at) (tells s at) e
 
 pub walk-moves : (s : List ℕ) (at next : ℕ) → walkAt s at ≡ on next → walkFrom s at ≡ also (record { at = at; next = next }) (walkFrom s next)
 unfolding walkFrom
