@@ -4,7 +4,7 @@ use native.Mathlib.Omega.{arith}
 use mathlib.Core.Path.{_≡_, refl, sym, ap, _∙_}
 use mathlib.Core.Bool.{true, false, _&&_}
 use mathlib.Core.List.{List, _++_}
-use lib.ListN.{length, drop}
+use lib.ListN.{length, take, drop}
 use lib.Dec.{leb, eqb}
 use borrow.Author.Tests.{le-leb, lt-leb, eq-eqb, leb-true}
 use Rattle.numbers.specs.Bytes.{be, put}
@@ -12,9 +12,10 @@ use Rattle.numbers.proofs.BytesLaws.{put-start}
 use Rattle.types.specs.Refusals.{refusal}
 use Rattle.types.specs.Row.{rowsOf}
 use Rattle.types.proofs.RowLaws.{length-rows}
+use Rattle.types.proofs.RowStanding.{Layout, put-last}
 use Rattle.types.specs.declared.Refusal.{Refusal}
 use Rattle.types.specs.Markers.{SOC, SIZ}
-use Rattle.header.specs.Tlm.{placed}
+use Rattle.header.specs.Tlm.{Entry, placed}
 use Rattle.header.specs.Walk.{WalkEnd, firstSot, refused, walkFrom}
 use Rattle.header.specs.Strip.{decodeHeader, tlmEntries}
 use Rattle.header.specs.Parse.{readAs, stands, frontOf, behindFront, judged, withRoom, parsed, tlmTable, tableAfter, outAfter}
@@ -25,7 +26,7 @@ use Rattle.header.specs.declared.parse.MainHeader.{MainHeader}
 use Rattle.header.specs.declared.parse.MainHeader.the-variants.{Header, Refused}
 use Rattle.numbers.proofs.Choice.{by-test}
 use Rattle.header.proofs.TlmLaws.{length-placed}
-use Rattle.header.proofs.StripLengths.{entries-bound, stopped-inside}
+use Rattle.header.proofs.StripLengths.{entries-bound, stopped-inside, whole-kept, none-met}
 
 module _ (s : List ℕ) where
   -- ---- before the walk
@@ -182,8 +183,11 @@ pub parsed-decided : (s : List ℕ) (rows room : ℕ) (h : MainHeaderInfo) → p
 unfolding parsed
 parsed-decided s rows room h e = rw e at (decides s rows room (judged s) (says s))
 
--- what is written is one replacement from the start
 module _ (s : List ℕ) (h : MainHeaderInfo) (r : Read s h) where
+  pub first-inside : h .«first_sot_offset» .0 ≤ length s
+  first-inside = omega (arith, r .first, stopped-inside s (r .two))
+
+  -- what is written is one replacement from the start
   pub table-put : (table : List ℕ) → put table 0 (rowsOf (placed (h .«first_sot_offset» .0) (tlmEntries s (walkFrom s 2 .visits)))) ≡ tableAfter (Header h) s table
   unfolding tableAfter tlmTable
   table-put table =
@@ -195,3 +199,16 @@ module _ (s : List ℕ) (h : MainHeaderInfo) (r : Read s h) where
   pub out-put : (out : List ℕ) → put out 0 (decodeHeader s (walkFrom s 2 .visits)) ≡ outAfter (Header h) s out
   unfolding outAfter
   out-put out = put-start out _ ∙ ap (λ (n : ℕ). decodeHeader s (walkFrom s 2 .visits) ++ drop n out) (sym (r .header))
+
+  -- a header that is as long as its decode header has no TLM segment: there are no records to write, and it is its own decode header
+  module _ (same : h .«decode_header_length» ≡ h .«first_sot_offset» .0) where
+    plain-long : length (decodeHeader s (walkFrom s 2 .visits)) ≡ walkFrom s 2 .stopped
+    plain-long = sym (r .header) ∙ same ∙ r .first
+
+    pub none-written : {B : Type 0} (L : Layout B) (table : List B) → table ≡ put table 0 (L .all (placed (h .«first_sot_offset» .0) (tlmEntries s (walkFrom s 2 .visits))))
+    unfolding placed
+    none-written L table =
+        sym (put-last L table 0) ∙ ap (λ (es : List Entry). put table 0 (L .all (placed (h .«first_sot_offset» .0) es))) (sym (none-met s (r .two) plain-long))
+
+    pub out-plain : (out : List ℕ) → put out 0 (take (h .«first_sot_offset» .0) s) ≡ outAfter (Header h) s out
+    out-plain out = ap (put out 0) (ap (λ (n : ℕ). take n s) (r .first) ∙ sym (whole-kept s (r .two) plain-long)) ∙ out-put out

@@ -17,11 +17,11 @@ use Rattle.header.proofs.WalkLaws.{passed-is}
 use Rattle.header.proofs.WalkVisited.{keptFrom, kept-plain, kept-tlm, length-visited}
 
 -- the bytes of a run
-abbrev run : List ℕ → ℕ → ℕ → List ℕ
+abbrev pub run : List ℕ → ℕ → ℕ → List ℕ
 run s from at = take (at - from) (drop from s)
 
 -- two runs that adjoin are one
-run-join : (s : List ℕ) (from at next : ℕ) → from ≤ at → at ≤ next → run s from at ++ run s at next ≡ run s from next
+pub run-join : (s : List ℕ) (from at next : ℕ) → from ≤ at → at ≤ next → run s from at ++ run s at next ≡ run s from next
 run-join s from at next h k =
     let back : from + (at - from) ≡ at = omega arith in
     let there : drop (at - from) (drop from s) ≡ drop at s = drop-drop (at - from) from s ∙ ap (λ (n : ℕ). drop n s) back in

@@ -1,8 +1,10 @@
--- Lengths along the walk: an entry takes 2 bytes or more, and the decode header with the TLM segments is as long as the main header.
+-- Lengths along the walk: an entry takes 2 bytes or more, and the decode header with the TLM segments is as long as the main header. So one that is as
+-- long as the main header is all of it, and there are no entries.
 use Prim.Native.Nat.{ℕ, _+_, _-_, _*_, _≤_}
+use native.Mathlib.Nat.{sub-self, sub-zero}
 use native.Mathlib.Omega.{arith}
-use mathlib.Core.Path.{_≡_}
-use mathlib.Core.List.{List, _∷_}
+use mathlib.Core.Path.{_≡_, refl, ap, _∙_}
+use mathlib.Core.List.{List, [], _∷_, _++_}
 use lib.ListN.{length, take, drop, length-append, length-take}
 use borrow.Author.Tests.{eq-eqb, ne-eqb}
 use Rattle.numbers.proofs.Choice.{by-bool}
@@ -16,6 +18,7 @@ use Rattle.header.specs.declared.walk.WalkStep.the-variants.{Passed}
 use Rattle.header.proofs.TlmLaws.{length-entries}
 use Rattle.header.proofs.WalkLaws.{passed-is, on-passed, walk-rises}
 use Rattle.header.proofs.WalkVisited.{entries-few, length-visited}
+use Rattle.header.proofs.StripLaws.{run, run-join}
 
 -- what holds of the visits from a position to another
 record Measured (s : List ℕ) (at : ℕ) (visits : List Visit) (stop : ℕ) : Type 0 where
@@ -71,3 +74,40 @@ pub header-lengths : (s : List ℕ) → 2 ≤ length s
     → length (decodeHeader s (walkFrom s 2 .visits)) + tlmBytes s (walkFrom s 2 .visits) ≡ walkFrom s 2 .stopped
 unfolding decodeHeader
 header-lengths s h = simp (length-append, length-take) (omega (arith, whole s h .lengths))
+
+-- ---- no TLM segment was met
+
+record Plain (s : List ℕ) (at : ℕ) (visits : List Visit) (stop : ℕ) : Type 0 where
+  kept : kept s visits ≡ run s at stop
+  none : tlmEntries s visits ≡ []
+
+plain-run : (s : List ℕ) {at stop : ℕ} {visits : List Visit} → at ≤ length s → Run (walkAt s) at visits stop → tlmBytes s visits ≡ 0 → Plain s at visits stop
+unfolding tlmEntries kept tlmBytes
+plain-run s h (stay {at = at}) e = record { kept = rw sub-self; none = refl }
+plain-run s h (step {at = at} {next = next} {stop = stop} {rest = rest} found past more) e =
+    let o = on-passed s at next found in
+    let told = passed-is s at (o .0) (o .1) in
+    let inside : next ≤ length s = omega (arith, o .2, told .inside) in
+    let ahead : next ≤ stop = omega (arith, measured s inside more .lengths) in
+    by-bool (o .0 .«is_tlm»)
+    (λ is. absurd (omega (arith, rw (eq-eqb _ _ (told .tlm is .marker)) at e)))
+    (λ other.
+    let p : Plain s next rest stop = plain-run s inside more (rw (ne-eqb _ _ (told .plain other)) at e) in
+    record {
+      kept = rw (ne-eqb _ _ (told .plain other)) (ap (λ (k : List ℕ). run s at next ++ k) (p .kept) ∙ run-join s at next stop (omega arith) ahead);
+      none = rw (ne-eqb _ _ (told .plain other)) (p .none);
+    })
+
+module _ (s : List ℕ) (two : 2 ≤ length s) (long : length (decodeHeader s (walkFrom s 2 .visits)) ≡ walkFrom s 2 .stopped) where
+  plain : Plain s 2 (walkFrom s 2 .visits) (walkFrom s 2 .stopped)
+  unfolding walkFrom
+  plain = plain-run s two (chain-run firstSot (walkAt s) (length s) (walk-rises s) 2) (omega (arith, header-lengths s two))
+
+  pub whole-kept : decodeHeader s (walkFrom s 2 .visits) ≡ take (walkFrom s 2 .stopped) s
+  unfolding decodeHeader
+  whole-kept =
+      let ahead : 2 ≤ walkFrom s 2 .stopped = omega (arith, whole s two .lengths) in
+      ap (λ (k : List ℕ). take 2 s ++ k) (plain .kept) ∙ run-join s 0 2 (walkFrom s 2 .stopped) (omega arith) ahead ∙ ap (λ (n : ℕ). take n s) (sub-zero (walkFrom s 2 .stopped))
+
+  pub none-met : tlmEntries s (walkFrom s 2 .visits) ≡ []
+  none-met = plain .none

@@ -196,6 +196,11 @@ pub fn parse_main_header(codestream: &[u8], table: &mut [u8], out: &mut [u8]) ->
         return answer;
     };
     let first_sot = info.first_sot_offset;
+    if info.decode_header_length == first_sot.0 {
+        // no TLM segment: there are no records, and the header is its own decode header
+        crate::strip::append(codestream, 0, first_sot.position(), out, 0);
+        return answer;
+    }
     fill_table(codestream, first_sot, table);
     crate::strip::strip(codestream, out);
     answer

@@ -8,7 +8,7 @@ ghost use Rattle.header.specs.Strip.{decodeHeader};
 use crate::walk::WalkStep;
 
 // Copies a part of the codestream to `to` on, and gives where it ends there.
-fn append(codestream: &[u8], from: usize, end: usize, out: &mut [u8], to: usize) -> usize
+pub fn append(codestream: &[u8], from: usize, end: usize, out: &mut [u8], to: usize) -> usize
     requires { ⌜ (from ≤ end) × (end ≤ length (now codestream)) ⌝ }
     requires { ⌜ to + (end - from) ≤ length (now out) ⌝ }
     ensures { λ r. ⌜ r ≡ to + (end - from) ⌝ }

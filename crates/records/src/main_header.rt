@@ -80,6 +80,11 @@ pub fn parse_main_header(
         return answer;
     };
     let first_sot = info.first_sot_offset;
+    if info.decode_header_length == first_sot.0 {
+        // no TLM segment: there are no records, and the header is its own decode header
+        header::strip::append(codestream, 0, first_sot.position(), out, 0);
+        return answer;
+    }
     fill_table(codestream, first_sot, table);
     header::strip::strip(codestream, out);
     answer

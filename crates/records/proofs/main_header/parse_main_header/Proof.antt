@@ -1,11 +1,14 @@
--- A refusal writes nothing; where a header is decided there is room, and what is then written is what the definition says.
+-- A refusal writes nothing; where a header is decided there is room, and what is then written is what the definition says, for a header without TLM
+-- segments too, which is copied whole.
 mod Lts
 mod Tie
+use native.Mathlib.Nat.{sub-zero}
 use native.Mathlib.Omega.{arith}
 use mathlib.Core.Path.{_≡_, refl, sym, _∙_}
 use lib.ListN.{length}
 use borrow.Author.Needs.{needs}
-use Rattle.header.proofs.ParseLaws.{Decided, parsed-decided, out-put}
+use Rattle.types.proofs.RowStanding.{records}
+use Rattle.header.proofs.ParseLaws.{Decided, parsed-decided, first-inside, out-put, none-written, out-plain}
 use Rattle.records.proofs.Answers.{records-put}
 use Rattle.header.specs.declared.parse.MainHeader.the-variants.{Header}
 use Rattle.header.specs.Parse.{parsed, outAfter}
@@ -41,25 +44,44 @@ returns : tie.Need-returns
 unfolding recordsAfter outAfter
 returns c = (c .before .before .decide .ensures, rw (c .enum-told .given .1) (refl, refl))
 
-fill-table-requires : tie.Need-fill-table-requires
-fill-table-requires c κs =
-    let d = decided (c .before .before .before) in
-    (d .read .two, (omega (arith, d .many), omega (arith, d .bound)))
+position-requires : tie.Need-position-requires
+position-requires c κs = search needs
 
-strip-requires : tie.Need-strip-requires
-strip-requires c κs =
-    let d = decided (c .before .before .before .before .before .before) in
-    (d .read .two, d .fits)
+append-requires : tie.Need-append-requires
+append-requires c κs =
+    let d = decided (c .before .before .before .before .before .before .before) in
+    ((omega arith, omega (arith, first-inside _ _ (d .read))), omega (arith, d .read .header, d .fits))
 
 same-length : tie.Need-same-length
 same-length c = search needs
 
+returns-2 : tie.Need-returns-2
+returns-2 c =
+    let c₁ = c .before .before .before .before .before .before .before .before .before .before in
+    let r = decided c₁ .read in
+    let same = c .before .before .before .before .before .if1 .taken in
+    let o = rw (sub-zero, c .before .before .before .before .position .ensures) at (c .before .before .append .ensures .1) in
+    (sym (header c₁), (none-written _ _ r same records _ ∙ records-put _ _ r _, o ∙ out-plain _ _ r same _))
+
+fill-table-requires : tie.Need-fill-table-requires
+fill-table-requires c κs =
+    let d = decided (c .before .before .before .before .before .before) in
+    (d .read .two, (omega (arith, d .many), omega (arith, d .bound)))
+
+strip-requires : tie.Need-strip-requires
+strip-requires c κs =
+    let d = decided (c .before .before .before .before .before .before .before .before .before) in
+    (d .read .two, d .fits)
+
 same-length-2 : tie.Need-same-length-2
 same-length-2 c = search needs
 
-returns-2 : tie.Need-returns-2
-returns-2 c =
-    let c₁ = c .before .before .before .before .before .before .before .before .before in
+same-length-3 : tie.Need-same-length-3
+same-length-3 c = search needs
+
+returns-3 : tie.Need-returns-3
+returns-3 c =
+    let c₁ = c .before .before .before .before .before .before .before .before .before .before .before .before in
     let r = decided c₁ .read in
     let f = c .before .before .before .before .before .fill-table .ensures in
     let o = c .before .before .strip .ensures in
@@ -73,8 +95,12 @@ parse-main-header-spec =
     enum-known-answer
     enum-told
     returns
+    position-requires
+    append-requires
+    same-length
+    returns-2
     fill-table-requires
     strip-requires
-    same-length
     same-length-2
-    returns-2)
+    same-length-3
+    returns-3)

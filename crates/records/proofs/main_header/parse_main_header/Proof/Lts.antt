@@ -8,6 +8,7 @@ use Rattle.header.proofs.parse.MainHeaderInfo.Laws as Laws'
 use Rattle.types.proofs.CodestreamOffset
 use Rattle.types.proofs.CodestreamOffset.Laws as Laws''
 use borrow.Author.Called
+use borrow.Author.Tests
 use borrow.Enum.Known
 use borrow.Enum.Match
 use borrow.Enum.Whole
@@ -39,11 +40,13 @@ use borrow.Rule.Yields
 use borrow.Struct.Behind
 use borrow.Struct.CopyOut
 use borrow.Struct.Inner
+use borrow.Struct.Know as Know'
 use borrow.Struct.Make
+use borrow.Struct.Reads
 use borrow.Struct.Way as Way'
 use borrow.Table.Copies
 use borrow.Table.Own
-use borrow.Table.Reads
+use borrow.Table.Reads as Reads'
 use borrow.Table.Referent
 use borrow.Table.Row
 use borrow.Table.Rows
@@ -116,13 +119,15 @@ xs = List._∷_ (Syntax.tyEnum (List._∷_ 104 (List._∷_ 101 (List._∷_ 97 (L
     101 (List._∷_ 115 (List._∷_ 58 (List._∷_ 58 (List._∷_ 67 (List._∷_ 111 (List._∷_ 100 (List._∷_ 101 (List._∷_ 115 (List._∷_ 116 (List._∷_ 114 (List._∷_ 101 (List._∷_ 97
     (List._∷_ 109 (List._∷_ 79 (List._∷_ 102 (List._∷_ 102 (List._∷_ 115 (List._∷_ 101 (List._∷_ 116 List.[]))))))))))))))))))))))) (Syntax.tcons (Syntax.tyInt Syntax.w64)
     Syntax.tnil)) (List._∷_ (Syntax.tyInt Syntax.w64) (List._∷_ (Syntax.tyInt Syntax.w64) (List._∷_ (Syntax.tyInt Syntax.w64) (List._∷_ (Syntax.tyInt Syntax.w64) (List._∷_
-    Syntax.tyUnit (List._∷_ (Syntax.tyRef Syntax.erased Syntax.mut LentTilePartEntry.pointee) (List._∷_ (Syntax.tyStruct (List._∷_ 38 (List._∷_ 91 (List._∷_ 93 List.[])))
-    (Syntax.tcons (Syntax.tyRef Syntax.erased Syntax.mut LentTilePartEntry.pointee) (Syntax.tcons (Syntax.tyInt Syntax.w64) Syntax.tnil))) (List._∷_ (Syntax.tyRef Syntax.erased
-    Syntax.mut (Syntax.tyInt Syntax.w8)) (List._∷_ (Syntax.tyStruct (List._∷_ 38 (List._∷_ 91 (List._∷_ 93 List.[]))) (Syntax.tcons (Syntax.tyRef Syntax.erased Syntax.mut
-    (Syntax.tyInt Syntax.w8)) (Syntax.tcons (Syntax.tyInt Syntax.w64) Syntax.tnil))) List.[])))))))))))
+    Syntax.tyBool (List._∷_ (Syntax.tyInt Syntax.w64) (List._∷_ (Syntax.tyInt Syntax.w64) (List._∷_ (Syntax.tyRef Syntax.erased Syntax.mut (Syntax.tyInt Syntax.w8)) (List._∷_
+    (Syntax.tyStruct (List._∷_ 38 (List._∷_ 91 (List._∷_ 93 List.[]))) (Syntax.tcons (Syntax.tyRef Syntax.erased Syntax.mut (Syntax.tyInt Syntax.w8)) (Syntax.tcons (Syntax.tyInt
+    Syntax.w64) Syntax.tnil))) (List._∷_ Syntax.tyUnit (List._∷_ (Syntax.tyRef Syntax.erased Syntax.mut LentTilePartEntry.pointee) (List._∷_ (Syntax.tyStruct (List._∷_ 38 (List._∷_
+    91 (List._∷_ 93 List.[]))) (Syntax.tcons (Syntax.tyRef Syntax.erased Syntax.mut LentTilePartEntry.pointee) (Syntax.tcons (Syntax.tyInt Syntax.w64) Syntax.tnil))) (List._∷_
+    (Syntax.tyRef Syntax.erased Syntax.mut (Syntax.tyInt Syntax.w8)) (List._∷_ (Syntax.tyStruct (List._∷_ 38 (List._∷_ 91 (List._∷_ 93 List.[]))) (Syntax.tcons (Syntax.tyRef
+    Syntax.erased Syntax.mut (Syntax.tyInt Syntax.w8)) (Syntax.tcons (Syntax.tyInt Syntax.w64) Syntax.tnil))) List.[]))))))))))))))))
 
 abbrev pub m : Nat.ℕ
-m = 2
+m = 3
 
 abbrev pub ps·0 : List.List (Kinds.PK 1)
 ps·0 = List._∷_ (ShrSlice.pShrS (Referent.rtF (Referent.fInt Syntax.w8)) 0 tt) (List._∷_ (Num.pNum Syntax.w64) (List._∷_ (Num.pNum Syntax.w64) List.[]))
@@ -149,8 +154,40 @@ r·0 = Value.rVal record {
           MainHeader.the-type);
     }
 
-abbrev pub ps·1 : List.List (Kinds.PK 2)
-ps·1 = List._∷_ (ShrSlice.pShrS (Referent.rtF (Referent.fInt Syntax.w8)) 0 tt) (List._∷_ (Value.pVal record {
+abbrev pub ps·1 : List.List (Kinds.PK 0)
+ps·1 = List._∷_ (Value.pVal record {
+  ty = Declared'.row CodestreamOffset.the-type;
+  one = Path'.refl;
+  val = Laws'4.val CodestreamOffset.the-type Laws''.the-laws;
+  tells =
+      Laws'4.tells CodestreamOffset.the-type Laws''.the-laws;
+  still = Laws'4.still CodestreamOffset.the-type Laws''.the-copy Exit.yes;
+  row = Rows.whole (Declared'.row
+      CodestreamOffset.the-type);
+  rd = λ x. x;
+  mk = λ x. x;
+} λ M 𝓤 H A W. record {
+  copies = Laws'4.copy CodestreamOffset.the-type Laws''.the-copy 𝓤 H A W;
+  lawful = Laws'4.lawful
+      CodestreamOffset.the-type Laws''.the-laws 𝓤 H A W;
+  makes = Laws'4.makes CodestreamOffset.the-type Laws''.the-plain 𝓤 H A;
+  in-mem = Local.mem-whole 𝓤 H A W (Declared'.row
+      CodestreamOffset.the-type);
+  of-mem = Local.whole-mem 𝓤 H A W (Declared'.row CodestreamOffset.the-type);
+}) List.[]
+
+abbrev pub r·1 : Kinds.RK 0
+r·1 = Num.rNum Syntax.w64
+
+abbrev pub ps·2 : List.List (Kinds.PK 2)
+ps·2 = List._∷_ (ShrSlice.pShrS (Referent.rtF (Referent.fInt Syntax.w8)) 0 tt) (List._∷_ (Num.pNum Syntax.w64) (List._∷_ (Num.pNum Syntax.w64) (List._∷_ (MutSlice.pMutS
+    (Referent.rtF (Referent.fInt Syntax.w8)) 1 tt) (List._∷_ (Num.pNum Syntax.w64) List.[]))))
+
+abbrev pub r·2 : Kinds.RK 2
+r·2 = Num.rNum Syntax.w64
+
+abbrev pub ps·3 : List.List (Kinds.PK 2)
+ps·3 = List._∷_ (ShrSlice.pShrS (Referent.rtF (Referent.fInt Syntax.w8)) 0 tt) (List._∷_ (Value.pVal record {
   ty = Declared'.row CodestreamOffset.the-type;
   one = Path'.refl;
   val =
@@ -171,19 +208,20 @@ ps·1 = List._∷_ (ShrSlice.pShrS (Referent.rtF (Referent.fInt Syntax.w8)) 0 tt
   of-mem = Local.whole-mem 𝓤 H A W (Declared'.row CodestreamOffset.the-type);
 }) (List._∷_ (MutSlice.pMutS LentTilePartEntry.row 1 tt) List.[]))
 
-abbrev pub r·1 : Kinds.RK 2
-r·1 = Unit'.rUnit
+abbrev pub r·3 : Kinds.RK 2
+r·3 = Unit'.rUnit
 
-abbrev pub ps·2 : List.List (Kinds.PK 2)
-ps·2 = List._∷_ (ShrSlice.pShrS (Referent.rtF (Referent.fInt Syntax.w8)) 0 tt) (List._∷_ (MutSlice.pMutS (Referent.rtF (Referent.fInt Syntax.w8)) 1 tt) List.[])
+abbrev pub ps·4 : List.List (Kinds.PK 2)
+ps·4 = List._∷_ (ShrSlice.pShrS (Referent.rtF (Referent.fInt Syntax.w8)) 0 tt) (List._∷_ (MutSlice.pMutS (Referent.rtF (Referent.fInt Syntax.w8)) 1 tt) List.[])
 
-abbrev pub r·2 : Kinds.RK 2
-r·2 = Unit'.rUnit
+abbrev pub r·4 : Kinds.RK 2
+r·4 = Unit'.rUnit
 
 abbrev pub hs : List.List Syntax.Home
 hs = List._∷_ Syntax.valueLocal (List._∷_ Syntax.valueLocal (List._∷_ Syntax.valueLocal (List._∷_ Syntax.valueLocal (List._∷_ Syntax.valueLocal (List._∷_ Syntax.valueLocal
     (List._∷_ Syntax.valueLocal (List._∷_ Syntax.valueLocal (List._∷_ Syntax.valueLocal (List._∷_ Syntax.valueLocal (List._∷_ Syntax.valueLocal (List._∷_ Syntax.valueLocal
-    (List._∷_ Syntax.valueLocal (List._∷_ Syntax.valueLocal (List._∷_ Syntax.valueLocal (List._∷_ Syntax.valueLocal List.[])))))))))))))))
+    (List._∷_ Syntax.valueLocal (List._∷_ Syntax.valueLocal (List._∷_ Syntax.valueLocal (List._∷_ Syntax.valueLocal (List._∷_ Syntax.valueLocal (List._∷_ Syntax.valueLocal
+    (List._∷_ Syntax.valueLocal (List._∷_ Syntax.valueLocal (List._∷_ Syntax.valueLocal List.[]))))))))))))))))))))
 
 abbrev b0 : Syntax.Body
 b0 = Syntax.assign (Syntax.place 7 List.[]) (Syntax.rvOpd (Syntax.copy (Syntax.place 2 (List._∷_ (Syntax.field 1) List.[]))))
@@ -221,79 +259,131 @@ abbrev b10 : Syntax.Body
 b10 = Syntax.assign (Syntax.place 6 List.[]) (Syntax.rvOpd (Syntax.copy (Syntax.place 5 (List._∷_ (Syntax.field 0) List.[]))))
 
 abbrev b11 : Syntax.Body
-b11 = Syntax.assign (Syntax.place 12 List.[]) (Syntax.addrOf (Syntax.place 2 (List._∷_ (Syntax.field 0) (List._∷_ (Syntax.deref LentTilePartEntry.spelled) List.[]))))
+b11 = Syntax.assign (Syntax.place 11 List.[]) (Syntax.op2 Syntax.eq (Syntax.copy (Syntax.place 5 (List._∷_ (Syntax.field 1) List.[]))) (Syntax.copy (Syntax.place 6 (List._∷_
+    (Syntax.field 0) List.[]))))
 
 abbrev b12 : Syntax.Body
-b12 = Syntax.assign (Syntax.place 13 List.[]) (Syntax.aggregate (List._∷_ (Syntax.copy (Syntax.place 12 List.[])) (List._∷_ (Syntax.copy (Syntax.place 2 (List._∷_ (Syntax.field 1)
-    List.[]))) List.[])))
+b12 = Syntax.call "types::CodestreamOffset::position" (List._∷_ (Syntax.copy (Syntax.place 6 List.[])) List.[]) (Syntax.place 13 List.[])
 
 abbrev b13 : Syntax.Body
-b13 = Syntax.call "records::main_header::fill_table" (List._∷_ (Syntax.copy (Syntax.place 1 List.[])) (List._∷_ (Syntax.copy (Syntax.place 6 List.[])) (List._∷_ (Syntax.copy
-    (Syntax.place 13 List.[])) List.[]))) (Syntax.place 11 List.[])
+b13 = Syntax.assign (Syntax.place 14 List.[]) (Syntax.addrOf (Syntax.place 3 (List._∷_ (Syntax.field 0) (List._∷_ (Syntax.deref (Syntax.tyInt Syntax.w8)) List.[]))))
 
 abbrev b14 : Syntax.Body
-b14 = Syntax.assign (Syntax.place 14 List.[]) (Syntax.addrOf (Syntax.place 3 (List._∷_ (Syntax.field 0) (List._∷_ (Syntax.deref (Syntax.tyInt Syntax.w8)) List.[]))))
-
-abbrev b15 : Syntax.Body
-b15 = Syntax.assign (Syntax.place 15 List.[]) (Syntax.aggregate (List._∷_ (Syntax.copy (Syntax.place 14 List.[])) (List._∷_ (Syntax.copy (Syntax.place 3 (List._∷_ (Syntax.field 1)
+b14 = Syntax.assign (Syntax.place 15 List.[]) (Syntax.aggregate (List._∷_ (Syntax.copy (Syntax.place 14 List.[])) (List._∷_ (Syntax.copy (Syntax.place 3 (List._∷_ (Syntax.field 1)
     List.[]))) List.[])))
 
+abbrev b15 : Syntax.Body
+b15 = Syntax.call "header::strip::append" (List._∷_ (Syntax.copy (Syntax.place 1 List.[])) (List._∷_ (Syntax.int Syntax.w64 0) (List._∷_ (Syntax.copy (Syntax.place 13 List.[]))
+    (List._∷_ (Syntax.copy (Syntax.place 15 List.[])) (List._∷_ (Syntax.int Syntax.w64 0) List.[]))))) (Syntax.place 12 List.[])
+
 abbrev b16 : Syntax.Body
-b16 = Syntax.call "header::strip::strip" (List._∷_ (Syntax.copy (Syntax.place 1 List.[])) (List._∷_ (Syntax.copy (Syntax.place 15 List.[])) List.[])) (Syntax.place 11 List.[])
+b16 = Syntax.assign (Syntax.place 0 List.[]) (Syntax.rvOpd (Syntax.copy (Syntax.place 4 List.[])))
 
 abbrev b17 : Syntax.Body
-b17 = Syntax.assign (Syntax.place 0 List.[]) (Syntax.rvOpd (Syntax.copy (Syntax.place 4 List.[])))
+b17 = Syntax.return
 
 abbrev b18 : Syntax.Body
-b18 = Syntax.return
+b18 = Syntax.seq b16 b17
 
 abbrev b19 : Syntax.Body
-b19 = Syntax.seq b17 b18
+b19 = Syntax.seq b15 b18
 
 abbrev b20 : Syntax.Body
-b20 = Syntax.seq b16 b19
+b20 = Syntax.seq b14 b19
 
 abbrev b21 : Syntax.Body
-b21 = Syntax.seq b15 b20
+b21 = Syntax.seq b13 b20
 
 abbrev b22 : Syntax.Body
-b22 = Syntax.seq b14 b21
+b22 = Syntax.seq b12 b21
 
 abbrev b23 : Syntax.Body
-b23 = Syntax.seq b13 b22
+b23 = Syntax.skip
 
 abbrev b24 : Syntax.Body
-b24 = Syntax.seq b12 b23
+b24 = Syntax.cond (Syntax.copy (Syntax.place 11 List.[])) b22 b23
 
 abbrev b25 : Syntax.Body
-b25 = Syntax.seq b11 b24
+b25 = Syntax.assign (Syntax.place 17 List.[]) (Syntax.addrOf (Syntax.place 2 (List._∷_ (Syntax.field 0) (List._∷_ (Syntax.deref LentTilePartEntry.spelled) List.[]))))
 
 abbrev b26 : Syntax.Body
-b26 = Syntax.seq b10 b25
+b26 = Syntax.assign (Syntax.place 18 List.[]) (Syntax.aggregate (List._∷_ (Syntax.copy (Syntax.place 17 List.[])) (List._∷_ (Syntax.copy (Syntax.place 2 (List._∷_ (Syntax.field 1)
+    List.[]))) List.[])))
 
 abbrev b27 : Syntax.Body
-b27 = Syntax.seq b9 b26
+b27 = Syntax.call "records::main_header::fill_table" (List._∷_ (Syntax.copy (Syntax.place 1 List.[])) (List._∷_ (Syntax.copy (Syntax.place 6 List.[])) (List._∷_ (Syntax.copy
+    (Syntax.place 18 List.[])) List.[]))) (Syntax.place 16 List.[])
 
 abbrev b28 : Syntax.Body
-b28 = Syntax.seq b4 b27
+b28 = Syntax.assign (Syntax.place 19 List.[]) (Syntax.addrOf (Syntax.place 3 (List._∷_ (Syntax.field 0) (List._∷_ (Syntax.deref (Syntax.tyInt Syntax.w8)) List.[]))))
 
 abbrev b29 : Syntax.Body
-b29 = Syntax.seq b3 b28
+b29 = Syntax.assign (Syntax.place 20 List.[]) (Syntax.aggregate (List._∷_ (Syntax.copy (Syntax.place 19 List.[])) (List._∷_ (Syntax.copy (Syntax.place 3 (List._∷_ (Syntax.field 1)
+    List.[]))) List.[])))
 
 abbrev b30 : Syntax.Body
-b30 = Syntax.seq b2 b29
+b30 = Syntax.call "header::strip::strip" (List._∷_ (Syntax.copy (Syntax.place 1 List.[])) (List._∷_ (Syntax.copy (Syntax.place 20 List.[])) List.[])) (Syntax.place 16 List.[])
 
 abbrev b31 : Syntax.Body
-b31 = Syntax.seq b1 b30
+b31 = Syntax.assign (Syntax.place 0 List.[]) (Syntax.rvOpd (Syntax.copy (Syntax.place 4 List.[])))
 
 abbrev b32 : Syntax.Body
-b32 = Syntax.seq b0 b31
+b32 = Syntax.return
+
+abbrev b33 : Syntax.Body
+b33 = Syntax.seq b31 b32
+
+abbrev b34 : Syntax.Body
+b34 = Syntax.seq b30 b33
+
+abbrev b35 : Syntax.Body
+b35 = Syntax.seq b29 b34
+
+abbrev b36 : Syntax.Body
+b36 = Syntax.seq b28 b35
+
+abbrev b37 : Syntax.Body
+b37 = Syntax.seq b27 b36
+
+abbrev b38 : Syntax.Body
+b38 = Syntax.seq b26 b37
+
+abbrev b39 : Syntax.Body
+b39 = Syntax.seq b25 b38
+
+abbrev b40 : Syntax.Body
+b40 = Syntax.seq b24 b39
+
+abbrev b41 : Syntax.Body
+b41 = Syntax.seq b11 b40
+
+abbrev b42 : Syntax.Body
+b42 = Syntax.seq b10 b41
+
+abbrev b43 : Syntax.Body
+b43 = Syntax.seq b9 b42
+
+abbrev b44 : Syntax.Body
+b44 = Syntax.seq b4 b43
+
+abbrev b45 : Syntax.Body
+b45 = Syntax.seq b3 b44
+
+abbrev b46 : Syntax.Body
+b46 = Syntax.seq b2 b45
+
+abbrev b47 : Syntax.Body
+b47 = Syntax.seq b1 b46
+
+abbrev b48 : Syntax.Body
+b48 = Syntax.seq b0 b47
 
 abbrev pub body : Syntax.Body
-body = b32
+body = b48
 
 abbrev pub Claims : Type 1
-Claims = Kinds.In 1 ps·0 × Kinds.Out 1 ps·0 r·0 × Kinds.In 2 ps·1 × Kinds.Out 2 ps·1 r·1 × Kinds.In 2 ps·2 × Kinds.Out 2 ps·2 r·2
+Claims = Kinds.In 1 ps·0 × Kinds.Out 1 ps·0 r·0 × Kinds.In 0 ps·1 × Kinds.Out 0 ps·1 r·1 × Kinds.In 2 ps·2 × Kinds.Out 2 ps·2 r·2 × Kinds.In 2 ps·3 × Kinds.Out 2 ps·3 r·3 ×
+    Kinds.In 2 ps·4 × Kinds.Out 2 ps·4 r·4
 
 abbrev pub t0 : List.List Row.Entry
 t0 = List._∷_ (
@@ -350,20 +440,31 @@ t0 = List._∷_ (
       115 (List._∷_ 101 (List._∷_ 116 List.[]))))))))))))))))))))))) (Syntax.tcons (Syntax.tyInt Syntax.w64) Syntax.tnil)),
 ) (List._∷_ (7, Rows.any-gone (Syntax.tyInt Syntax.w64))
     (List._∷_ (8, Rows.any-gone (Syntax.tyInt Syntax.w64)) (List._∷_ (9, Rows.any-gone (Syntax.tyInt Syntax.w64)) (List._∷_ (10, Rows.any-gone (Syntax.tyInt Syntax.w64)) (List._∷_
-    (11, Rows.any-gone Syntax.tyUnit) (List._∷_ (12, Rows.any-gone (Syntax.tyRef Syntax.erased Syntax.mut LentTilePartEntry.pointee)) (List._∷_ (
-      13,
-      Rows.any-gone (Syntax.tyStruct
-          (List._∷_ 38 (List._∷_ 91 (List._∷_ 93 List.[]))) (Syntax.tcons (Syntax.tyRef Syntax.erased Syntax.mut LentTilePartEntry.pointee) (Syntax.tcons (Syntax.tyInt Syntax.w64)
-          Syntax.tnil))),
-    ) (List._∷_ (14, Rows.any-gone (Syntax.tyRef Syntax.erased Syntax.mut (Syntax.tyInt Syntax.w8))) (List._∷_ (
+    (11, Rows.any-gone Syntax.tyBool) (List._∷_ (12, Rows.any-gone (Syntax.tyInt Syntax.w64)) (List._∷_ (13, Rows.any-gone (Syntax.tyInt Syntax.w64)) (List._∷_ (
+      14,
+      Rows.any-gone
+          (Syntax.tyRef Syntax.erased Syntax.mut (Syntax.tyInt Syntax.w8)),
+    ) (List._∷_ (
       15,
-      Rows.any-gone (Syntax.tyStruct (List._∷_ 38
-          (List._∷_ 91 (List._∷_ 93 List.[]))) (Syntax.tcons (Syntax.tyRef Syntax.erased Syntax.mut (Syntax.tyInt Syntax.w8)) (Syntax.tcons (Syntax.tyInt Syntax.w64) Syntax.tnil))),
-    )
-    List.[])))))))))))))))
+      Rows.any-gone (Syntax.tyStruct (List._∷_ 38 (List._∷_ 91 (List._∷_ 93 List.[]))) (Syntax.tcons
+          (Syntax.tyRef Syntax.erased Syntax.mut (Syntax.tyInt Syntax.w8)) (Syntax.tcons (Syntax.tyInt Syntax.w64) Syntax.tnil))),
+    ) List.[])))))))))))))))
 
 abbrev pub t1 : List.List Row.Entry
-t1 = List._∷_ (0, Rows.whole (Declared.row MainHeader.the-type)) (List._∷_ (
+t1 = List._∷_ (16, Rows.any-gone Syntax.tyUnit) (List._∷_ (17, Rows.any-gone (Syntax.tyRef Syntax.erased Syntax.mut LentTilePartEntry.pointee)) (List._∷_ (
+  18,
+  Rows.any-gone
+      (Syntax.tyStruct (List._∷_ 38 (List._∷_ 91 (List._∷_ 93 List.[]))) (Syntax.tcons (Syntax.tyRef Syntax.erased Syntax.mut LentTilePartEntry.pointee) (Syntax.tcons (Syntax.tyInt
+      Syntax.w64) Syntax.tnil))),
+) (List._∷_ (19, Rows.any-gone (Syntax.tyRef Syntax.erased Syntax.mut (Syntax.tyInt Syntax.w8))) (List._∷_ (
+  20,
+  Rows.any-gone (Syntax.tyStruct
+      (List._∷_ 38 (List._∷_ 91 (List._∷_ 93 List.[]))) (Syntax.tcons (Syntax.tyRef Syntax.erased Syntax.mut (Syntax.tyInt Syntax.w8)) (Syntax.tcons (Syntax.tyInt Syntax.w64)
+      Syntax.tnil))),
+) List.[]))))
+
+abbrev pub t2 : List.List Row.Entry
+t2 = List._∷_ (0, Rows.whole (Declared.row MainHeader.the-type)) (List._∷_ (
   1,
   Rows.sslice (Referent.rtF (Referent.fInt Syntax.w8)) (Syntax.tyRef (Syntax.named 0) Syntax.imm
       (Syntax.tyInt Syntax.w8)) 0,
@@ -403,90 +504,19 @@ t1 = List._∷_ (0, Rows.whole (Declared.row MainHeader.the-type)) (List._∷_ (
 ) (List._∷_ (7, Rows.any-gone (Syntax.tyInt Syntax.w64)) (List._∷_ (8, Rows.any-gone (Syntax.tyInt Syntax.w64)) (List._∷_ (
   9,
   Rows.any-gone (Syntax.tyInt Syntax.w64),
-) (List._∷_ (10, Rows.any-gone (Syntax.tyInt Syntax.w64)) (List._∷_ (11, Rows.any-gone Syntax.tyUnit) (List._∷_ (
+) (List._∷_ (10, Rows.any-gone (Syntax.tyInt Syntax.w64)) (List._∷_ (11, Rows.any-gone Syntax.tyBool) (List._∷_ (
   12,
   Rows.any-gone
-      (Syntax.tyRef Syntax.erased Syntax.mut LentTilePartEntry.pointee),
-) (List._∷_ (
-  13,
-  Rows.any-gone (Syntax.tyStruct (List._∷_ 38 (List._∷_ 91 (List._∷_ 93 List.[]))) (Syntax.tcons
-      (Syntax.tyRef Syntax.erased Syntax.mut LentTilePartEntry.pointee) (Syntax.tcons (Syntax.tyInt Syntax.w64) Syntax.tnil))),
-) (List._∷_ (
+      (Syntax.tyInt Syntax.w64),
+) (List._∷_ (13, Rows.any-gone (Syntax.tyInt Syntax.w64)) (List._∷_ (
   14,
-  Rows.any-gone (Syntax.tyRef
-      Syntax.erased Syntax.mut (Syntax.tyInt Syntax.w8)),
+  Rows.any-gone (Syntax.tyRef Syntax.erased Syntax.mut (Syntax.tyInt
+      Syntax.w8)),
 ) (List._∷_ (
   15,
-  Rows.any-gone (Syntax.tyStruct (List._∷_ 38 (List._∷_ 91 (List._∷_ 93 List.[]))) (Syntax.tcons (Syntax.tyRef
-      Syntax.erased Syntax.mut (Syntax.tyInt Syntax.w8)) (Syntax.tcons (Syntax.tyInt Syntax.w64) Syntax.tnil))),
+  Rows.any-gone (Syntax.tyStruct (List._∷_ 38 (List._∷_ 91 (List._∷_ 93 List.[]))) (Syntax.tcons (Syntax.tyRef Syntax.erased Syntax.mut (Syntax.tyInt
+      Syntax.w8)) (Syntax.tcons (Syntax.tyInt Syntax.w64) Syntax.tnil))),
 ) List.[])))))))))))))))
-
-abbrev pub t2 : List.List Row.Entry
-t2 = List._∷_ (
-  0,
-  Rows.any-gone (Syntax.tyEnum (List._∷_ 104 (List._∷_ 101 (List._∷_ 97 (List._∷_ 100 (List._∷_ 101 (List._∷_ 114 (List._∷_ 58 (List._∷_ 58 (List._∷_ 112 (List._∷_
-      97 (List._∷_ 114 (List._∷_ 115 (List._∷_ 101 (List._∷_ 58 (List._∷_ 58 (List._∷_ 77 (List._∷_ 97 (List._∷_ 105 (List._∷_ 110 (List._∷_ 72 (List._∷_ 101 (List._∷_ 97 (List._∷_
-      100 (List._∷_ 101 (List._∷_ 114 List.[]))))))))))))))))))))))))) (Syntax.ttcons (Syntax.tcons (Syntax.tyStruct (List._∷_ 104 (List._∷_ 101 (List._∷_ 97 (List._∷_ 100 (List._∷_
-      101 (List._∷_ 114 (List._∷_ 58 (List._∷_ 58 (List._∷_ 112 (List._∷_ 97 (List._∷_ 114 (List._∷_ 115 (List._∷_ 101 (List._∷_ 58 (List._∷_ 58 (List._∷_ 77 (List._∷_ 97 (List._∷_
-      105 (List._∷_ 110 (List._∷_ 72 (List._∷_ 101 (List._∷_ 97 (List._∷_ 100 (List._∷_ 101 (List._∷_ 114 (List._∷_ 73 (List._∷_ 110 (List._∷_ 102 (List._∷_ 111
-      List.[]))))))))))))))))))))))))))))) (Syntax.tcons (Syntax.tyStruct (List._∷_ 116 (List._∷_ 121 (List._∷_ 112 (List._∷_ 101 (List._∷_ 115 (List._∷_ 58 (List._∷_ 58 (List._∷_ 67
-      (List._∷_ 111 (List._∷_ 100 (List._∷_ 101 (List._∷_ 115 (List._∷_ 116 (List._∷_ 114 (List._∷_ 101 (List._∷_ 97 (List._∷_ 109 (List._∷_ 79 (List._∷_ 102 (List._∷_ 102 (List._∷_
-      115 (List._∷_ 101 (List._∷_ 116 List.[]))))))))))))))))))))))) (Syntax.tcons (Syntax.tyInt Syntax.w64) Syntax.tnil)) (Syntax.tcons (Syntax.tyInt Syntax.w64) (Syntax.tcons
-      (Syntax.tyInt Syntax.w64) (Syntax.tcons (Syntax.tyInt Syntax.w64) Syntax.tnil))))) Syntax.tnil) (Syntax.ttcons (Syntax.tcons (Syntax.tyStruct (List._∷_ 116 (List._∷_ 121
-      (List._∷_ 112 (List._∷_ 101 (List._∷_ 115 (List._∷_ 58 (List._∷_ 58 (List._∷_ 82 (List._∷_ 101 (List._∷_ 102 (List._∷_ 117 (List._∷_ 115 (List._∷_ 97 (List._∷_ 108
-      List.[])))))))))))))) (Syntax.tcons (Syntax.tyInt Syntax.w32) (Syntax.tcons (Syntax.tyInt Syntax.w64) Syntax.tnil))) Syntax.tnil) Syntax.ttnil))),
-) (List._∷_ (
-  1,
-  Rows.sslice
-      (Referent.rtF (Referent.fInt Syntax.w8)) (Syntax.tyRef (Syntax.named 0) Syntax.imm (Syntax.tyInt Syntax.w8)) 0,
-) (List._∷_ (
-  2,
-  Mut.mslice LentTilePartEntry.row (Syntax.tyRef
-      (Syntax.named 1) Syntax.mut LentTilePartEntry.pointee) 1,
-) (List._∷_ (
-  3,
-  Mut.mslice (Referent.rtF (Referent.fInt Syntax.w8)) (Syntax.tyRef (Syntax.named 2) Syntax.mut
-      (Syntax.tyInt Syntax.w8)) 2,
-) (List._∷_ (
-  4,
-  Rows.any-gone (Syntax.tyEnum (List._∷_ 104 (List._∷_ 101 (List._∷_ 97 (List._∷_ 100 (List._∷_ 101 (List._∷_ 114 (List._∷_ 58
-      (List._∷_ 58 (List._∷_ 112 (List._∷_ 97 (List._∷_ 114 (List._∷_ 115 (List._∷_ 101 (List._∷_ 58 (List._∷_ 58 (List._∷_ 77 (List._∷_ 97 (List._∷_ 105 (List._∷_ 110 (List._∷_ 72
-      (List._∷_ 101 (List._∷_ 97 (List._∷_ 100 (List._∷_ 101 (List._∷_ 114 List.[]))))))))))))))))))))))))) (Syntax.ttcons (Syntax.tcons (Syntax.tyStruct (List._∷_ 104 (List._∷_ 101
-      (List._∷_ 97 (List._∷_ 100 (List._∷_ 101 (List._∷_ 114 (List._∷_ 58 (List._∷_ 58 (List._∷_ 112 (List._∷_ 97 (List._∷_ 114 (List._∷_ 115 (List._∷_ 101 (List._∷_ 58 (List._∷_ 58
-      (List._∷_ 77 (List._∷_ 97 (List._∷_ 105 (List._∷_ 110 (List._∷_ 72 (List._∷_ 101 (List._∷_ 97 (List._∷_ 100 (List._∷_ 101 (List._∷_ 114 (List._∷_ 73 (List._∷_ 110 (List._∷_ 102
-      (List._∷_ 111 List.[]))))))))))))))))))))))))))))) (Syntax.tcons (Syntax.tyStruct (List._∷_ 116 (List._∷_ 121 (List._∷_ 112 (List._∷_ 101 (List._∷_ 115 (List._∷_ 58 (List._∷_
-      58 (List._∷_ 67 (List._∷_ 111 (List._∷_ 100 (List._∷_ 101 (List._∷_ 115 (List._∷_ 116 (List._∷_ 114 (List._∷_ 101 (List._∷_ 97 (List._∷_ 109 (List._∷_ 79 (List._∷_ 102
-      (List._∷_ 102 (List._∷_ 115 (List._∷_ 101 (List._∷_ 116 List.[]))))))))))))))))))))))) (Syntax.tcons (Syntax.tyInt Syntax.w64) Syntax.tnil)) (Syntax.tcons (Syntax.tyInt
-      Syntax.w64) (Syntax.tcons (Syntax.tyInt Syntax.w64) (Syntax.tcons (Syntax.tyInt Syntax.w64) Syntax.tnil))))) Syntax.tnil) (Syntax.ttcons (Syntax.tcons (Syntax.tyStruct
-      (List._∷_ 116 (List._∷_ 121 (List._∷_ 112 (List._∷_ 101 (List._∷_ 115 (List._∷_ 58 (List._∷_ 58 (List._∷_ 82 (List._∷_ 101 (List._∷_ 102 (List._∷_ 117 (List._∷_ 115 (List._∷_
-      97 (List._∷_ 108 List.[])))))))))))))) (Syntax.tcons (Syntax.tyInt Syntax.w32) (Syntax.tcons (Syntax.tyInt Syntax.w64) Syntax.tnil))) Syntax.tnil) Syntax.ttnil))),
-) (List._∷_ (
-  5,
-  Rows.any-gone (Syntax.tyStruct (List._∷_ 104 (List._∷_ 101 (List._∷_ 97 (List._∷_ 100 (List._∷_ 101 (List._∷_ 114 (List._∷_ 58 (List._∷_ 58 (List._∷_ 112 (List._∷_ 97
-      (List._∷_ 114 (List._∷_ 115 (List._∷_ 101 (List._∷_ 58 (List._∷_ 58 (List._∷_ 77 (List._∷_ 97 (List._∷_ 105 (List._∷_ 110 (List._∷_ 72 (List._∷_ 101 (List._∷_ 97 (List._∷_ 100
-      (List._∷_ 101 (List._∷_ 114 (List._∷_ 73 (List._∷_ 110 (List._∷_ 102 (List._∷_ 111 List.[]))))))))))))))))))))))))))))) (Syntax.tcons (Syntax.tyStruct (List._∷_ 116 (List._∷_
-      121 (List._∷_ 112 (List._∷_ 101 (List._∷_ 115 (List._∷_ 58 (List._∷_ 58 (List._∷_ 67 (List._∷_ 111 (List._∷_ 100 (List._∷_ 101 (List._∷_ 115 (List._∷_ 116 (List._∷_ 114
-      (List._∷_ 101 (List._∷_ 97 (List._∷_ 109 (List._∷_ 79 (List._∷_ 102 (List._∷_ 102 (List._∷_ 115 (List._∷_ 101 (List._∷_ 116 List.[]))))))))))))))))))))))) (Syntax.tcons
-      (Syntax.tyInt Syntax.w64) Syntax.tnil)) (Syntax.tcons (Syntax.tyInt Syntax.w64) (Syntax.tcons (Syntax.tyInt Syntax.w64) (Syntax.tcons (Syntax.tyInt Syntax.w64)
-      Syntax.tnil))))),
-) (List._∷_ (
-  6,
-  Rows.any-gone (Syntax.tyStruct (List._∷_ 116 (List._∷_ 121 (List._∷_ 112 (List._∷_ 101 (List._∷_ 115 (List._∷_ 58 (List._∷_ 58 (List._∷_ 67
-      (List._∷_ 111 (List._∷_ 100 (List._∷_ 101 (List._∷_ 115 (List._∷_ 116 (List._∷_ 114 (List._∷_ 101 (List._∷_ 97 (List._∷_ 109 (List._∷_ 79 (List._∷_ 102 (List._∷_ 102 (List._∷_
-      115 (List._∷_ 101 (List._∷_ 116 List.[]))))))))))))))))))))))) (Syntax.tcons (Syntax.tyInt Syntax.w64) Syntax.tnil)),
-) (List._∷_ (7, Rows.sc-here (Row.sInt Syntax.w64))
-    (List._∷_ (8, Rows.any-gone (Syntax.tyInt Syntax.w64)) (List._∷_ (9, Rows.any-gone (Syntax.tyInt Syntax.w64)) (List._∷_ (10, Rows.any-gone (Syntax.tyInt Syntax.w64)) (List._∷_
-    (11, Rows.any-gone Syntax.tyUnit) (List._∷_ (12, Rows.any-gone (Syntax.tyRef Syntax.erased Syntax.mut LentTilePartEntry.pointee)) (List._∷_ (
-      13,
-      Rows.any-gone (Syntax.tyStruct
-          (List._∷_ 38 (List._∷_ 91 (List._∷_ 93 List.[]))) (Syntax.tcons (Syntax.tyRef Syntax.erased Syntax.mut LentTilePartEntry.pointee) (Syntax.tcons (Syntax.tyInt Syntax.w64)
-          Syntax.tnil))),
-    ) (List._∷_ (14, Rows.any-gone (Syntax.tyRef Syntax.erased Syntax.mut (Syntax.tyInt Syntax.w8))) (List._∷_ (
-      15,
-      Rows.any-gone (Syntax.tyStruct (List._∷_ 38
-          (List._∷_ 91 (List._∷_ 93 List.[]))) (Syntax.tcons (Syntax.tyRef Syntax.erased Syntax.mut (Syntax.tyInt Syntax.w8)) (Syntax.tcons (Syntax.tyInt Syntax.w64) Syntax.tnil))),
-    )
-    List.[])))))))))))))))
 
 abbrev pub t3 : List.List Row.Entry
 t3 = List._∷_ (
@@ -542,20 +572,16 @@ t3 = List._∷_ (
       (List._∷_ 111 (List._∷_ 100 (List._∷_ 101 (List._∷_ 115 (List._∷_ 116 (List._∷_ 114 (List._∷_ 101 (List._∷_ 97 (List._∷_ 109 (List._∷_ 79 (List._∷_ 102 (List._∷_ 102 (List._∷_
       115 (List._∷_ 101 (List._∷_ 116 List.[]))))))))))))))))))))))) (Syntax.tcons (Syntax.tyInt Syntax.w64) Syntax.tnil)),
 ) (List._∷_ (7, Rows.sc-here (Row.sInt Syntax.w64))
-    (List._∷_ (8, Rows.sc-here (Row.sInt Syntax.w64)) (List._∷_ (9, Rows.any-gone (Syntax.tyInt Syntax.w64)) (List._∷_ (10, Rows.any-gone (Syntax.tyInt Syntax.w64)) (List._∷_ (
-      11,
-      Rows.any-gone Syntax.tyUnit,
-    ) (List._∷_ (12, Rows.any-gone (Syntax.tyRef Syntax.erased Syntax.mut LentTilePartEntry.pointee)) (List._∷_ (
-      13,
-      Rows.any-gone (Syntax.tyStruct
-          (List._∷_ 38 (List._∷_ 91 (List._∷_ 93 List.[]))) (Syntax.tcons (Syntax.tyRef Syntax.erased Syntax.mut LentTilePartEntry.pointee) (Syntax.tcons (Syntax.tyInt Syntax.w64)
-          Syntax.tnil))),
-    ) (List._∷_ (14, Rows.any-gone (Syntax.tyRef Syntax.erased Syntax.mut (Syntax.tyInt Syntax.w8))) (List._∷_ (
+    (List._∷_ (8, Rows.any-gone (Syntax.tyInt Syntax.w64)) (List._∷_ (9, Rows.any-gone (Syntax.tyInt Syntax.w64)) (List._∷_ (10, Rows.any-gone (Syntax.tyInt Syntax.w64)) (List._∷_
+    (11, Rows.any-gone Syntax.tyBool) (List._∷_ (12, Rows.any-gone (Syntax.tyInt Syntax.w64)) (List._∷_ (13, Rows.any-gone (Syntax.tyInt Syntax.w64)) (List._∷_ (
+      14,
+      Rows.any-gone
+          (Syntax.tyRef Syntax.erased Syntax.mut (Syntax.tyInt Syntax.w8)),
+    ) (List._∷_ (
       15,
-      Rows.any-gone (Syntax.tyStruct (List._∷_ 38
-          (List._∷_ 91 (List._∷_ 93 List.[]))) (Syntax.tcons (Syntax.tyRef Syntax.erased Syntax.mut (Syntax.tyInt Syntax.w8)) (Syntax.tcons (Syntax.tyInt Syntax.w64) Syntax.tnil))),
-    )
-    List.[])))))))))))))))
+      Rows.any-gone (Syntax.tyStruct (List._∷_ 38 (List._∷_ 91 (List._∷_ 93 List.[]))) (Syntax.tcons
+          (Syntax.tyRef Syntax.erased Syntax.mut (Syntax.tyInt Syntax.w8)) (Syntax.tcons (Syntax.tyInt Syntax.w64) Syntax.tnil))),
+    ) List.[])))))))))))))))
 
 abbrev pub t4 : List.List Row.Entry
 t4 = List._∷_ (
@@ -610,21 +636,19 @@ t4 = List._∷_ (
   Rows.any-gone (Syntax.tyStruct (List._∷_ 116 (List._∷_ 121 (List._∷_ 112 (List._∷_ 101 (List._∷_ 115 (List._∷_ 58 (List._∷_ 58 (List._∷_ 67
       (List._∷_ 111 (List._∷_ 100 (List._∷_ 101 (List._∷_ 115 (List._∷_ 116 (List._∷_ 114 (List._∷_ 101 (List._∷_ 97 (List._∷_ 109 (List._∷_ 79 (List._∷_ 102 (List._∷_ 102 (List._∷_
       115 (List._∷_ 101 (List._∷_ 116 List.[]))))))))))))))))))))))) (Syntax.tcons (Syntax.tyInt Syntax.w64) Syntax.tnil)),
-) (List._∷_ (7, Rows.any-gone (Syntax.tyInt Syntax.w64))
+) (List._∷_ (7, Rows.sc-here (Row.sInt Syntax.w64))
     (List._∷_ (8, Rows.sc-here (Row.sInt Syntax.w64)) (List._∷_ (9, Rows.any-gone (Syntax.tyInt Syntax.w64)) (List._∷_ (10, Rows.any-gone (Syntax.tyInt Syntax.w64)) (List._∷_ (
       11,
-      Rows.any-gone Syntax.tyUnit,
-    ) (List._∷_ (12, Rows.any-gone (Syntax.tyRef Syntax.erased Syntax.mut LentTilePartEntry.pointee)) (List._∷_ (
-      13,
-      Rows.any-gone (Syntax.tyStruct
-          (List._∷_ 38 (List._∷_ 91 (List._∷_ 93 List.[]))) (Syntax.tcons (Syntax.tyRef Syntax.erased Syntax.mut LentTilePartEntry.pointee) (Syntax.tcons (Syntax.tyInt Syntax.w64)
-          Syntax.tnil))),
-    ) (List._∷_ (14, Rows.any-gone (Syntax.tyRef Syntax.erased Syntax.mut (Syntax.tyInt Syntax.w8))) (List._∷_ (
+      Rows.any-gone Syntax.tyBool,
+    ) (List._∷_ (12, Rows.any-gone (Syntax.tyInt Syntax.w64)) (List._∷_ (13, Rows.any-gone (Syntax.tyInt Syntax.w64)) (List._∷_ (
+      14,
+      Rows.any-gone
+          (Syntax.tyRef Syntax.erased Syntax.mut (Syntax.tyInt Syntax.w8)),
+    ) (List._∷_ (
       15,
-      Rows.any-gone (Syntax.tyStruct (List._∷_ 38
-          (List._∷_ 91 (List._∷_ 93 List.[]))) (Syntax.tcons (Syntax.tyRef Syntax.erased Syntax.mut (Syntax.tyInt Syntax.w8)) (Syntax.tcons (Syntax.tyInt Syntax.w64) Syntax.tnil))),
-    )
-    List.[])))))))))))))))
+      Rows.any-gone (Syntax.tyStruct (List._∷_ 38 (List._∷_ 91 (List._∷_ 93 List.[]))) (Syntax.tcons
+          (Syntax.tyRef Syntax.erased Syntax.mut (Syntax.tyInt Syntax.w8)) (Syntax.tcons (Syntax.tyInt Syntax.w64) Syntax.tnil))),
+    ) List.[])))))))))))))))
 
 abbrev pub t5 : List.List Row.Entry
 t5 = List._∷_ (
@@ -680,20 +704,18 @@ t5 = List._∷_ (
       (List._∷_ 111 (List._∷_ 100 (List._∷_ 101 (List._∷_ 115 (List._∷_ 116 (List._∷_ 114 (List._∷_ 101 (List._∷_ 97 (List._∷_ 109 (List._∷_ 79 (List._∷_ 102 (List._∷_ 102 (List._∷_
       115 (List._∷_ 101 (List._∷_ 116 List.[]))))))))))))))))))))))) (Syntax.tcons (Syntax.tyInt Syntax.w64) Syntax.tnil)),
 ) (List._∷_ (7, Rows.any-gone (Syntax.tyInt Syntax.w64))
-    (List._∷_ (8, Rows.sc-here (Row.sInt Syntax.w64)) (List._∷_ (9, Rows.sc-here (Row.sInt Syntax.w64)) (List._∷_ (10, Rows.any-gone (Syntax.tyInt Syntax.w64)) (List._∷_ (
+    (List._∷_ (8, Rows.sc-here (Row.sInt Syntax.w64)) (List._∷_ (9, Rows.any-gone (Syntax.tyInt Syntax.w64)) (List._∷_ (10, Rows.any-gone (Syntax.tyInt Syntax.w64)) (List._∷_ (
       11,
-      Rows.any-gone Syntax.tyUnit,
-    ) (List._∷_ (12, Rows.any-gone (Syntax.tyRef Syntax.erased Syntax.mut LentTilePartEntry.pointee)) (List._∷_ (
-      13,
-      Rows.any-gone (Syntax.tyStruct
-          (List._∷_ 38 (List._∷_ 91 (List._∷_ 93 List.[]))) (Syntax.tcons (Syntax.tyRef Syntax.erased Syntax.mut LentTilePartEntry.pointee) (Syntax.tcons (Syntax.tyInt Syntax.w64)
-          Syntax.tnil))),
-    ) (List._∷_ (14, Rows.any-gone (Syntax.tyRef Syntax.erased Syntax.mut (Syntax.tyInt Syntax.w8))) (List._∷_ (
+      Rows.any-gone Syntax.tyBool,
+    ) (List._∷_ (12, Rows.any-gone (Syntax.tyInt Syntax.w64)) (List._∷_ (13, Rows.any-gone (Syntax.tyInt Syntax.w64)) (List._∷_ (
+      14,
+      Rows.any-gone
+          (Syntax.tyRef Syntax.erased Syntax.mut (Syntax.tyInt Syntax.w8)),
+    ) (List._∷_ (
       15,
-      Rows.any-gone (Syntax.tyStruct (List._∷_ 38
-          (List._∷_ 91 (List._∷_ 93 List.[]))) (Syntax.tcons (Syntax.tyRef Syntax.erased Syntax.mut (Syntax.tyInt Syntax.w8)) (Syntax.tcons (Syntax.tyInt Syntax.w64) Syntax.tnil))),
-    )
-    List.[])))))))))))))))
+      Rows.any-gone (Syntax.tyStruct (List._∷_ 38 (List._∷_ 91 (List._∷_ 93 List.[]))) (Syntax.tcons
+          (Syntax.tyRef Syntax.erased Syntax.mut (Syntax.tyInt Syntax.w8)) (Syntax.tcons (Syntax.tyInt Syntax.w64) Syntax.tnil))),
+    ) List.[])))))))))))))))
 
 abbrev pub t6 : List.List Row.Entry
 t6 = List._∷_ (
@@ -749,20 +771,18 @@ t6 = List._∷_ (
       (List._∷_ 111 (List._∷_ 100 (List._∷_ 101 (List._∷_ 115 (List._∷_ 116 (List._∷_ 114 (List._∷_ 101 (List._∷_ 97 (List._∷_ 109 (List._∷_ 79 (List._∷_ 102 (List._∷_ 102 (List._∷_
       115 (List._∷_ 101 (List._∷_ 116 List.[]))))))))))))))))))))))) (Syntax.tcons (Syntax.tyInt Syntax.w64) Syntax.tnil)),
 ) (List._∷_ (7, Rows.any-gone (Syntax.tyInt Syntax.w64))
-    (List._∷_ (8, Rows.sc-here (Row.sInt Syntax.w64)) (List._∷_ (9, Rows.sc-here (Row.sInt Syntax.w64)) (List._∷_ (10, Rows.sc-here (Row.sInt Syntax.w64)) (List._∷_ (
+    (List._∷_ (8, Rows.sc-here (Row.sInt Syntax.w64)) (List._∷_ (9, Rows.sc-here (Row.sInt Syntax.w64)) (List._∷_ (10, Rows.any-gone (Syntax.tyInt Syntax.w64)) (List._∷_ (
       11,
-      Rows.any-gone Syntax.tyUnit,
-    ) (List._∷_ (12, Rows.any-gone (Syntax.tyRef Syntax.erased Syntax.mut LentTilePartEntry.pointee)) (List._∷_ (
-      13,
-      Rows.any-gone (Syntax.tyStruct
-          (List._∷_ 38 (List._∷_ 91 (List._∷_ 93 List.[]))) (Syntax.tcons (Syntax.tyRef Syntax.erased Syntax.mut LentTilePartEntry.pointee) (Syntax.tcons (Syntax.tyInt Syntax.w64)
-          Syntax.tnil))),
-    ) (List._∷_ (14, Rows.any-gone (Syntax.tyRef Syntax.erased Syntax.mut (Syntax.tyInt Syntax.w8))) (List._∷_ (
+      Rows.any-gone Syntax.tyBool,
+    ) (List._∷_ (12, Rows.any-gone (Syntax.tyInt Syntax.w64)) (List._∷_ (13, Rows.any-gone (Syntax.tyInt Syntax.w64)) (List._∷_ (
+      14,
+      Rows.any-gone
+          (Syntax.tyRef Syntax.erased Syntax.mut (Syntax.tyInt Syntax.w8)),
+    ) (List._∷_ (
       15,
-      Rows.any-gone (Syntax.tyStruct (List._∷_ 38
-          (List._∷_ 91 (List._∷_ 93 List.[]))) (Syntax.tcons (Syntax.tyRef Syntax.erased Syntax.mut (Syntax.tyInt Syntax.w8)) (Syntax.tcons (Syntax.tyInt Syntax.w64) Syntax.tnil))),
-    )
-    List.[])))))))))))))))
+      Rows.any-gone (Syntax.tyStruct (List._∷_ 38 (List._∷_ 91 (List._∷_ 93 List.[]))) (Syntax.tcons
+          (Syntax.tyRef Syntax.erased Syntax.mut (Syntax.tyInt Syntax.w8)) (Syntax.tcons (Syntax.tyInt Syntax.w64) Syntax.tnil))),
+    ) List.[])))))))))))))))
 
 abbrev pub t7 : List.List Row.Entry
 t7 = List._∷_ (
@@ -818,23 +838,88 @@ t7 = List._∷_ (
       (List._∷_ 111 (List._∷_ 100 (List._∷_ 101 (List._∷_ 115 (List._∷_ 116 (List._∷_ 114 (List._∷_ 101 (List._∷_ 97 (List._∷_ 109 (List._∷_ 79 (List._∷_ 102 (List._∷_ 102 (List._∷_
       115 (List._∷_ 101 (List._∷_ 116 List.[]))))))))))))))))))))))) (Syntax.tcons (Syntax.tyInt Syntax.w64) Syntax.tnil)),
 ) (List._∷_ (7, Rows.any-gone (Syntax.tyInt Syntax.w64))
-    (List._∷_ (8, Rows.sc-here (Row.sInt Syntax.w64)) (List._∷_ (9, Rows.any-gone (Syntax.tyInt Syntax.w64)) (List._∷_ (10, Rows.sc-here (Row.sInt Syntax.w64)) (List._∷_ (
+    (List._∷_ (8, Rows.sc-here (Row.sInt Syntax.w64)) (List._∷_ (9, Rows.sc-here (Row.sInt Syntax.w64)) (List._∷_ (10, Rows.sc-here (Row.sInt Syntax.w64)) (List._∷_ (
       11,
-      Rows.any-gone Syntax.tyUnit,
-    ) (List._∷_ (12, Rows.any-gone (Syntax.tyRef Syntax.erased Syntax.mut LentTilePartEntry.pointee)) (List._∷_ (
-      13,
-      Rows.any-gone (Syntax.tyStruct
-          (List._∷_ 38 (List._∷_ 91 (List._∷_ 93 List.[]))) (Syntax.tcons (Syntax.tyRef Syntax.erased Syntax.mut LentTilePartEntry.pointee) (Syntax.tcons (Syntax.tyInt Syntax.w64)
-          Syntax.tnil))),
-    ) (List._∷_ (14, Rows.any-gone (Syntax.tyRef Syntax.erased Syntax.mut (Syntax.tyInt Syntax.w8))) (List._∷_ (
+      Rows.any-gone Syntax.tyBool,
+    ) (List._∷_ (12, Rows.any-gone (Syntax.tyInt Syntax.w64)) (List._∷_ (13, Rows.any-gone (Syntax.tyInt Syntax.w64)) (List._∷_ (
+      14,
+      Rows.any-gone
+          (Syntax.tyRef Syntax.erased Syntax.mut (Syntax.tyInt Syntax.w8)),
+    ) (List._∷_ (
       15,
-      Rows.any-gone (Syntax.tyStruct (List._∷_ 38
-          (List._∷_ 91 (List._∷_ 93 List.[]))) (Syntax.tcons (Syntax.tyRef Syntax.erased Syntax.mut (Syntax.tyInt Syntax.w8)) (Syntax.tcons (Syntax.tyInt Syntax.w64) Syntax.tnil))),
-    )
-    List.[])))))))))))))))
+      Rows.any-gone (Syntax.tyStruct (List._∷_ 38 (List._∷_ 91 (List._∷_ 93 List.[]))) (Syntax.tcons
+          (Syntax.tyRef Syntax.erased Syntax.mut (Syntax.tyInt Syntax.w8)) (Syntax.tcons (Syntax.tyInt Syntax.w64) Syntax.tnil))),
+    ) List.[])))))))))))))))
 
 abbrev pub t8 : List.List Row.Entry
 t8 = List._∷_ (
+  0,
+  Rows.any-gone (Syntax.tyEnum (List._∷_ 104 (List._∷_ 101 (List._∷_ 97 (List._∷_ 100 (List._∷_ 101 (List._∷_ 114 (List._∷_ 58 (List._∷_ 58 (List._∷_ 112 (List._∷_
+      97 (List._∷_ 114 (List._∷_ 115 (List._∷_ 101 (List._∷_ 58 (List._∷_ 58 (List._∷_ 77 (List._∷_ 97 (List._∷_ 105 (List._∷_ 110 (List._∷_ 72 (List._∷_ 101 (List._∷_ 97 (List._∷_
+      100 (List._∷_ 101 (List._∷_ 114 List.[]))))))))))))))))))))))))) (Syntax.ttcons (Syntax.tcons (Syntax.tyStruct (List._∷_ 104 (List._∷_ 101 (List._∷_ 97 (List._∷_ 100 (List._∷_
+      101 (List._∷_ 114 (List._∷_ 58 (List._∷_ 58 (List._∷_ 112 (List._∷_ 97 (List._∷_ 114 (List._∷_ 115 (List._∷_ 101 (List._∷_ 58 (List._∷_ 58 (List._∷_ 77 (List._∷_ 97 (List._∷_
+      105 (List._∷_ 110 (List._∷_ 72 (List._∷_ 101 (List._∷_ 97 (List._∷_ 100 (List._∷_ 101 (List._∷_ 114 (List._∷_ 73 (List._∷_ 110 (List._∷_ 102 (List._∷_ 111
+      List.[]))))))))))))))))))))))))))))) (Syntax.tcons (Syntax.tyStruct (List._∷_ 116 (List._∷_ 121 (List._∷_ 112 (List._∷_ 101 (List._∷_ 115 (List._∷_ 58 (List._∷_ 58 (List._∷_ 67
+      (List._∷_ 111 (List._∷_ 100 (List._∷_ 101 (List._∷_ 115 (List._∷_ 116 (List._∷_ 114 (List._∷_ 101 (List._∷_ 97 (List._∷_ 109 (List._∷_ 79 (List._∷_ 102 (List._∷_ 102 (List._∷_
+      115 (List._∷_ 101 (List._∷_ 116 List.[]))))))))))))))))))))))) (Syntax.tcons (Syntax.tyInt Syntax.w64) Syntax.tnil)) (Syntax.tcons (Syntax.tyInt Syntax.w64) (Syntax.tcons
+      (Syntax.tyInt Syntax.w64) (Syntax.tcons (Syntax.tyInt Syntax.w64) Syntax.tnil))))) Syntax.tnil) (Syntax.ttcons (Syntax.tcons (Syntax.tyStruct (List._∷_ 116 (List._∷_ 121
+      (List._∷_ 112 (List._∷_ 101 (List._∷_ 115 (List._∷_ 58 (List._∷_ 58 (List._∷_ 82 (List._∷_ 101 (List._∷_ 102 (List._∷_ 117 (List._∷_ 115 (List._∷_ 97 (List._∷_ 108
+      List.[])))))))))))))) (Syntax.tcons (Syntax.tyInt Syntax.w32) (Syntax.tcons (Syntax.tyInt Syntax.w64) Syntax.tnil))) Syntax.tnil) Syntax.ttnil))),
+) (List._∷_ (
+  1,
+  Rows.sslice
+      (Referent.rtF (Referent.fInt Syntax.w8)) (Syntax.tyRef (Syntax.named 0) Syntax.imm (Syntax.tyInt Syntax.w8)) 0,
+) (List._∷_ (
+  2,
+  Mut.mslice LentTilePartEntry.row (Syntax.tyRef
+      (Syntax.named 1) Syntax.mut LentTilePartEntry.pointee) 1,
+) (List._∷_ (
+  3,
+  Mut.mslice (Referent.rtF (Referent.fInt Syntax.w8)) (Syntax.tyRef (Syntax.named 2) Syntax.mut
+      (Syntax.tyInt Syntax.w8)) 2,
+) (List._∷_ (
+  4,
+  Rows.any-gone (Syntax.tyEnum (List._∷_ 104 (List._∷_ 101 (List._∷_ 97 (List._∷_ 100 (List._∷_ 101 (List._∷_ 114 (List._∷_ 58
+      (List._∷_ 58 (List._∷_ 112 (List._∷_ 97 (List._∷_ 114 (List._∷_ 115 (List._∷_ 101 (List._∷_ 58 (List._∷_ 58 (List._∷_ 77 (List._∷_ 97 (List._∷_ 105 (List._∷_ 110 (List._∷_ 72
+      (List._∷_ 101 (List._∷_ 97 (List._∷_ 100 (List._∷_ 101 (List._∷_ 114 List.[]))))))))))))))))))))))))) (Syntax.ttcons (Syntax.tcons (Syntax.tyStruct (List._∷_ 104 (List._∷_ 101
+      (List._∷_ 97 (List._∷_ 100 (List._∷_ 101 (List._∷_ 114 (List._∷_ 58 (List._∷_ 58 (List._∷_ 112 (List._∷_ 97 (List._∷_ 114 (List._∷_ 115 (List._∷_ 101 (List._∷_ 58 (List._∷_ 58
+      (List._∷_ 77 (List._∷_ 97 (List._∷_ 105 (List._∷_ 110 (List._∷_ 72 (List._∷_ 101 (List._∷_ 97 (List._∷_ 100 (List._∷_ 101 (List._∷_ 114 (List._∷_ 73 (List._∷_ 110 (List._∷_ 102
+      (List._∷_ 111 List.[]))))))))))))))))))))))))))))) (Syntax.tcons (Syntax.tyStruct (List._∷_ 116 (List._∷_ 121 (List._∷_ 112 (List._∷_ 101 (List._∷_ 115 (List._∷_ 58 (List._∷_
+      58 (List._∷_ 67 (List._∷_ 111 (List._∷_ 100 (List._∷_ 101 (List._∷_ 115 (List._∷_ 116 (List._∷_ 114 (List._∷_ 101 (List._∷_ 97 (List._∷_ 109 (List._∷_ 79 (List._∷_ 102
+      (List._∷_ 102 (List._∷_ 115 (List._∷_ 101 (List._∷_ 116 List.[]))))))))))))))))))))))) (Syntax.tcons (Syntax.tyInt Syntax.w64) Syntax.tnil)) (Syntax.tcons (Syntax.tyInt
+      Syntax.w64) (Syntax.tcons (Syntax.tyInt Syntax.w64) (Syntax.tcons (Syntax.tyInt Syntax.w64) Syntax.tnil))))) Syntax.tnil) (Syntax.ttcons (Syntax.tcons (Syntax.tyStruct
+      (List._∷_ 116 (List._∷_ 121 (List._∷_ 112 (List._∷_ 101 (List._∷_ 115 (List._∷_ 58 (List._∷_ 58 (List._∷_ 82 (List._∷_ 101 (List._∷_ 102 (List._∷_ 117 (List._∷_ 115 (List._∷_
+      97 (List._∷_ 108 List.[])))))))))))))) (Syntax.tcons (Syntax.tyInt Syntax.w32) (Syntax.tcons (Syntax.tyInt Syntax.w64) Syntax.tnil))) Syntax.tnil) Syntax.ttnil))),
+) (List._∷_ (
+  5,
+  Rows.any-gone (Syntax.tyStruct (List._∷_ 104 (List._∷_ 101 (List._∷_ 97 (List._∷_ 100 (List._∷_ 101 (List._∷_ 114 (List._∷_ 58 (List._∷_ 58 (List._∷_ 112 (List._∷_ 97
+      (List._∷_ 114 (List._∷_ 115 (List._∷_ 101 (List._∷_ 58 (List._∷_ 58 (List._∷_ 77 (List._∷_ 97 (List._∷_ 105 (List._∷_ 110 (List._∷_ 72 (List._∷_ 101 (List._∷_ 97 (List._∷_ 100
+      (List._∷_ 101 (List._∷_ 114 (List._∷_ 73 (List._∷_ 110 (List._∷_ 102 (List._∷_ 111 List.[]))))))))))))))))))))))))))))) (Syntax.tcons (Syntax.tyStruct (List._∷_ 116 (List._∷_
+      121 (List._∷_ 112 (List._∷_ 101 (List._∷_ 115 (List._∷_ 58 (List._∷_ 58 (List._∷_ 67 (List._∷_ 111 (List._∷_ 100 (List._∷_ 101 (List._∷_ 115 (List._∷_ 116 (List._∷_ 114
+      (List._∷_ 101 (List._∷_ 97 (List._∷_ 109 (List._∷_ 79 (List._∷_ 102 (List._∷_ 102 (List._∷_ 115 (List._∷_ 101 (List._∷_ 116 List.[]))))))))))))))))))))))) (Syntax.tcons
+      (Syntax.tyInt Syntax.w64) Syntax.tnil)) (Syntax.tcons (Syntax.tyInt Syntax.w64) (Syntax.tcons (Syntax.tyInt Syntax.w64) (Syntax.tcons (Syntax.tyInt Syntax.w64)
+      Syntax.tnil))))),
+) (List._∷_ (
+  6,
+  Rows.any-gone (Syntax.tyStruct (List._∷_ 116 (List._∷_ 121 (List._∷_ 112 (List._∷_ 101 (List._∷_ 115 (List._∷_ 58 (List._∷_ 58 (List._∷_ 67
+      (List._∷_ 111 (List._∷_ 100 (List._∷_ 101 (List._∷_ 115 (List._∷_ 116 (List._∷_ 114 (List._∷_ 101 (List._∷_ 97 (List._∷_ 109 (List._∷_ 79 (List._∷_ 102 (List._∷_ 102 (List._∷_
+      115 (List._∷_ 101 (List._∷_ 116 List.[]))))))))))))))))))))))) (Syntax.tcons (Syntax.tyInt Syntax.w64) Syntax.tnil)),
+) (List._∷_ (7, Rows.any-gone (Syntax.tyInt Syntax.w64))
+    (List._∷_ (8, Rows.sc-here (Row.sInt Syntax.w64)) (List._∷_ (9, Rows.any-gone (Syntax.tyInt Syntax.w64)) (List._∷_ (10, Rows.sc-here (Row.sInt Syntax.w64)) (List._∷_ (
+      11,
+      Rows.any-gone Syntax.tyBool,
+    ) (List._∷_ (12, Rows.any-gone (Syntax.tyInt Syntax.w64)) (List._∷_ (13, Rows.any-gone (Syntax.tyInt Syntax.w64)) (List._∷_ (
+      14,
+      Rows.any-gone
+          (Syntax.tyRef Syntax.erased Syntax.mut (Syntax.tyInt Syntax.w8)),
+    ) (List._∷_ (
+      15,
+      Rows.any-gone (Syntax.tyStruct (List._∷_ 38 (List._∷_ 91 (List._∷_ 93 List.[]))) (Syntax.tcons
+          (Syntax.tyRef Syntax.erased Syntax.mut (Syntax.tyInt Syntax.w8)) (Syntax.tcons (Syntax.tyInt Syntax.w64) Syntax.tnil))),
+    ) List.[])))))))))))))))
+
+abbrev pub t9 : List.List Row.Entry
+t9 = List._∷_ (
   0,
   Rows.any-gone (Syntax.tyEnum (List._∷_ 104 (List._∷_ 101 (List._∷_ 97 (List._∷_ 100 (List._∷_ 101 (List._∷_ 114 (List._∷_ 58 (List._∷_ 58 (List._∷_ 112 (List._∷_
       97 (List._∷_ 114 (List._∷_ 115 (List._∷_ 101 (List._∷_ 58 (List._∷_ 58 (List._∷_ 77 (List._∷_ 97 (List._∷_ 105 (List._∷_ 110 (List._∷_ 72 (List._∷_ 101 (List._∷_ 97 (List._∷_
@@ -878,26 +963,16 @@ t8 = List._∷_ (
   9,
   Rows.any-gone (Syntax.tyInt
       Syntax.w64),
-) (List._∷_ (10, Rows.sc-here (Row.sInt Syntax.w64)) (List._∷_ (11, Rows.any-gone Syntax.tyUnit) (List._∷_ (
-  12,
-  Rows.any-gone (Syntax.tyRef Syntax.erased Syntax.mut
-      LentTilePartEntry.pointee),
-) (List._∷_ (
-  13,
-  Rows.any-gone (Syntax.tyStruct (List._∷_ 38 (List._∷_ 91 (List._∷_ 93 List.[]))) (Syntax.tcons (Syntax.tyRef Syntax.erased Syntax.mut
-      LentTilePartEntry.pointee) (Syntax.tcons (Syntax.tyInt Syntax.w64) Syntax.tnil))),
-) (List._∷_ (
-  14,
-  Rows.any-gone (Syntax.tyRef Syntax.erased Syntax.mut (Syntax.tyInt
-      Syntax.w8)),
-) (List._∷_ (
-  15,
-  Rows.any-gone (Syntax.tyStruct (List._∷_ 38 (List._∷_ 91 (List._∷_ 93 List.[]))) (Syntax.tcons (Syntax.tyRef Syntax.erased Syntax.mut (Syntax.tyInt
-      Syntax.w8)) (Syntax.tcons (Syntax.tyInt Syntax.w64) Syntax.tnil))),
-) List.[])))))))))))))))
+) (List._∷_ (10, Rows.sc-here (Row.sInt Syntax.w64)) (List._∷_ (11, Rows.any-gone Syntax.tyBool) (List._∷_ (12, Rows.any-gone (Syntax.tyInt Syntax.w64)) (List._∷_
+    (13, Rows.any-gone (Syntax.tyInt Syntax.w64)) (List._∷_ (14, Rows.any-gone (Syntax.tyRef Syntax.erased Syntax.mut (Syntax.tyInt Syntax.w8))) (List._∷_ (
+      15,
+      Rows.any-gone
+          (Syntax.tyStruct (List._∷_ 38 (List._∷_ 91 (List._∷_ 93 List.[]))) (Syntax.tcons (Syntax.tyRef Syntax.erased Syntax.mut (Syntax.tyInt Syntax.w8)) (Syntax.tcons (Syntax.tyInt
+          Syntax.w64) Syntax.tnil))),
+    ) List.[])))))))))))))))
 
-abbrev pub t9 : List.List Row.Entry
-t9 = List._∷_ (
+abbrev pub t10 : List.List Row.Entry
+t10 = List._∷_ (
   0,
   Rows.any-gone (Syntax.tyEnum (List._∷_ 104 (List._∷_ 101 (List._∷_ 97 (List._∷_ 100 (List._∷_ 101 (List._∷_ 114 (List._∷_ 58 (List._∷_ 58 (List._∷_ 112 (List._∷_
       97 (List._∷_ 114 (List._∷_ 115 (List._∷_ 101 (List._∷_ 58 (List._∷_ 58 (List._∷_ 77 (List._∷_ 97 (List._∷_ 105 (List._∷_ 110 (List._∷_ 72 (List._∷_ 101 (List._∷_ 97 (List._∷_
@@ -934,79 +1009,15 @@ t9 = List._∷_ (
 ) (List._∷_ (9, Rows.any-gone (Syntax.tyInt Syntax.w64)) (List._∷_ (10, Rows.any-gone (Syntax.tyInt Syntax.w64)) (List._∷_ (
   11,
   Rows.any-gone
-      Syntax.tyUnit,
-) (List._∷_ (12, Rows.any-gone (Syntax.tyRef Syntax.erased Syntax.mut LentTilePartEntry.pointee)) (List._∷_ (
-  13,
-  Rows.any-gone (Syntax.tyStruct (List._∷_ 38
-      (List._∷_ 91 (List._∷_ 93 List.[]))) (Syntax.tcons (Syntax.tyRef Syntax.erased Syntax.mut LentTilePartEntry.pointee) (Syntax.tcons (Syntax.tyInt Syntax.w64) Syntax.tnil))),
-)
-    (List._∷_ (14, Rows.any-gone (Syntax.tyRef Syntax.erased Syntax.mut (Syntax.tyInt Syntax.w8))) (List._∷_ (
-      15,
-      Rows.any-gone (Syntax.tyStruct (List._∷_ 38 (List._∷_ 91 (List._∷_
-          93 List.[]))) (Syntax.tcons (Syntax.tyRef Syntax.erased Syntax.mut (Syntax.tyInt Syntax.w8)) (Syntax.tcons (Syntax.tyInt Syntax.w64) Syntax.tnil))),
-    ) List.[])))))))))))))))
-
-abbrev pub t10 : List.List Row.Entry
-t10 = List._∷_ (
-  0,
-  Rows.any-gone (Syntax.tyEnum (List._∷_ 104 (List._∷_ 101 (List._∷_ 97 (List._∷_ 100 (List._∷_ 101 (List._∷_ 114 (List._∷_ 58 (List._∷_ 58 (List._∷_ 112 (List._∷_
-      97 (List._∷_ 114 (List._∷_ 115 (List._∷_ 101 (List._∷_ 58 (List._∷_ 58 (List._∷_ 77 (List._∷_ 97 (List._∷_ 105 (List._∷_ 110 (List._∷_ 72 (List._∷_ 101 (List._∷_ 97 (List._∷_
-      100 (List._∷_ 101 (List._∷_ 114 List.[]))))))))))))))))))))))))) (Syntax.ttcons (Syntax.tcons (Syntax.tyStruct (List._∷_ 104 (List._∷_ 101 (List._∷_ 97 (List._∷_ 100 (List._∷_
-      101 (List._∷_ 114 (List._∷_ 58 (List._∷_ 58 (List._∷_ 112 (List._∷_ 97 (List._∷_ 114 (List._∷_ 115 (List._∷_ 101 (List._∷_ 58 (List._∷_ 58 (List._∷_ 77 (List._∷_ 97 (List._∷_
-      105 (List._∷_ 110 (List._∷_ 72 (List._∷_ 101 (List._∷_ 97 (List._∷_ 100 (List._∷_ 101 (List._∷_ 114 (List._∷_ 73 (List._∷_ 110 (List._∷_ 102 (List._∷_ 111
-      List.[]))))))))))))))))))))))))))))) (Syntax.tcons (Syntax.tyStruct (List._∷_ 116 (List._∷_ 121 (List._∷_ 112 (List._∷_ 101 (List._∷_ 115 (List._∷_ 58 (List._∷_ 58 (List._∷_ 67
-      (List._∷_ 111 (List._∷_ 100 (List._∷_ 101 (List._∷_ 115 (List._∷_ 116 (List._∷_ 114 (List._∷_ 101 (List._∷_ 97 (List._∷_ 109 (List._∷_ 79 (List._∷_ 102 (List._∷_ 102 (List._∷_
-      115 (List._∷_ 101 (List._∷_ 116 List.[]))))))))))))))))))))))) (Syntax.tcons (Syntax.tyInt Syntax.w64) Syntax.tnil)) (Syntax.tcons (Syntax.tyInt Syntax.w64) (Syntax.tcons
-      (Syntax.tyInt Syntax.w64) (Syntax.tcons (Syntax.tyInt Syntax.w64) Syntax.tnil))))) Syntax.tnil) (Syntax.ttcons (Syntax.tcons (Syntax.tyStruct (List._∷_ 116 (List._∷_ 121
-      (List._∷_ 112 (List._∷_ 101 (List._∷_ 115 (List._∷_ 58 (List._∷_ 58 (List._∷_ 82 (List._∷_ 101 (List._∷_ 102 (List._∷_ 117 (List._∷_ 115 (List._∷_ 97 (List._∷_ 108
-      List.[])))))))))))))) (Syntax.tcons (Syntax.tyInt Syntax.w32) (Syntax.tcons (Syntax.tyInt Syntax.w64) Syntax.tnil))) Syntax.tnil) Syntax.ttnil))),
-) (List._∷_ (
-  1,
-  Rows.sslice
-      (Referent.rtF (Referent.fInt Syntax.w8)) (Syntax.tyRef (Syntax.named 0) Syntax.imm (Syntax.tyInt Syntax.w8)) 0,
-) (List._∷_ (
-  2,
-  Mut.mslice LentTilePartEntry.row (Syntax.tyRef
-      (Syntax.named 1) Syntax.mut LentTilePartEntry.pointee) 1,
-) (List._∷_ (
-  3,
-  Mut.mslice (Referent.rtF (Referent.fInt Syntax.w8)) (Syntax.tyRef (Syntax.named 2) Syntax.mut
-      (Syntax.tyInt Syntax.w8)) 2,
-) (List._∷_ (4, Rows.whole (Declared.row MainHeader.the-type)) (List._∷_ (
-  5,
-  Rows.any-gone (Syntax.tyStruct (List._∷_ 104 (List._∷_ 101 (List._∷_ 97
-      (List._∷_ 100 (List._∷_ 101 (List._∷_ 114 (List._∷_ 58 (List._∷_ 58 (List._∷_ 112 (List._∷_ 97 (List._∷_ 114 (List._∷_ 115 (List._∷_ 101 (List._∷_ 58 (List._∷_ 58 (List._∷_ 77
-      (List._∷_ 97 (List._∷_ 105 (List._∷_ 110 (List._∷_ 72 (List._∷_ 101 (List._∷_ 97 (List._∷_ 100 (List._∷_ 101 (List._∷_ 114 (List._∷_ 73 (List._∷_ 110 (List._∷_ 102 (List._∷_
-      111 List.[]))))))))))))))))))))))))))))) (Syntax.tcons (Syntax.tyStruct (List._∷_ 116 (List._∷_ 121 (List._∷_ 112 (List._∷_ 101 (List._∷_ 115 (List._∷_ 58 (List._∷_ 58
-      (List._∷_ 67 (List._∷_ 111 (List._∷_ 100 (List._∷_ 101 (List._∷_ 115 (List._∷_ 116 (List._∷_ 114 (List._∷_ 101 (List._∷_ 97 (List._∷_ 109 (List._∷_ 79 (List._∷_ 102 (List._∷_
-      102 (List._∷_ 115 (List._∷_ 101 (List._∷_ 116 List.[]))))))))))))))))))))))) (Syntax.tcons (Syntax.tyInt Syntax.w64) Syntax.tnil)) (Syntax.tcons (Syntax.tyInt Syntax.w64)
-      (Syntax.tcons (Syntax.tyInt Syntax.w64) (Syntax.tcons (Syntax.tyInt Syntax.w64) Syntax.tnil))))),
-) (List._∷_ (
-  6,
-  Rows.any-gone (Syntax.tyStruct (List._∷_ 116 (List._∷_ 121
-      (List._∷_ 112 (List._∷_ 101 (List._∷_ 115 (List._∷_ 58 (List._∷_ 58 (List._∷_ 67 (List._∷_ 111 (List._∷_ 100 (List._∷_ 101 (List._∷_ 115 (List._∷_ 116 (List._∷_ 114 (List._∷_
-      101 (List._∷_ 97 (List._∷_ 109 (List._∷_ 79 (List._∷_ 102 (List._∷_ 102 (List._∷_ 115 (List._∷_ 101 (List._∷_ 116 List.[]))))))))))))))))))))))) (Syntax.tcons (Syntax.tyInt
-      Syntax.w64) Syntax.tnil)),
-) (List._∷_ (7, Rows.any-gone (Syntax.tyInt Syntax.w64)) (List._∷_ (8, Rows.any-gone (Syntax.tyInt Syntax.w64)) (List._∷_ (
-  9,
-  Rows.any-gone
-      (Syntax.tyInt Syntax.w64),
-) (List._∷_ (10, Rows.sc-here (Row.sInt Syntax.w64)) (List._∷_ (11, Rows.any-gone Syntax.tyUnit) (List._∷_ (
-  12,
-  Rows.any-gone (Syntax.tyRef
-      Syntax.erased Syntax.mut LentTilePartEntry.pointee),
-) (List._∷_ (
-  13,
-  Rows.any-gone (Syntax.tyStruct (List._∷_ 38 (List._∷_ 91 (List._∷_ 93 List.[]))) (Syntax.tcons (Syntax.tyRef
-      Syntax.erased Syntax.mut LentTilePartEntry.pointee) (Syntax.tcons (Syntax.tyInt Syntax.w64) Syntax.tnil))),
-) (List._∷_ (
+      Syntax.tyBool,
+) (List._∷_ (12, Rows.any-gone (Syntax.tyInt Syntax.w64)) (List._∷_ (13, Rows.any-gone (Syntax.tyInt Syntax.w64)) (List._∷_ (
   14,
-  Rows.any-gone (Syntax.tyRef Syntax.erased Syntax.mut
-      (Syntax.tyInt Syntax.w8)),
+  Rows.any-gone (Syntax.tyRef
+      Syntax.erased Syntax.mut (Syntax.tyInt Syntax.w8)),
 ) (List._∷_ (
   15,
-  Rows.any-gone (Syntax.tyStruct (List._∷_ 38 (List._∷_ 91 (List._∷_ 93 List.[]))) (Syntax.tcons (Syntax.tyRef Syntax.erased Syntax.mut
-      (Syntax.tyInt Syntax.w8)) (Syntax.tcons (Syntax.tyInt Syntax.w64) Syntax.tnil))),
+  Rows.any-gone (Syntax.tyStruct (List._∷_ 38 (List._∷_ 91 (List._∷_ 93 List.[]))) (Syntax.tcons (Syntax.tyRef
+      Syntax.erased Syntax.mut (Syntax.tyInt Syntax.w8)) (Syntax.tcons (Syntax.tyInt Syntax.w64) Syntax.tnil))),
 ) List.[])))))))))))))))
 
 abbrev pub t11 : List.List Row.Entry
@@ -1054,26 +1065,73 @@ t11 = List._∷_ (
   9,
   Rows.any-gone
       (Syntax.tyInt Syntax.w64),
-) (List._∷_ (10, Rows.any-gone (Syntax.tyInt Syntax.w64)) (List._∷_ (11, Rows.any-gone Syntax.tyUnit) (List._∷_ (
+) (List._∷_ (10, Rows.sc-here (Row.sInt Syntax.w64)) (List._∷_ (11, Rows.any-gone Syntax.tyBool) (List._∷_ (
   12,
-  Rows.any-gone (Syntax.tyRef
-      Syntax.erased Syntax.mut LentTilePartEntry.pointee),
-) (List._∷_ (
-  13,
-  Rows.any-gone (Syntax.tyStruct (List._∷_ 38 (List._∷_ 91 (List._∷_ 93 List.[]))) (Syntax.tcons (Syntax.tyRef
-      Syntax.erased Syntax.mut LentTilePartEntry.pointee) (Syntax.tcons (Syntax.tyInt Syntax.w64) Syntax.tnil))),
-) (List._∷_ (
-  14,
-  Rows.any-gone (Syntax.tyRef Syntax.erased Syntax.mut
-      (Syntax.tyInt Syntax.w8)),
-) (List._∷_ (
+  Rows.any-gone (Syntax.tyInt
+      Syntax.w64),
+) (List._∷_ (13, Rows.any-gone (Syntax.tyInt Syntax.w64)) (List._∷_ (14, Rows.any-gone (Syntax.tyRef Syntax.erased Syntax.mut (Syntax.tyInt Syntax.w8))) (List._∷_ (
   15,
-  Rows.any-gone (Syntax.tyStruct (List._∷_ 38 (List._∷_ 91 (List._∷_ 93 List.[]))) (Syntax.tcons (Syntax.tyRef Syntax.erased Syntax.mut
-      (Syntax.tyInt Syntax.w8)) (Syntax.tcons (Syntax.tyInt Syntax.w64) Syntax.tnil))),
+  Rows.any-gone (Syntax.tyStruct (List._∷_ 38 (List._∷_ 91 (List._∷_ 93 List.[]))) (Syntax.tcons (Syntax.tyRef Syntax.erased Syntax.mut (Syntax.tyInt Syntax.w8))
+      (Syntax.tcons (Syntax.tyInt Syntax.w64) Syntax.tnil))),
 ) List.[])))))))))))))))
 
 abbrev pub t12 : List.List Row.Entry
 t12 = List._∷_ (
+  0,
+  Rows.any-gone (Syntax.tyEnum (List._∷_ 104 (List._∷_ 101 (List._∷_ 97 (List._∷_ 100 (List._∷_ 101 (List._∷_ 114 (List._∷_ 58 (List._∷_ 58 (List._∷_ 112 (List._∷_
+      97 (List._∷_ 114 (List._∷_ 115 (List._∷_ 101 (List._∷_ 58 (List._∷_ 58 (List._∷_ 77 (List._∷_ 97 (List._∷_ 105 (List._∷_ 110 (List._∷_ 72 (List._∷_ 101 (List._∷_ 97 (List._∷_
+      100 (List._∷_ 101 (List._∷_ 114 List.[]))))))))))))))))))))))))) (Syntax.ttcons (Syntax.tcons (Syntax.tyStruct (List._∷_ 104 (List._∷_ 101 (List._∷_ 97 (List._∷_ 100 (List._∷_
+      101 (List._∷_ 114 (List._∷_ 58 (List._∷_ 58 (List._∷_ 112 (List._∷_ 97 (List._∷_ 114 (List._∷_ 115 (List._∷_ 101 (List._∷_ 58 (List._∷_ 58 (List._∷_ 77 (List._∷_ 97 (List._∷_
+      105 (List._∷_ 110 (List._∷_ 72 (List._∷_ 101 (List._∷_ 97 (List._∷_ 100 (List._∷_ 101 (List._∷_ 114 (List._∷_ 73 (List._∷_ 110 (List._∷_ 102 (List._∷_ 111
+      List.[]))))))))))))))))))))))))))))) (Syntax.tcons (Syntax.tyStruct (List._∷_ 116 (List._∷_ 121 (List._∷_ 112 (List._∷_ 101 (List._∷_ 115 (List._∷_ 58 (List._∷_ 58 (List._∷_ 67
+      (List._∷_ 111 (List._∷_ 100 (List._∷_ 101 (List._∷_ 115 (List._∷_ 116 (List._∷_ 114 (List._∷_ 101 (List._∷_ 97 (List._∷_ 109 (List._∷_ 79 (List._∷_ 102 (List._∷_ 102 (List._∷_
+      115 (List._∷_ 101 (List._∷_ 116 List.[]))))))))))))))))))))))) (Syntax.tcons (Syntax.tyInt Syntax.w64) Syntax.tnil)) (Syntax.tcons (Syntax.tyInt Syntax.w64) (Syntax.tcons
+      (Syntax.tyInt Syntax.w64) (Syntax.tcons (Syntax.tyInt Syntax.w64) Syntax.tnil))))) Syntax.tnil) (Syntax.ttcons (Syntax.tcons (Syntax.tyStruct (List._∷_ 116 (List._∷_ 121
+      (List._∷_ 112 (List._∷_ 101 (List._∷_ 115 (List._∷_ 58 (List._∷_ 58 (List._∷_ 82 (List._∷_ 101 (List._∷_ 102 (List._∷_ 117 (List._∷_ 115 (List._∷_ 97 (List._∷_ 108
+      List.[])))))))))))))) (Syntax.tcons (Syntax.tyInt Syntax.w32) (Syntax.tcons (Syntax.tyInt Syntax.w64) Syntax.tnil))) Syntax.tnil) Syntax.ttnil))),
+) (List._∷_ (
+  1,
+  Rows.sslice
+      (Referent.rtF (Referent.fInt Syntax.w8)) (Syntax.tyRef (Syntax.named 0) Syntax.imm (Syntax.tyInt Syntax.w8)) 0,
+) (List._∷_ (
+  2,
+  Mut.mslice LentTilePartEntry.row (Syntax.tyRef
+      (Syntax.named 1) Syntax.mut LentTilePartEntry.pointee) 1,
+) (List._∷_ (
+  3,
+  Mut.mslice (Referent.rtF (Referent.fInt Syntax.w8)) (Syntax.tyRef (Syntax.named 2) Syntax.mut
+      (Syntax.tyInt Syntax.w8)) 2,
+) (List._∷_ (4, Rows.whole (Declared.row MainHeader.the-type)) (List._∷_ (
+  5,
+  Rows.any-gone (Syntax.tyStruct (List._∷_ 104 (List._∷_ 101 (List._∷_ 97
+      (List._∷_ 100 (List._∷_ 101 (List._∷_ 114 (List._∷_ 58 (List._∷_ 58 (List._∷_ 112 (List._∷_ 97 (List._∷_ 114 (List._∷_ 115 (List._∷_ 101 (List._∷_ 58 (List._∷_ 58 (List._∷_ 77
+      (List._∷_ 97 (List._∷_ 105 (List._∷_ 110 (List._∷_ 72 (List._∷_ 101 (List._∷_ 97 (List._∷_ 100 (List._∷_ 101 (List._∷_ 114 (List._∷_ 73 (List._∷_ 110 (List._∷_ 102 (List._∷_
+      111 List.[]))))))))))))))))))))))))))))) (Syntax.tcons (Syntax.tyStruct (List._∷_ 116 (List._∷_ 121 (List._∷_ 112 (List._∷_ 101 (List._∷_ 115 (List._∷_ 58 (List._∷_ 58
+      (List._∷_ 67 (List._∷_ 111 (List._∷_ 100 (List._∷_ 101 (List._∷_ 115 (List._∷_ 116 (List._∷_ 114 (List._∷_ 101 (List._∷_ 97 (List._∷_ 109 (List._∷_ 79 (List._∷_ 102 (List._∷_
+      102 (List._∷_ 115 (List._∷_ 101 (List._∷_ 116 List.[]))))))))))))))))))))))) (Syntax.tcons (Syntax.tyInt Syntax.w64) Syntax.tnil)) (Syntax.tcons (Syntax.tyInt Syntax.w64)
+      (Syntax.tcons (Syntax.tyInt Syntax.w64) (Syntax.tcons (Syntax.tyInt Syntax.w64) Syntax.tnil))))),
+) (List._∷_ (
+  6,
+  Rows.any-gone (Syntax.tyStruct (List._∷_ 116 (List._∷_ 121
+      (List._∷_ 112 (List._∷_ 101 (List._∷_ 115 (List._∷_ 58 (List._∷_ 58 (List._∷_ 67 (List._∷_ 111 (List._∷_ 100 (List._∷_ 101 (List._∷_ 115 (List._∷_ 116 (List._∷_ 114 (List._∷_
+      101 (List._∷_ 97 (List._∷_ 109 (List._∷_ 79 (List._∷_ 102 (List._∷_ 102 (List._∷_ 115 (List._∷_ 101 (List._∷_ 116 List.[]))))))))))))))))))))))) (Syntax.tcons (Syntax.tyInt
+      Syntax.w64) Syntax.tnil)),
+) (List._∷_ (7, Rows.any-gone (Syntax.tyInt Syntax.w64)) (List._∷_ (8, Rows.any-gone (Syntax.tyInt Syntax.w64)) (List._∷_ (
+  9,
+  Rows.any-gone
+      (Syntax.tyInt Syntax.w64),
+) (List._∷_ (10, Rows.any-gone (Syntax.tyInt Syntax.w64)) (List._∷_ (11, Rows.any-gone Syntax.tyBool) (List._∷_ (
+  12,
+  Rows.any-gone (Syntax.tyInt
+      Syntax.w64),
+) (List._∷_ (13, Rows.any-gone (Syntax.tyInt Syntax.w64)) (List._∷_ (14, Rows.any-gone (Syntax.tyRef Syntax.erased Syntax.mut (Syntax.tyInt Syntax.w8))) (List._∷_ (
+  15,
+  Rows.any-gone (Syntax.tyStruct (List._∷_ 38 (List._∷_ 91 (List._∷_ 93 List.[]))) (Syntax.tcons (Syntax.tyRef Syntax.erased Syntax.mut (Syntax.tyInt Syntax.w8))
+      (Syntax.tcons (Syntax.tyInt Syntax.w64) Syntax.tnil))),
+) List.[])))))))))))))))
+
+abbrev pub t13 : List.List Row.Entry
+t13 = List._∷_ (
   0,
   Rows.any-gone (Syntax.tyEnum (List._∷_ 104 (List._∷_ 101 (List._∷_ 97 (List._∷_ 100 (List._∷_ 101 (List._∷_ 114 (List._∷_ 58 (List._∷_ 58 (List._∷_ 112 (List._∷_
       97 (List._∷_ 114 (List._∷_ 115 (List._∷_ 101 (List._∷_ 58 (List._∷_ 58 (List._∷_ 77 (List._∷_ 97 (List._∷_ 105 (List._∷_ 110 (List._∷_ 72 (List._∷_ 101 (List._∷_ 97 (List._∷_
@@ -1117,26 +1175,18 @@ t12 = List._∷_ (
   9,
   Rows.any-gone
       (Syntax.tyInt Syntax.w64),
-) (List._∷_ (10, Rows.any-gone (Syntax.tyInt Syntax.w64)) (List._∷_ (11, Rows.any-gone Syntax.tyUnit) (List._∷_ (
+) (List._∷_ (10, Rows.any-gone (Syntax.tyInt Syntax.w64)) (List._∷_ (11, Rows.any-gone Syntax.tyBool) (List._∷_ (
   12,
-  Rows.any-gone (Syntax.tyRef
-      Syntax.erased Syntax.mut LentTilePartEntry.pointee),
-) (List._∷_ (
-  13,
-  Rows.any-gone (Syntax.tyStruct (List._∷_ 38 (List._∷_ 91 (List._∷_ 93 List.[]))) (Syntax.tcons (Syntax.tyRef
-      Syntax.erased Syntax.mut LentTilePartEntry.pointee) (Syntax.tcons (Syntax.tyInt Syntax.w64) Syntax.tnil))),
-) (List._∷_ (
-  14,
-  Rows.any-gone (Syntax.tyRef Syntax.erased Syntax.mut
-      (Syntax.tyInt Syntax.w8)),
-) (List._∷_ (
+  Rows.any-gone (Syntax.tyInt
+      Syntax.w64),
+) (List._∷_ (13, Rows.any-gone (Syntax.tyInt Syntax.w64)) (List._∷_ (14, Rows.any-gone (Syntax.tyRef Syntax.erased Syntax.mut (Syntax.tyInt Syntax.w8))) (List._∷_ (
   15,
-  Rows.any-gone (Syntax.tyStruct (List._∷_ 38 (List._∷_ 91 (List._∷_ 93 List.[]))) (Syntax.tcons (Syntax.tyRef Syntax.erased Syntax.mut
-      (Syntax.tyInt Syntax.w8)) (Syntax.tcons (Syntax.tyInt Syntax.w64) Syntax.tnil))),
+  Rows.any-gone (Syntax.tyStruct (List._∷_ 38 (List._∷_ 91 (List._∷_ 93 List.[]))) (Syntax.tcons (Syntax.tyRef Syntax.erased Syntax.mut (Syntax.tyInt Syntax.w8))
+      (Syntax.tcons (Syntax.tyInt Syntax.w64) Syntax.tnil))),
 ) List.[])))))))))))))))
 
-abbrev pub t13 : List.List Row.Entry
-t13 = List._∷_ (
+abbrev pub t14 : List.List Row.Entry
+t14 = List._∷_ (
   0,
   Rows.any-gone (Syntax.tyEnum (List._∷_ 104 (List._∷_ 101 (List._∷_ 97 (List._∷_ 100 (List._∷_ 101 (List._∷_ 114 (List._∷_ 58 (List._∷_ 58 (List._∷_ 112 (List._∷_
       97 (List._∷_ 114 (List._∷_ 115 (List._∷_ 101 (List._∷_ 58 (List._∷_ 58 (List._∷_ 77 (List._∷_ 97 (List._∷_ 105 (List._∷_ 110 (List._∷_ 72 (List._∷_ 101 (List._∷_ 97 (List._∷_
@@ -1173,20 +1223,19 @@ t13 = List._∷_ (
 ) (List._∷_ (9, Rows.any-gone (Syntax.tyInt Syntax.w64)) (List._∷_ (10, Rows.any-gone (Syntax.tyInt Syntax.w64)) (List._∷_ (
   11,
   Rows.any-gone
-      Syntax.tyUnit,
-) (List._∷_ (12, Rows.any-gone (Syntax.tyRef Syntax.erased Syntax.mut LentTilePartEntry.pointee)) (List._∷_ (
-  13,
-  Rows.any-gone (Syntax.tyStruct (List._∷_ 38
-      (List._∷_ 91 (List._∷_ 93 List.[]))) (Syntax.tcons (Syntax.tyRef Syntax.erased Syntax.mut LentTilePartEntry.pointee) (Syntax.tcons (Syntax.tyInt Syntax.w64) Syntax.tnil))),
-)
-    (List._∷_ (14, Rows.any-gone (Syntax.tyRef Syntax.erased Syntax.mut (Syntax.tyInt Syntax.w8))) (List._∷_ (
-      15,
-      Rows.any-gone (Syntax.tyStruct (List._∷_ 38 (List._∷_ 91 (List._∷_
-          93 List.[]))) (Syntax.tcons (Syntax.tyRef Syntax.erased Syntax.mut (Syntax.tyInt Syntax.w8)) (Syntax.tcons (Syntax.tyInt Syntax.w64) Syntax.tnil))),
-    ) List.[])))))))))))))))
+      Syntax.tyBool,
+) (List._∷_ (12, Rows.any-gone (Syntax.tyInt Syntax.w64)) (List._∷_ (13, Rows.any-gone (Syntax.tyInt Syntax.w64)) (List._∷_ (
+  14,
+  Rows.any-gone (Syntax.tyRef
+      Syntax.erased Syntax.mut (Syntax.tyInt Syntax.w8)),
+) (List._∷_ (
+  15,
+  Rows.any-gone (Syntax.tyStruct (List._∷_ 38 (List._∷_ 91 (List._∷_ 93 List.[]))) (Syntax.tcons (Syntax.tyRef
+      Syntax.erased Syntax.mut (Syntax.tyInt Syntax.w8)) (Syntax.tcons (Syntax.tyInt Syntax.w64) Syntax.tnil))),
+) List.[])))))))))))))))
 
-abbrev pub t14 : List.List Row.Entry
-t14 = List._∷_ (0, Rows.whole (Declared.row MainHeader.the-type)) (List._∷_ (
+abbrev pub t15 : List.List Row.Entry
+t15 = List._∷_ (0, Rows.whole (Declared.row MainHeader.the-type)) (List._∷_ (
   1,
   Rows.sslice (Referent.rtF (Referent.fInt Syntax.w8)) (Syntax.tyRef (Syntax.named 0) Syntax.imm
       (Syntax.tyInt Syntax.w8)) 0,
@@ -1211,20 +1260,18 @@ t14 = List._∷_ (0, Rows.whole (Declared.row MainHeader.the-type)) (List._∷_ 
           115 (List._∷_ 101 (List._∷_ 116 List.[]))))))))))))))))))))))) (Syntax.tcons (Syntax.tyInt Syntax.w64) Syntax.tnil)),
     ) (List._∷_ (7, Rows.any-gone (Syntax.tyInt Syntax.w64))
     (List._∷_ (8, Rows.any-gone (Syntax.tyInt Syntax.w64)) (List._∷_ (9, Rows.any-gone (Syntax.tyInt Syntax.w64)) (List._∷_ (10, Rows.any-gone (Syntax.tyInt Syntax.w64)) (List._∷_
-    (11, Rows.any-gone Syntax.tyUnit) (List._∷_ (12, Rows.any-gone (Syntax.tyRef Syntax.erased Syntax.mut LentTilePartEntry.pointee)) (List._∷_ (
-      13,
-      Rows.any-gone (Syntax.tyStruct
-          (List._∷_ 38 (List._∷_ 91 (List._∷_ 93 List.[]))) (Syntax.tcons (Syntax.tyRef Syntax.erased Syntax.mut LentTilePartEntry.pointee) (Syntax.tcons (Syntax.tyInt Syntax.w64)
-          Syntax.tnil))),
-    ) (List._∷_ (14, Rows.any-gone (Syntax.tyRef Syntax.erased Syntax.mut (Syntax.tyInt Syntax.w8))) (List._∷_ (
+    (11, Rows.any-gone Syntax.tyBool) (List._∷_ (12, Rows.any-gone (Syntax.tyInt Syntax.w64)) (List._∷_ (13, Rows.any-gone (Syntax.tyInt Syntax.w64)) (List._∷_ (
+      14,
+      Rows.any-gone
+          (Syntax.tyRef Syntax.erased Syntax.mut (Syntax.tyInt Syntax.w8)),
+    ) (List._∷_ (
       15,
-      Rows.any-gone (Syntax.tyStruct (List._∷_ 38
-          (List._∷_ 91 (List._∷_ 93 List.[]))) (Syntax.tcons (Syntax.tyRef Syntax.erased Syntax.mut (Syntax.tyInt Syntax.w8)) (Syntax.tcons (Syntax.tyInt Syntax.w64) Syntax.tnil))),
-    )
-    List.[])))))))))))))))
+      Rows.any-gone (Syntax.tyStruct (List._∷_ 38 (List._∷_ 91 (List._∷_ 93 List.[]))) (Syntax.tcons
+          (Syntax.tyRef Syntax.erased Syntax.mut (Syntax.tyInt Syntax.w8)) (Syntax.tcons (Syntax.tyInt Syntax.w64) Syntax.tnil))),
+    ) List.[])))))))))))))))
 
-abbrev pub t15 : List.List Row.Entry
-t15 = List._∷_ (
+abbrev pub t16 : List.List Row.Entry
+t16 = List._∷_ (
   0,
   Rows.any-gone (Syntax.tyEnum (List._∷_ 104 (List._∷_ 101 (List._∷_ 97 (List._∷_ 100 (List._∷_ 101 (List._∷_ 114 (List._∷_ 58 (List._∷_ 58 (List._∷_ 112 (List._∷_
       97 (List._∷_ 114 (List._∷_ 115 (List._∷_ 101 (List._∷_ 58 (List._∷_ 58 (List._∷_ 77 (List._∷_ 97 (List._∷_ 105 (List._∷_ 110 (List._∷_ 72 (List._∷_ 101 (List._∷_ 97 (List._∷_
@@ -1253,26 +1300,66 @@ t15 = List._∷_ (
   6,
   Rows.whole (Declared'.row CodestreamOffset.the-type),
 ) (List._∷_ (7, Rows.any-gone (Syntax.tyInt Syntax.w64)) (List._∷_ (8, Rows.any-gone (Syntax.tyInt Syntax.w64)) (List._∷_
-    (9, Rows.any-gone (Syntax.tyInt Syntax.w64)) (List._∷_ (10, Rows.any-gone (Syntax.tyInt Syntax.w64)) (List._∷_ (11, Rows.any-gone Syntax.tyUnit) (List._∷_ (
+    (9, Rows.any-gone (Syntax.tyInt Syntax.w64)) (List._∷_ (10, Rows.any-gone (Syntax.tyInt Syntax.w64)) (List._∷_ (11, Rows.any-gone Syntax.tyBool) (List._∷_ (
       12,
       Rows.any-gone
-          (Syntax.tyRef Syntax.erased Syntax.mut LentTilePartEntry.pointee),
-    ) (List._∷_ (
-      13,
-      Rows.any-gone (Syntax.tyStruct (List._∷_ 38 (List._∷_ 91 (List._∷_ 93 List.[]))) (Syntax.tcons
-          (Syntax.tyRef Syntax.erased Syntax.mut LentTilePartEntry.pointee) (Syntax.tcons (Syntax.tyInt Syntax.w64) Syntax.tnil))),
-    ) (List._∷_ (
+          (Syntax.tyInt Syntax.w64),
+    ) (List._∷_ (13, Rows.any-gone (Syntax.tyInt Syntax.w64)) (List._∷_ (
       14,
-      Rows.any-gone (Syntax.tyRef
-          Syntax.erased Syntax.mut (Syntax.tyInt Syntax.w8)),
+      Rows.any-gone (Syntax.tyRef Syntax.erased Syntax.mut (Syntax.tyInt
+          Syntax.w8)),
     ) (List._∷_ (
       15,
-      Rows.any-gone (Syntax.tyStruct (List._∷_ 38 (List._∷_ 91 (List._∷_ 93 List.[]))) (Syntax.tcons (Syntax.tyRef
-          Syntax.erased Syntax.mut (Syntax.tyInt Syntax.w8)) (Syntax.tcons (Syntax.tyInt Syntax.w64) Syntax.tnil))),
+      Rows.any-gone (Syntax.tyStruct (List._∷_ 38 (List._∷_ 91 (List._∷_ 93 List.[]))) (Syntax.tcons (Syntax.tyRef Syntax.erased Syntax.mut (Syntax.tyInt
+          Syntax.w8)) (Syntax.tcons (Syntax.tyInt Syntax.w64) Syntax.tnil))),
     ) List.[])))))))))))))))
 
-abbrev pub t16 : List.List Row.Entry
-t16 = List._∷_ (
+abbrev pub t17 : List.List Row.Entry
+t17 = List._∷_ (
+  0,
+  Rows.any-gone (Syntax.tyEnum (List._∷_ 104 (List._∷_ 101 (List._∷_ 97 (List._∷_ 100 (List._∷_ 101 (List._∷_ 114 (List._∷_ 58 (List._∷_ 58 (List._∷_ 112 (List._∷_
+      97 (List._∷_ 114 (List._∷_ 115 (List._∷_ 101 (List._∷_ 58 (List._∷_ 58 (List._∷_ 77 (List._∷_ 97 (List._∷_ 105 (List._∷_ 110 (List._∷_ 72 (List._∷_ 101 (List._∷_ 97 (List._∷_
+      100 (List._∷_ 101 (List._∷_ 114 List.[]))))))))))))))))))))))))) (Syntax.ttcons (Syntax.tcons (Syntax.tyStruct (List._∷_ 104 (List._∷_ 101 (List._∷_ 97 (List._∷_ 100 (List._∷_
+      101 (List._∷_ 114 (List._∷_ 58 (List._∷_ 58 (List._∷_ 112 (List._∷_ 97 (List._∷_ 114 (List._∷_ 115 (List._∷_ 101 (List._∷_ 58 (List._∷_ 58 (List._∷_ 77 (List._∷_ 97 (List._∷_
+      105 (List._∷_ 110 (List._∷_ 72 (List._∷_ 101 (List._∷_ 97 (List._∷_ 100 (List._∷_ 101 (List._∷_ 114 (List._∷_ 73 (List._∷_ 110 (List._∷_ 102 (List._∷_ 111
+      List.[]))))))))))))))))))))))))))))) (Syntax.tcons (Syntax.tyStruct (List._∷_ 116 (List._∷_ 121 (List._∷_ 112 (List._∷_ 101 (List._∷_ 115 (List._∷_ 58 (List._∷_ 58 (List._∷_ 67
+      (List._∷_ 111 (List._∷_ 100 (List._∷_ 101 (List._∷_ 115 (List._∷_ 116 (List._∷_ 114 (List._∷_ 101 (List._∷_ 97 (List._∷_ 109 (List._∷_ 79 (List._∷_ 102 (List._∷_ 102 (List._∷_
+      115 (List._∷_ 101 (List._∷_ 116 List.[]))))))))))))))))))))))) (Syntax.tcons (Syntax.tyInt Syntax.w64) Syntax.tnil)) (Syntax.tcons (Syntax.tyInt Syntax.w64) (Syntax.tcons
+      (Syntax.tyInt Syntax.w64) (Syntax.tcons (Syntax.tyInt Syntax.w64) Syntax.tnil))))) Syntax.tnil) (Syntax.ttcons (Syntax.tcons (Syntax.tyStruct (List._∷_ 116 (List._∷_ 121
+      (List._∷_ 112 (List._∷_ 101 (List._∷_ 115 (List._∷_ 58 (List._∷_ 58 (List._∷_ 82 (List._∷_ 101 (List._∷_ 102 (List._∷_ 117 (List._∷_ 115 (List._∷_ 97 (List._∷_ 108
+      List.[])))))))))))))) (Syntax.tcons (Syntax.tyInt Syntax.w32) (Syntax.tcons (Syntax.tyInt Syntax.w64) Syntax.tnil))) Syntax.tnil) Syntax.ttnil))),
+) (List._∷_ (
+  1,
+  Rows.sslice
+      (Referent.rtF (Referent.fInt Syntax.w8)) (Syntax.tyRef (Syntax.named 0) Syntax.imm (Syntax.tyInt Syntax.w8)) 0,
+) (List._∷_ (
+  2,
+  Mut.mslice LentTilePartEntry.row (Syntax.tyRef
+      (Syntax.named 1) Syntax.mut LentTilePartEntry.pointee) 1,
+) (List._∷_ (
+  3,
+  Mut.mslice (Referent.rtF (Referent.fInt Syntax.w8)) (Syntax.tyRef (Syntax.named 2) Syntax.mut
+      (Syntax.tyInt Syntax.w8)) 2,
+) (List._∷_ (4, Rows.whole (Declared.row MainHeader.the-type)) (List._∷_ (5, Rows.whole (Declared'.row MainHeaderInfo.the-type)) (List._∷_ (
+  6,
+  Rows.whole (Declared'.row CodestreamOffset.the-type),
+) (List._∷_ (7, Rows.any-gone (Syntax.tyInt Syntax.w64)) (List._∷_ (8, Rows.any-gone (Syntax.tyInt Syntax.w64)) (List._∷_
+    (9, Rows.any-gone (Syntax.tyInt Syntax.w64)) (List._∷_ (10, Rows.any-gone (Syntax.tyInt Syntax.w64)) (List._∷_ (11, Rows.sc-here Row.sBool) (List._∷_ (
+      12,
+      Rows.any-gone
+          (Syntax.tyInt Syntax.w64),
+    ) (List._∷_ (13, Rows.any-gone (Syntax.tyInt Syntax.w64)) (List._∷_ (
+      14,
+      Rows.any-gone (Syntax.tyRef Syntax.erased Syntax.mut (Syntax.tyInt
+          Syntax.w8)),
+    ) (List._∷_ (
+      15,
+      Rows.any-gone (Syntax.tyStruct (List._∷_ 38 (List._∷_ 91 (List._∷_ 93 List.[]))) (Syntax.tcons (Syntax.tyRef Syntax.erased Syntax.mut (Syntax.tyInt
+          Syntax.w8)) (Syntax.tcons (Syntax.tyInt Syntax.w64) Syntax.tnil))),
+    ) List.[])))))))))))))))
+
+abbrev pub t18 : List.List Row.Entry
+t18 = List._∷_ (
   0,
   Rows.any-gone (Syntax.tyEnum (List._∷_ 104 (List._∷_ 101 (List._∷_ 97 (List._∷_ 100 (List._∷_ 101 (List._∷_ 114 (List._∷_ 58 (List._∷_ 58 (List._∷_ 112 (List._∷_
       97 (List._∷_ 114 (List._∷_ 115 (List._∷_ 101 (List._∷_ 58 (List._∷_ 58 (List._∷_ 77 (List._∷_ 97 (List._∷_ 105 (List._∷_ 110 (List._∷_ 72 (List._∷_ 101 (List._∷_ 97 (List._∷_
@@ -1310,137 +1397,15 @@ t16 = List._∷_ (
     (7, Rows.any-gone (Syntax.tyInt Syntax.w64)) (List._∷_ (8, Rows.any-gone (Syntax.tyInt Syntax.w64)) (List._∷_ (9, Rows.any-gone (Syntax.tyInt Syntax.w64)) (List._∷_ (
       10,
       Rows.any-gone (Syntax.tyInt Syntax.w64),
-    ) (List._∷_ (11, Rows.any-gone Syntax.tyUnit) (List._∷_ (
-      12,
-      Rows.any-gone (Syntax.tyRef Syntax.erased Syntax.mut
-          LentTilePartEntry.pointee),
-    ) (List._∷_ (
+    ) (List._∷_ (11, Rows.any-gone Syntax.tyBool) (List._∷_ (12, Rows.any-gone (Syntax.tyInt Syntax.w64)) (List._∷_ (
       13,
-      Rows.any-gone (Syntax.tyStruct (List._∷_ 38 (List._∷_ 91 (List._∷_ 93 List.[]))) (Syntax.tcons (Syntax.tyRef Syntax.erased Syntax.mut
-          LentTilePartEntry.pointee) (Syntax.tcons (Syntax.tyInt Syntax.w64) Syntax.tnil))),
-    ) (List._∷_ (
-      14,
-      Rows.any-gone (Syntax.tyRef Syntax.erased Syntax.mut (Syntax.tyInt
-          Syntax.w8)),
-    ) (List._∷_ (
+      Rows.any-gone
+          (Syntax.tyInt Syntax.w64),
+    ) (List._∷_ (14, Rows.any-gone (Syntax.tyRef Syntax.erased Syntax.mut (Syntax.tyInt Syntax.w8))) (List._∷_ (
       15,
-      Rows.any-gone (Syntax.tyStruct (List._∷_ 38 (List._∷_ 91 (List._∷_ 93 List.[]))) (Syntax.tcons (Syntax.tyRef Syntax.erased Syntax.mut (Syntax.tyInt
-          Syntax.w8)) (Syntax.tcons (Syntax.tyInt Syntax.w64) Syntax.tnil))),
-    ) List.[])))))))))))))))
-
-abbrev pub t17 : List.List Row.Entry
-t17 = List._∷_ (
-  0,
-  Rows.any-gone (Syntax.tyEnum (List._∷_ 104 (List._∷_ 101 (List._∷_ 97 (List._∷_ 100 (List._∷_ 101 (List._∷_ 114 (List._∷_ 58 (List._∷_ 58 (List._∷_ 112 (List._∷_
-      97 (List._∷_ 114 (List._∷_ 115 (List._∷_ 101 (List._∷_ 58 (List._∷_ 58 (List._∷_ 77 (List._∷_ 97 (List._∷_ 105 (List._∷_ 110 (List._∷_ 72 (List._∷_ 101 (List._∷_ 97 (List._∷_
-      100 (List._∷_ 101 (List._∷_ 114 List.[]))))))))))))))))))))))))) (Syntax.ttcons (Syntax.tcons (Syntax.tyStruct (List._∷_ 104 (List._∷_ 101 (List._∷_ 97 (List._∷_ 100 (List._∷_
-      101 (List._∷_ 114 (List._∷_ 58 (List._∷_ 58 (List._∷_ 112 (List._∷_ 97 (List._∷_ 114 (List._∷_ 115 (List._∷_ 101 (List._∷_ 58 (List._∷_ 58 (List._∷_ 77 (List._∷_ 97 (List._∷_
-      105 (List._∷_ 110 (List._∷_ 72 (List._∷_ 101 (List._∷_ 97 (List._∷_ 100 (List._∷_ 101 (List._∷_ 114 (List._∷_ 73 (List._∷_ 110 (List._∷_ 102 (List._∷_ 111
-      List.[]))))))))))))))))))))))))))))) (Syntax.tcons (Syntax.tyStruct (List._∷_ 116 (List._∷_ 121 (List._∷_ 112 (List._∷_ 101 (List._∷_ 115 (List._∷_ 58 (List._∷_ 58 (List._∷_ 67
-      (List._∷_ 111 (List._∷_ 100 (List._∷_ 101 (List._∷_ 115 (List._∷_ 116 (List._∷_ 114 (List._∷_ 101 (List._∷_ 97 (List._∷_ 109 (List._∷_ 79 (List._∷_ 102 (List._∷_ 102 (List._∷_
-      115 (List._∷_ 101 (List._∷_ 116 List.[]))))))))))))))))))))))) (Syntax.tcons (Syntax.tyInt Syntax.w64) Syntax.tnil)) (Syntax.tcons (Syntax.tyInt Syntax.w64) (Syntax.tcons
-      (Syntax.tyInt Syntax.w64) (Syntax.tcons (Syntax.tyInt Syntax.w64) Syntax.tnil))))) Syntax.tnil) (Syntax.ttcons (Syntax.tcons (Syntax.tyStruct (List._∷_ 116 (List._∷_ 121
-      (List._∷_ 112 (List._∷_ 101 (List._∷_ 115 (List._∷_ 58 (List._∷_ 58 (List._∷_ 82 (List._∷_ 101 (List._∷_ 102 (List._∷_ 117 (List._∷_ 115 (List._∷_ 97 (List._∷_ 108
-      List.[])))))))))))))) (Syntax.tcons (Syntax.tyInt Syntax.w32) (Syntax.tcons (Syntax.tyInt Syntax.w64) Syntax.tnil))) Syntax.tnil) Syntax.ttnil))),
-) (List._∷_ (
-  1,
-  Rows.sslice
-      (Referent.rtF (Referent.fInt Syntax.w8)) (Syntax.tyRef (Syntax.named 0) Syntax.imm (Syntax.tyInt Syntax.w8)) 0,
-) (List._∷_ (
-  2,
-  Relend.mslice-owed LentTilePartEntry.row
-      (Syntax.tyRef (Syntax.named 1) Syntax.mut LentTilePartEntry.pointee) 1 3 Row.off,
-) (List._∷_ (
-  3,
-  Mut.mslice (Referent.rtF (Referent.fInt Syntax.w8)) (Syntax.tyRef (Syntax.named
-      2) Syntax.mut (Syntax.tyInt Syntax.w8)) 2,
-) (List._∷_ (4, Rows.whole (Declared.row MainHeader.the-type)) (List._∷_ (
-  5,
-  Rows.any-gone (Syntax.tyStruct (List._∷_ 104 (List._∷_ 101
-      (List._∷_ 97 (List._∷_ 100 (List._∷_ 101 (List._∷_ 114 (List._∷_ 58 (List._∷_ 58 (List._∷_ 112 (List._∷_ 97 (List._∷_ 114 (List._∷_ 115 (List._∷_ 101 (List._∷_ 58 (List._∷_ 58
-      (List._∷_ 77 (List._∷_ 97 (List._∷_ 105 (List._∷_ 110 (List._∷_ 72 (List._∷_ 101 (List._∷_ 97 (List._∷_ 100 (List._∷_ 101 (List._∷_ 114 (List._∷_ 73 (List._∷_ 110 (List._∷_ 102
-      (List._∷_ 111 List.[]))))))))))))))))))))))))))))) (Syntax.tcons (Syntax.tyStruct (List._∷_ 116 (List._∷_ 121 (List._∷_ 112 (List._∷_ 101 (List._∷_ 115 (List._∷_ 58 (List._∷_
-      58 (List._∷_ 67 (List._∷_ 111 (List._∷_ 100 (List._∷_ 101 (List._∷_ 115 (List._∷_ 116 (List._∷_ 114 (List._∷_ 101 (List._∷_ 97 (List._∷_ 109 (List._∷_ 79 (List._∷_ 102
-      (List._∷_ 102 (List._∷_ 115 (List._∷_ 101 (List._∷_ 116 List.[]))))))))))))))))))))))) (Syntax.tcons (Syntax.tyInt Syntax.w64) Syntax.tnil)) (Syntax.tcons (Syntax.tyInt
-      Syntax.w64) (Syntax.tcons (Syntax.tyInt Syntax.w64) (Syntax.tcons (Syntax.tyInt Syntax.w64) Syntax.tnil))))),
-) (List._∷_ (
-  6,
-  Rows.whole (Declared'.row
-      CodestreamOffset.the-type),
-) (List._∷_ (7, Rows.any-gone (Syntax.tyInt Syntax.w64)) (List._∷_ (8, Rows.any-gone (Syntax.tyInt Syntax.w64)) (List._∷_ (
-  9,
-  Rows.any-gone
-      (Syntax.tyInt Syntax.w64),
-) (List._∷_ (10, Rows.any-gone (Syntax.tyInt Syntax.w64)) (List._∷_ (11, Rows.any-gone Syntax.tyUnit) (List._∷_ (
-  12,
-  Relend.msptr LentTilePartEntry.row
-      (Syntax.tyRef Syntax.erased Syntax.mut LentTilePartEntry.pointee) 3,
-) (List._∷_ (
-  13,
-  Rows.any-gone (Syntax.tyStruct (List._∷_ 38 (List._∷_ 91 (List._∷_ 93 List.[])))
-      (Syntax.tcons (Syntax.tyRef Syntax.erased Syntax.mut LentTilePartEntry.pointee) (Syntax.tcons (Syntax.tyInt Syntax.w64) Syntax.tnil))),
-) (List._∷_ (
-  14,
-  Rows.any-gone
-      (Syntax.tyRef Syntax.erased Syntax.mut (Syntax.tyInt Syntax.w8)),
-) (List._∷_ (
-  15,
-  Rows.any-gone (Syntax.tyStruct (List._∷_ 38 (List._∷_ 91 (List._∷_ 93 List.[]))) (Syntax.tcons
-      (Syntax.tyRef Syntax.erased Syntax.mut (Syntax.tyInt Syntax.w8)) (Syntax.tcons (Syntax.tyInt Syntax.w64) Syntax.tnil))),
-) List.[])))))))))))))))
-
-abbrev pub t18 : List.List Row.Entry
-t18 = List._∷_ (
-  0,
-  Rows.any-gone (Syntax.tyEnum (List._∷_ 104 (List._∷_ 101 (List._∷_ 97 (List._∷_ 100 (List._∷_ 101 (List._∷_ 114 (List._∷_ 58 (List._∷_ 58 (List._∷_ 112 (List._∷_
-      97 (List._∷_ 114 (List._∷_ 115 (List._∷_ 101 (List._∷_ 58 (List._∷_ 58 (List._∷_ 77 (List._∷_ 97 (List._∷_ 105 (List._∷_ 110 (List._∷_ 72 (List._∷_ 101 (List._∷_ 97 (List._∷_
-      100 (List._∷_ 101 (List._∷_ 114 List.[]))))))))))))))))))))))))) (Syntax.ttcons (Syntax.tcons (Syntax.tyStruct (List._∷_ 104 (List._∷_ 101 (List._∷_ 97 (List._∷_ 100 (List._∷_
-      101 (List._∷_ 114 (List._∷_ 58 (List._∷_ 58 (List._∷_ 112 (List._∷_ 97 (List._∷_ 114 (List._∷_ 115 (List._∷_ 101 (List._∷_ 58 (List._∷_ 58 (List._∷_ 77 (List._∷_ 97 (List._∷_
-      105 (List._∷_ 110 (List._∷_ 72 (List._∷_ 101 (List._∷_ 97 (List._∷_ 100 (List._∷_ 101 (List._∷_ 114 (List._∷_ 73 (List._∷_ 110 (List._∷_ 102 (List._∷_ 111
-      List.[]))))))))))))))))))))))))))))) (Syntax.tcons (Syntax.tyStruct (List._∷_ 116 (List._∷_ 121 (List._∷_ 112 (List._∷_ 101 (List._∷_ 115 (List._∷_ 58 (List._∷_ 58 (List._∷_ 67
-      (List._∷_ 111 (List._∷_ 100 (List._∷_ 101 (List._∷_ 115 (List._∷_ 116 (List._∷_ 114 (List._∷_ 101 (List._∷_ 97 (List._∷_ 109 (List._∷_ 79 (List._∷_ 102 (List._∷_ 102 (List._∷_
-      115 (List._∷_ 101 (List._∷_ 116 List.[]))))))))))))))))))))))) (Syntax.tcons (Syntax.tyInt Syntax.w64) Syntax.tnil)) (Syntax.tcons (Syntax.tyInt Syntax.w64) (Syntax.tcons
-      (Syntax.tyInt Syntax.w64) (Syntax.tcons (Syntax.tyInt Syntax.w64) Syntax.tnil))))) Syntax.tnil) (Syntax.ttcons (Syntax.tcons (Syntax.tyStruct (List._∷_ 116 (List._∷_ 121
-      (List._∷_ 112 (List._∷_ 101 (List._∷_ 115 (List._∷_ 58 (List._∷_ 58 (List._∷_ 82 (List._∷_ 101 (List._∷_ 102 (List._∷_ 117 (List._∷_ 115 (List._∷_ 97 (List._∷_ 108
-      List.[])))))))))))))) (Syntax.tcons (Syntax.tyInt Syntax.w32) (Syntax.tcons (Syntax.tyInt Syntax.w64) Syntax.tnil))) Syntax.tnil) Syntax.ttnil))),
-) (List._∷_ (
-  1,
-  Rows.sslice
-      (Referent.rtF (Referent.fInt Syntax.w8)) (Syntax.tyRef (Syntax.named 0) Syntax.imm (Syntax.tyInt Syntax.w8)) 0,
-) (List._∷_ (
-  2,
-  Relend.mslice-owed LentTilePartEntry.row
-      (Syntax.tyRef (Syntax.named 1) Syntax.mut LentTilePartEntry.pointee) 1 3 Row.off,
-) (List._∷_ (
-  3,
-  Mut.mslice (Referent.rtF (Referent.fInt Syntax.w8)) (Syntax.tyRef (Syntax.named
-      2) Syntax.mut (Syntax.tyInt Syntax.w8)) 2,
-) (List._∷_ (4, Rows.whole (Declared.row MainHeader.the-type)) (List._∷_ (
-  5,
-  Rows.any-gone (Syntax.tyStruct (List._∷_ 104 (List._∷_ 101
-      (List._∷_ 97 (List._∷_ 100 (List._∷_ 101 (List._∷_ 114 (List._∷_ 58 (List._∷_ 58 (List._∷_ 112 (List._∷_ 97 (List._∷_ 114 (List._∷_ 115 (List._∷_ 101 (List._∷_ 58 (List._∷_ 58
-      (List._∷_ 77 (List._∷_ 97 (List._∷_ 105 (List._∷_ 110 (List._∷_ 72 (List._∷_ 101 (List._∷_ 97 (List._∷_ 100 (List._∷_ 101 (List._∷_ 114 (List._∷_ 73 (List._∷_ 110 (List._∷_ 102
-      (List._∷_ 111 List.[]))))))))))))))))))))))))))))) (Syntax.tcons (Syntax.tyStruct (List._∷_ 116 (List._∷_ 121 (List._∷_ 112 (List._∷_ 101 (List._∷_ 115 (List._∷_ 58 (List._∷_
-      58 (List._∷_ 67 (List._∷_ 111 (List._∷_ 100 (List._∷_ 101 (List._∷_ 115 (List._∷_ 116 (List._∷_ 114 (List._∷_ 101 (List._∷_ 97 (List._∷_ 109 (List._∷_ 79 (List._∷_ 102
-      (List._∷_ 102 (List._∷_ 115 (List._∷_ 101 (List._∷_ 116 List.[]))))))))))))))))))))))) (Syntax.tcons (Syntax.tyInt Syntax.w64) Syntax.tnil)) (Syntax.tcons (Syntax.tyInt
-      Syntax.w64) (Syntax.tcons (Syntax.tyInt Syntax.w64) (Syntax.tcons (Syntax.tyInt Syntax.w64) Syntax.tnil))))),
-) (List._∷_ (
-  6,
-  Rows.whole (Declared'.row
-      CodestreamOffset.the-type),
-) (List._∷_ (7, Rows.any-gone (Syntax.tyInt Syntax.w64)) (List._∷_ (8, Rows.any-gone (Syntax.tyInt Syntax.w64)) (List._∷_ (
-  9,
-  Rows.any-gone
-      (Syntax.tyInt Syntax.w64),
-) (List._∷_ (10, Rows.any-gone (Syntax.tyInt Syntax.w64)) (List._∷_ (11, Rows.any-gone Syntax.tyUnit) (List._∷_ (
-  12,
-  Rows.any-gone (Syntax.tyRef
-      Syntax.erased Syntax.mut LentTilePartEntry.pointee),
-) (List._∷_ (13, Mut.mslice LentTilePartEntry.row (Syntax.tyRef Syntax.erased Syntax.mut LentTilePartEntry.pointee) 3)
-    (List._∷_ (14, Rows.any-gone (Syntax.tyRef Syntax.erased Syntax.mut (Syntax.tyInt Syntax.w8))) (List._∷_ (
-      15,
-      Rows.any-gone (Syntax.tyStruct (List._∷_ 38 (List._∷_ 91 (List._∷_
-          93 List.[]))) (Syntax.tcons (Syntax.tyRef Syntax.erased Syntax.mut (Syntax.tyInt Syntax.w8)) (Syntax.tcons (Syntax.tyInt Syntax.w64) Syntax.tnil))),
+      Rows.any-gone (Syntax.tyStruct
+          (List._∷_ 38 (List._∷_ 91 (List._∷_ 93 List.[]))) (Syntax.tcons (Syntax.tyRef Syntax.erased Syntax.mut (Syntax.tyInt Syntax.w8)) (Syntax.tcons (Syntax.tyInt Syntax.w64)
+          Syntax.tnil))),
     ) List.[])))))))))))))))
 
 abbrev pub t19 : List.List Row.Entry
@@ -1463,38 +1428,34 @@ t19 = List._∷_ (
       (Referent.rtF (Referent.fInt Syntax.w8)) (Syntax.tyRef (Syntax.named 0) Syntax.imm (Syntax.tyInt Syntax.w8)) 0,
 ) (List._∷_ (
   2,
-  Relend.mslice-owed LentTilePartEntry.row
-      (Syntax.tyRef (Syntax.named 1) Syntax.mut LentTilePartEntry.pointee) 1 3 Row.off,
+  Mut.mslice LentTilePartEntry.row (Syntax.tyRef
+      (Syntax.named 1) Syntax.mut LentTilePartEntry.pointee) 1,
 ) (List._∷_ (
   3,
-  Mut.mslice (Referent.rtF (Referent.fInt Syntax.w8)) (Syntax.tyRef (Syntax.named
-      2) Syntax.mut (Syntax.tyInt Syntax.w8)) 2,
+  Mut.mslice (Referent.rtF (Referent.fInt Syntax.w8)) (Syntax.tyRef (Syntax.named 2) Syntax.mut
+      (Syntax.tyInt Syntax.w8)) 2,
 ) (List._∷_ (4, Rows.whole (Declared.row MainHeader.the-type)) (List._∷_ (
   5,
-  Rows.any-gone (Syntax.tyStruct (List._∷_ 104 (List._∷_ 101
-      (List._∷_ 97 (List._∷_ 100 (List._∷_ 101 (List._∷_ 114 (List._∷_ 58 (List._∷_ 58 (List._∷_ 112 (List._∷_ 97 (List._∷_ 114 (List._∷_ 115 (List._∷_ 101 (List._∷_ 58 (List._∷_ 58
-      (List._∷_ 77 (List._∷_ 97 (List._∷_ 105 (List._∷_ 110 (List._∷_ 72 (List._∷_ 101 (List._∷_ 97 (List._∷_ 100 (List._∷_ 101 (List._∷_ 114 (List._∷_ 73 (List._∷_ 110 (List._∷_ 102
-      (List._∷_ 111 List.[]))))))))))))))))))))))))))))) (Syntax.tcons (Syntax.tyStruct (List._∷_ 116 (List._∷_ 121 (List._∷_ 112 (List._∷_ 101 (List._∷_ 115 (List._∷_ 58 (List._∷_
-      58 (List._∷_ 67 (List._∷_ 111 (List._∷_ 100 (List._∷_ 101 (List._∷_ 115 (List._∷_ 116 (List._∷_ 114 (List._∷_ 101 (List._∷_ 97 (List._∷_ 109 (List._∷_ 79 (List._∷_ 102
-      (List._∷_ 102 (List._∷_ 115 (List._∷_ 101 (List._∷_ 116 List.[]))))))))))))))))))))))) (Syntax.tcons (Syntax.tyInt Syntax.w64) Syntax.tnil)) (Syntax.tcons (Syntax.tyInt
-      Syntax.w64) (Syntax.tcons (Syntax.tyInt Syntax.w64) (Syntax.tcons (Syntax.tyInt Syntax.w64) Syntax.tnil))))),
-) (List._∷_ (
-  6,
-  Rows.whole (Declared'.row
-      CodestreamOffset.the-type),
-) (List._∷_ (7, Rows.any-gone (Syntax.tyInt Syntax.w64)) (List._∷_ (8, Rows.any-gone (Syntax.tyInt Syntax.w64)) (List._∷_ (
-  9,
-  Rows.any-gone
-      (Syntax.tyInt Syntax.w64),
-) (List._∷_ (10, Rows.any-gone (Syntax.tyInt Syntax.w64)) (List._∷_ (11, Rows.sc-here Row.sUnit) (List._∷_ (
-  12,
-  Rows.any-gone (Syntax.tyRef
-      Syntax.erased Syntax.mut LentTilePartEntry.pointee),
-) (List._∷_ (13, Mut.msleft LentTilePartEntry.row (Syntax.tyRef Syntax.erased Syntax.mut LentTilePartEntry.pointee))
-    (List._∷_ (14, Rows.any-gone (Syntax.tyRef Syntax.erased Syntax.mut (Syntax.tyInt Syntax.w8))) (List._∷_ (
+  Rows.any-gone (Syntax.tyStruct (List._∷_ 104 (List._∷_ 101 (List._∷_ 97
+      (List._∷_ 100 (List._∷_ 101 (List._∷_ 114 (List._∷_ 58 (List._∷_ 58 (List._∷_ 112 (List._∷_ 97 (List._∷_ 114 (List._∷_ 115 (List._∷_ 101 (List._∷_ 58 (List._∷_ 58 (List._∷_ 77
+      (List._∷_ 97 (List._∷_ 105 (List._∷_ 110 (List._∷_ 72 (List._∷_ 101 (List._∷_ 97 (List._∷_ 100 (List._∷_ 101 (List._∷_ 114 (List._∷_ 73 (List._∷_ 110 (List._∷_ 102 (List._∷_
+      111 List.[]))))))))))))))))))))))))))))) (Syntax.tcons (Syntax.tyStruct (List._∷_ 116 (List._∷_ 121 (List._∷_ 112 (List._∷_ 101 (List._∷_ 115 (List._∷_ 58 (List._∷_ 58
+      (List._∷_ 67 (List._∷_ 111 (List._∷_ 100 (List._∷_ 101 (List._∷_ 115 (List._∷_ 116 (List._∷_ 114 (List._∷_ 101 (List._∷_ 97 (List._∷_ 109 (List._∷_ 79 (List._∷_ 102 (List._∷_
+      102 (List._∷_ 115 (List._∷_ 101 (List._∷_ 116 List.[]))))))))))))))))))))))) (Syntax.tcons (Syntax.tyInt Syntax.w64) Syntax.tnil)) (Syntax.tcons (Syntax.tyInt Syntax.w64)
+      (Syntax.tcons (Syntax.tyInt Syntax.w64) (Syntax.tcons (Syntax.tyInt Syntax.w64) Syntax.tnil))))),
+) (List._∷_ (6, Rows.whole (Declared'.row CodestreamOffset.the-type)) (List._∷_
+    (7, Rows.any-gone (Syntax.tyInt Syntax.w64)) (List._∷_ (8, Rows.any-gone (Syntax.tyInt Syntax.w64)) (List._∷_ (9, Rows.any-gone (Syntax.tyInt Syntax.w64)) (List._∷_ (
+      10,
+      Rows.any-gone (Syntax.tyInt Syntax.w64),
+    ) (List._∷_ (11, Rows.sc-here Row.sBool) (List._∷_ (12, Rows.any-gone (Syntax.tyInt Syntax.w64)) (List._∷_ (
+      13,
+      Rows.any-gone
+          (Syntax.tyInt Syntax.w64),
+    ) (List._∷_ (14, Rows.any-gone (Syntax.tyRef Syntax.erased Syntax.mut (Syntax.tyInt Syntax.w8))) (List._∷_ (
       15,
-      Rows.any-gone (Syntax.tyStruct (List._∷_ 38 (List._∷_ 91 (List._∷_
-          93 List.[]))) (Syntax.tcons (Syntax.tyRef Syntax.erased Syntax.mut (Syntax.tyInt Syntax.w8)) (Syntax.tcons (Syntax.tyInt Syntax.w64) Syntax.tnil))),
+      Rows.any-gone (Syntax.tyStruct
+          (List._∷_ 38 (List._∷_ 91 (List._∷_ 93 List.[]))) (Syntax.tcons (Syntax.tyRef Syntax.erased Syntax.mut (Syntax.tyInt Syntax.w8)) (Syntax.tcons (Syntax.tyInt Syntax.w64)
+          Syntax.tnil))),
     ) List.[])))))))))))))))
 
 abbrev pub t20 : List.List Row.Entry
@@ -1517,44 +1478,35 @@ t20 = List._∷_ (
       (Referent.rtF (Referent.fInt Syntax.w8)) (Syntax.tyRef (Syntax.named 0) Syntax.imm (Syntax.tyInt Syntax.w8)) 0,
 ) (List._∷_ (
   2,
-  Relend.mslice-owed LentTilePartEntry.row
-      (Syntax.tyRef (Syntax.named 1) Syntax.mut LentTilePartEntry.pointee) 1 3 Row.off,
+  Mut.mslice LentTilePartEntry.row (Syntax.tyRef
+      (Syntax.named 1) Syntax.mut LentTilePartEntry.pointee) 1,
 ) (List._∷_ (
   3,
-  Mut.mslice (Referent.rtF (Referent.fInt Syntax.w8)) (Syntax.tyRef (Syntax.named
-      2) Syntax.mut (Syntax.tyInt Syntax.w8)) 2,
+  Mut.mslice (Referent.rtF (Referent.fInt Syntax.w8)) (Syntax.tyRef (Syntax.named 2) Syntax.mut
+      (Syntax.tyInt Syntax.w8)) 2,
 ) (List._∷_ (4, Rows.whole (Declared.row MainHeader.the-type)) (List._∷_ (
   5,
-  Rows.any-gone (Syntax.tyStruct (List._∷_ 104 (List._∷_ 101
-      (List._∷_ 97 (List._∷_ 100 (List._∷_ 101 (List._∷_ 114 (List._∷_ 58 (List._∷_ 58 (List._∷_ 112 (List._∷_ 97 (List._∷_ 114 (List._∷_ 115 (List._∷_ 101 (List._∷_ 58 (List._∷_ 58
-      (List._∷_ 77 (List._∷_ 97 (List._∷_ 105 (List._∷_ 110 (List._∷_ 72 (List._∷_ 101 (List._∷_ 97 (List._∷_ 100 (List._∷_ 101 (List._∷_ 114 (List._∷_ 73 (List._∷_ 110 (List._∷_ 102
-      (List._∷_ 111 List.[]))))))))))))))))))))))))))))) (Syntax.tcons (Syntax.tyStruct (List._∷_ 116 (List._∷_ 121 (List._∷_ 112 (List._∷_ 101 (List._∷_ 115 (List._∷_ 58 (List._∷_
-      58 (List._∷_ 67 (List._∷_ 111 (List._∷_ 100 (List._∷_ 101 (List._∷_ 115 (List._∷_ 116 (List._∷_ 114 (List._∷_ 101 (List._∷_ 97 (List._∷_ 109 (List._∷_ 79 (List._∷_ 102
-      (List._∷_ 102 (List._∷_ 115 (List._∷_ 101 (List._∷_ 116 List.[]))))))))))))))))))))))) (Syntax.tcons (Syntax.tyInt Syntax.w64) Syntax.tnil)) (Syntax.tcons (Syntax.tyInt
-      Syntax.w64) (Syntax.tcons (Syntax.tyInt Syntax.w64) (Syntax.tcons (Syntax.tyInt Syntax.w64) Syntax.tnil))))),
-) (List._∷_ (
-  6,
-  Rows.any-gone (Syntax.tyStruct (List._∷_ 116
-      (List._∷_ 121 (List._∷_ 112 (List._∷_ 101 (List._∷_ 115 (List._∷_ 58 (List._∷_ 58 (List._∷_ 67 (List._∷_ 111 (List._∷_ 100 (List._∷_ 101 (List._∷_ 115 (List._∷_ 116 (List._∷_
-      114 (List._∷_ 101 (List._∷_ 97 (List._∷_ 109 (List._∷_ 79 (List._∷_ 102 (List._∷_ 102 (List._∷_ 115 (List._∷_ 101 (List._∷_ 116 List.[]))))))))))))))))))))))) (Syntax.tcons
-      (Syntax.tyInt Syntax.w64) Syntax.tnil)),
-) (List._∷_ (7, Rows.any-gone (Syntax.tyInt Syntax.w64)) (List._∷_ (8, Rows.any-gone (Syntax.tyInt Syntax.w64)) (List._∷_ (
-  9,
-  Rows.any-gone (Syntax.tyInt Syntax.w64),
-) (List._∷_ (10, Rows.any-gone (Syntax.tyInt Syntax.w64)) (List._∷_ (11, Rows.sc-here Row.sUnit) (List._∷_ (
-  12,
-  Rows.any-gone
-      (Syntax.tyRef Syntax.erased Syntax.mut LentTilePartEntry.pointee),
-) (List._∷_ (
-  13,
-  Mut.msleft LentTilePartEntry.row (Syntax.tyRef Syntax.erased Syntax.mut
-      LentTilePartEntry.pointee),
-) (List._∷_ (14, Rows.any-gone (Syntax.tyRef Syntax.erased Syntax.mut (Syntax.tyInt Syntax.w8))) (List._∷_ (
-  15,
-  Rows.any-gone (Syntax.tyStruct
-      (List._∷_ 38 (List._∷_ 91 (List._∷_ 93 List.[]))) (Syntax.tcons (Syntax.tyRef Syntax.erased Syntax.mut (Syntax.tyInt Syntax.w8)) (Syntax.tcons (Syntax.tyInt Syntax.w64)
-      Syntax.tnil))),
-) List.[])))))))))))))))
+  Rows.any-gone (Syntax.tyStruct (List._∷_ 104 (List._∷_ 101 (List._∷_ 97
+      (List._∷_ 100 (List._∷_ 101 (List._∷_ 114 (List._∷_ 58 (List._∷_ 58 (List._∷_ 112 (List._∷_ 97 (List._∷_ 114 (List._∷_ 115 (List._∷_ 101 (List._∷_ 58 (List._∷_ 58 (List._∷_ 77
+      (List._∷_ 97 (List._∷_ 105 (List._∷_ 110 (List._∷_ 72 (List._∷_ 101 (List._∷_ 97 (List._∷_ 100 (List._∷_ 101 (List._∷_ 114 (List._∷_ 73 (List._∷_ 110 (List._∷_ 102 (List._∷_
+      111 List.[]))))))))))))))))))))))))))))) (Syntax.tcons (Syntax.tyStruct (List._∷_ 116 (List._∷_ 121 (List._∷_ 112 (List._∷_ 101 (List._∷_ 115 (List._∷_ 58 (List._∷_ 58
+      (List._∷_ 67 (List._∷_ 111 (List._∷_ 100 (List._∷_ 101 (List._∷_ 115 (List._∷_ 116 (List._∷_ 114 (List._∷_ 101 (List._∷_ 97 (List._∷_ 109 (List._∷_ 79 (List._∷_ 102 (List._∷_
+      102 (List._∷_ 115 (List._∷_ 101 (List._∷_ 116 List.[]))))))))))))))))))))))) (Syntax.tcons (Syntax.tyInt Syntax.w64) Syntax.tnil)) (Syntax.tcons (Syntax.tyInt Syntax.w64)
+      (Syntax.tcons (Syntax.tyInt Syntax.w64) (Syntax.tcons (Syntax.tyInt Syntax.w64) Syntax.tnil))))),
+) (List._∷_ (6, Rows.whole (Declared'.row CodestreamOffset.the-type)) (List._∷_
+    (7, Rows.any-gone (Syntax.tyInt Syntax.w64)) (List._∷_ (8, Rows.any-gone (Syntax.tyInt Syntax.w64)) (List._∷_ (9, Rows.any-gone (Syntax.tyInt Syntax.w64)) (List._∷_ (
+      10,
+      Rows.any-gone (Syntax.tyInt Syntax.w64),
+    ) (List._∷_ (11, Rows.any-gone Syntax.tyBool) (List._∷_ (12, Rows.any-gone (Syntax.tyInt Syntax.w64)) (List._∷_ (
+      13,
+      Rows.sc-here
+          (Row.sInt Syntax.w64),
+    ) (List._∷_ (14, Rows.any-gone (Syntax.tyRef Syntax.erased Syntax.mut (Syntax.tyInt Syntax.w8))) (List._∷_ (
+      15,
+      Rows.any-gone (Syntax.tyStruct (List._∷_ 38
+          (List._∷_ 91 (List._∷_ 93 List.[]))) (Syntax.tcons (Syntax.tyRef Syntax.erased Syntax.mut (Syntax.tyInt Syntax.w8)) (Syntax.tcons (Syntax.tyInt Syntax.w64) Syntax.tnil))),
+    )
+    List.[])))))))))))))))
 
 abbrev pub t21 : List.List Row.Entry
 t21 = List._∷_ (
@@ -1576,43 +1528,39 @@ t21 = List._∷_ (
       (Referent.rtF (Referent.fInt Syntax.w8)) (Syntax.tyRef (Syntax.named 0) Syntax.imm (Syntax.tyInt Syntax.w8)) 0,
 ) (List._∷_ (
   2,
-  Relend.mslice-owed LentTilePartEntry.row
-      (Syntax.tyRef (Syntax.named 1) Syntax.mut LentTilePartEntry.pointee) 1 3 Row.off,
+  Mut.mslice LentTilePartEntry.row (Syntax.tyRef
+      (Syntax.named 1) Syntax.mut LentTilePartEntry.pointee) 1,
 ) (List._∷_ (
   3,
-  Mut.mslice (Referent.rtF (Referent.fInt Syntax.w8)) (Syntax.tyRef (Syntax.named
-      2) Syntax.mut (Syntax.tyInt Syntax.w8)) 2,
+  Mut.mslice (Referent.rtF (Referent.fInt Syntax.w8)) (Syntax.tyRef (Syntax.named 2) Syntax.mut
+      (Syntax.tyInt Syntax.w8)) 2,
 ) (List._∷_ (4, Rows.whole (Declared.row MainHeader.the-type)) (List._∷_ (
   5,
-  Rows.any-gone (Syntax.tyStruct (List._∷_ 104 (List._∷_ 101
-      (List._∷_ 97 (List._∷_ 100 (List._∷_ 101 (List._∷_ 114 (List._∷_ 58 (List._∷_ 58 (List._∷_ 112 (List._∷_ 97 (List._∷_ 114 (List._∷_ 115 (List._∷_ 101 (List._∷_ 58 (List._∷_ 58
-      (List._∷_ 77 (List._∷_ 97 (List._∷_ 105 (List._∷_ 110 (List._∷_ 72 (List._∷_ 101 (List._∷_ 97 (List._∷_ 100 (List._∷_ 101 (List._∷_ 114 (List._∷_ 73 (List._∷_ 110 (List._∷_ 102
-      (List._∷_ 111 List.[]))))))))))))))))))))))))))))) (Syntax.tcons (Syntax.tyStruct (List._∷_ 116 (List._∷_ 121 (List._∷_ 112 (List._∷_ 101 (List._∷_ 115 (List._∷_ 58 (List._∷_
-      58 (List._∷_ 67 (List._∷_ 111 (List._∷_ 100 (List._∷_ 101 (List._∷_ 115 (List._∷_ 116 (List._∷_ 114 (List._∷_ 101 (List._∷_ 97 (List._∷_ 109 (List._∷_ 79 (List._∷_ 102
-      (List._∷_ 102 (List._∷_ 115 (List._∷_ 101 (List._∷_ 116 List.[]))))))))))))))))))))))) (Syntax.tcons (Syntax.tyInt Syntax.w64) Syntax.tnil)) (Syntax.tcons (Syntax.tyInt
-      Syntax.w64) (Syntax.tcons (Syntax.tyInt Syntax.w64) (Syntax.tcons (Syntax.tyInt Syntax.w64) Syntax.tnil))))),
+  Rows.any-gone (Syntax.tyStruct (List._∷_ 104 (List._∷_ 101 (List._∷_ 97
+      (List._∷_ 100 (List._∷_ 101 (List._∷_ 114 (List._∷_ 58 (List._∷_ 58 (List._∷_ 112 (List._∷_ 97 (List._∷_ 114 (List._∷_ 115 (List._∷_ 101 (List._∷_ 58 (List._∷_ 58 (List._∷_ 77
+      (List._∷_ 97 (List._∷_ 105 (List._∷_ 110 (List._∷_ 72 (List._∷_ 101 (List._∷_ 97 (List._∷_ 100 (List._∷_ 101 (List._∷_ 114 (List._∷_ 73 (List._∷_ 110 (List._∷_ 102 (List._∷_
+      111 List.[]))))))))))))))))))))))))))))) (Syntax.tcons (Syntax.tyStruct (List._∷_ 116 (List._∷_ 121 (List._∷_ 112 (List._∷_ 101 (List._∷_ 115 (List._∷_ 58 (List._∷_ 58
+      (List._∷_ 67 (List._∷_ 111 (List._∷_ 100 (List._∷_ 101 (List._∷_ 115 (List._∷_ 116 (List._∷_ 114 (List._∷_ 101 (List._∷_ 97 (List._∷_ 109 (List._∷_ 79 (List._∷_ 102 (List._∷_
+      102 (List._∷_ 115 (List._∷_ 101 (List._∷_ 116 List.[]))))))))))))))))))))))) (Syntax.tcons (Syntax.tyInt Syntax.w64) Syntax.tnil)) (Syntax.tcons (Syntax.tyInt Syntax.w64)
+      (Syntax.tcons (Syntax.tyInt Syntax.w64) (Syntax.tcons (Syntax.tyInt Syntax.w64) Syntax.tnil))))),
 ) (List._∷_ (
   6,
-  Rows.any-gone (Syntax.tyStruct (List._∷_ 116
-      (List._∷_ 121 (List._∷_ 112 (List._∷_ 101 (List._∷_ 115 (List._∷_ 58 (List._∷_ 58 (List._∷_ 67 (List._∷_ 111 (List._∷_ 100 (List._∷_ 101 (List._∷_ 115 (List._∷_ 116 (List._∷_
-      114 (List._∷_ 101 (List._∷_ 97 (List._∷_ 109 (List._∷_ 79 (List._∷_ 102 (List._∷_ 102 (List._∷_ 115 (List._∷_ 101 (List._∷_ 116 List.[]))))))))))))))))))))))) (Syntax.tcons
-      (Syntax.tyInt Syntax.w64) Syntax.tnil)),
+  Rows.any-gone (Syntax.tyStruct (List._∷_ 116 (List._∷_ 121
+      (List._∷_ 112 (List._∷_ 101 (List._∷_ 115 (List._∷_ 58 (List._∷_ 58 (List._∷_ 67 (List._∷_ 111 (List._∷_ 100 (List._∷_ 101 (List._∷_ 115 (List._∷_ 116 (List._∷_ 114 (List._∷_
+      101 (List._∷_ 97 (List._∷_ 109 (List._∷_ 79 (List._∷_ 102 (List._∷_ 102 (List._∷_ 115 (List._∷_ 101 (List._∷_ 116 List.[]))))))))))))))))))))))) (Syntax.tcons (Syntax.tyInt
+      Syntax.w64) Syntax.tnil)),
 ) (List._∷_ (7, Rows.any-gone (Syntax.tyInt Syntax.w64)) (List._∷_ (8, Rows.any-gone (Syntax.tyInt Syntax.w64)) (List._∷_ (
   9,
-  Rows.any-gone (Syntax.tyInt Syntax.w64),
-) (List._∷_ (10, Rows.any-gone (Syntax.tyInt Syntax.w64)) (List._∷_ (11, Rows.any-gone Syntax.tyUnit) (List._∷_ (
-  12,
   Rows.any-gone
-      (Syntax.tyRef Syntax.erased Syntax.mut LentTilePartEntry.pointee),
-) (List._∷_ (
-  13,
-  Mut.msleft LentTilePartEntry.row (Syntax.tyRef Syntax.erased Syntax.mut
-      LentTilePartEntry.pointee),
-) (List._∷_ (14, Rows.any-gone (Syntax.tyRef Syntax.erased Syntax.mut (Syntax.tyInt Syntax.w8))) (List._∷_ (
+      (Syntax.tyInt Syntax.w64),
+) (List._∷_ (10, Rows.any-gone (Syntax.tyInt Syntax.w64)) (List._∷_ (11, Rows.any-gone Syntax.tyBool) (List._∷_ (
+  12,
+  Rows.any-gone (Syntax.tyInt
+      Syntax.w64),
+) (List._∷_ (13, Rows.sc-here (Row.sInt Syntax.w64)) (List._∷_ (14, Rows.any-gone (Syntax.tyRef Syntax.erased Syntax.mut (Syntax.tyInt Syntax.w8))) (List._∷_ (
   15,
-  Rows.any-gone (Syntax.tyStruct
-      (List._∷_ 38 (List._∷_ 91 (List._∷_ 93 List.[]))) (Syntax.tcons (Syntax.tyRef Syntax.erased Syntax.mut (Syntax.tyInt Syntax.w8)) (Syntax.tcons (Syntax.tyInt Syntax.w64)
-      Syntax.tnil))),
+  Rows.any-gone (Syntax.tyStruct (List._∷_ 38 (List._∷_ 91 (List._∷_ 93 List.[]))) (Syntax.tcons (Syntax.tyRef Syntax.erased Syntax.mut (Syntax.tyInt Syntax.w8)) (Syntax.tcons
+      (Syntax.tyInt Syntax.w64) Syntax.tnil))),
 ) List.[])))))))))))))))
 
 abbrev pub t22 : List.List Row.Entry
@@ -1640,7 +1588,7 @@ t22 = List._∷_ (
 ) (List._∷_ (
   3,
   Relend.mslice-owed (Referent.rtF (Referent.fInt Syntax.w8)) (Syntax.tyRef (Syntax.named 2) Syntax.mut
-      (Syntax.tyInt Syntax.w8)) 2 4 Row.off,
+      (Syntax.tyInt Syntax.w8)) 2 3 Row.off,
 ) (List._∷_ (4, Rows.whole (Declared.row MainHeader.the-type)) (List._∷_ (
   5,
   Rows.any-gone (Syntax.tyStruct (List._∷_ 104 (List._∷_ 101
@@ -1659,22 +1607,18 @@ t22 = List._∷_ (
 ) (List._∷_ (7, Rows.any-gone (Syntax.tyInt Syntax.w64)) (List._∷_ (8, Rows.any-gone (Syntax.tyInt Syntax.w64)) (List._∷_ (
   9,
   Rows.any-gone (Syntax.tyInt Syntax.w64),
-) (List._∷_ (10, Rows.any-gone (Syntax.tyInt Syntax.w64)) (List._∷_ (11, Rows.any-gone Syntax.tyUnit) (List._∷_ (
+) (List._∷_ (10, Rows.any-gone (Syntax.tyInt Syntax.w64)) (List._∷_ (11, Rows.any-gone Syntax.tyBool) (List._∷_ (
   12,
   Rows.any-gone
-      (Syntax.tyRef Syntax.erased Syntax.mut LentTilePartEntry.pointee),
-) (List._∷_ (
-  13,
-  Rows.any-gone (Syntax.tyStruct (List._∷_ 38 (List._∷_ 91 (List._∷_ 93 List.[]))) (Syntax.tcons
-      (Syntax.tyRef Syntax.erased Syntax.mut LentTilePartEntry.pointee) (Syntax.tcons (Syntax.tyInt Syntax.w64) Syntax.tnil))),
-) (List._∷_ (
+      (Syntax.tyInt Syntax.w64),
+) (List._∷_ (13, Rows.sc-here (Row.sInt Syntax.w64)) (List._∷_ (
   14,
-  Relend.msptr (Referent.rtF
-      (Referent.fInt Syntax.w8)) (Syntax.tyRef Syntax.erased Syntax.mut (Syntax.tyInt Syntax.w8)) 4,
+  Relend.msptr (Referent.rtF (Referent.fInt Syntax.w8)) (Syntax.tyRef Syntax.erased
+      Syntax.mut (Syntax.tyInt Syntax.w8)) 3,
 ) (List._∷_ (
   15,
-  Rows.any-gone (Syntax.tyStruct (List._∷_ 38 (List._∷_ 91 (List._∷_
-      93 List.[]))) (Syntax.tcons (Syntax.tyRef Syntax.erased Syntax.mut (Syntax.tyInt Syntax.w8)) (Syntax.tcons (Syntax.tyInt Syntax.w64) Syntax.tnil))),
+  Rows.any-gone (Syntax.tyStruct (List._∷_ 38 (List._∷_ 91 (List._∷_ 93 List.[]))) (Syntax.tcons (Syntax.tyRef
+      Syntax.erased Syntax.mut (Syntax.tyInt Syntax.w8)) (Syntax.tcons (Syntax.tyInt Syntax.w64) Syntax.tnil))),
 ) List.[])))))))))))))))
 
 abbrev pub t23 : List.List Row.Entry
@@ -1702,7 +1646,7 @@ t23 = List._∷_ (
 ) (List._∷_ (
   3,
   Relend.mslice-owed (Referent.rtF (Referent.fInt Syntax.w8)) (Syntax.tyRef (Syntax.named 2) Syntax.mut
-      (Syntax.tyInt Syntax.w8)) 2 4 Row.off,
+      (Syntax.tyInt Syntax.w8)) 2 3 Row.off,
 ) (List._∷_ (4, Rows.whole (Declared.row MainHeader.the-type)) (List._∷_ (
   5,
   Rows.any-gone (Syntax.tyStruct (List._∷_ 104 (List._∷_ 101
@@ -1721,23 +1665,12 @@ t23 = List._∷_ (
 ) (List._∷_ (7, Rows.any-gone (Syntax.tyInt Syntax.w64)) (List._∷_ (8, Rows.any-gone (Syntax.tyInt Syntax.w64)) (List._∷_ (
   9,
   Rows.any-gone (Syntax.tyInt Syntax.w64),
-) (List._∷_ (10, Rows.any-gone (Syntax.tyInt Syntax.w64)) (List._∷_ (11, Rows.any-gone Syntax.tyUnit) (List._∷_ (
+) (List._∷_ (10, Rows.any-gone (Syntax.tyInt Syntax.w64)) (List._∷_ (11, Rows.any-gone Syntax.tyBool) (List._∷_ (
   12,
   Rows.any-gone
-      (Syntax.tyRef Syntax.erased Syntax.mut LentTilePartEntry.pointee),
-) (List._∷_ (
-  13,
-  Rows.any-gone (Syntax.tyStruct (List._∷_ 38 (List._∷_ 91 (List._∷_ 93 List.[]))) (Syntax.tcons
-      (Syntax.tyRef Syntax.erased Syntax.mut LentTilePartEntry.pointee) (Syntax.tcons (Syntax.tyInt Syntax.w64) Syntax.tnil))),
-) (List._∷_ (
-  14,
-  Rows.any-gone (Syntax.tyRef
-      Syntax.erased Syntax.mut (Syntax.tyInt Syntax.w8)),
-) (List._∷_ (
-  15,
-  Mut.mslice (Referent.rtF (Referent.fInt Syntax.w8)) (Syntax.tyRef Syntax.erased Syntax.mut (Syntax.tyInt
-      Syntax.w8)) 4,
-) List.[])))))))))))))))
+      (Syntax.tyInt Syntax.w64),
+) (List._∷_ (13, Rows.sc-here (Row.sInt Syntax.w64)) (List._∷_ (14, Rows.any-gone (Syntax.tyRef Syntax.erased Syntax.mut (Syntax.tyInt Syntax.w8)))
+    (List._∷_ (15, Mut.mslice (Referent.rtF (Referent.fInt Syntax.w8)) (Syntax.tyRef Syntax.erased Syntax.mut (Syntax.tyInt Syntax.w8)) 3) List.[])))))))))))))))
 
 abbrev pub t24 : List.List Row.Entry
 t24 = List._∷_ (
@@ -1764,7 +1697,7 @@ t24 = List._∷_ (
 ) (List._∷_ (
   3,
   Relend.mslice-owed (Referent.rtF (Referent.fInt Syntax.w8)) (Syntax.tyRef (Syntax.named 2) Syntax.mut
-      (Syntax.tyInt Syntax.w8)) 2 4 Row.off,
+      (Syntax.tyInt Syntax.w8)) 2 3 Row.off,
 ) (List._∷_ (4, Rows.whole (Declared.row MainHeader.the-type)) (List._∷_ (
   5,
   Rows.any-gone (Syntax.tyStruct (List._∷_ 104 (List._∷_ 101
@@ -1783,23 +1716,12 @@ t24 = List._∷_ (
 ) (List._∷_ (7, Rows.any-gone (Syntax.tyInt Syntax.w64)) (List._∷_ (8, Rows.any-gone (Syntax.tyInt Syntax.w64)) (List._∷_ (
   9,
   Rows.any-gone (Syntax.tyInt Syntax.w64),
-) (List._∷_ (10, Rows.any-gone (Syntax.tyInt Syntax.w64)) (List._∷_ (11, Rows.sc-here Row.sUnit) (List._∷_ (
+) (List._∷_ (10, Rows.any-gone (Syntax.tyInt Syntax.w64)) (List._∷_ (11, Rows.any-gone Syntax.tyBool) (List._∷_ (
   12,
-  Rows.any-gone
-      (Syntax.tyRef Syntax.erased Syntax.mut LentTilePartEntry.pointee),
-) (List._∷_ (
-  13,
-  Rows.any-gone (Syntax.tyStruct (List._∷_ 38 (List._∷_ 91 (List._∷_ 93 List.[]))) (Syntax.tcons
-      (Syntax.tyRef Syntax.erased Syntax.mut LentTilePartEntry.pointee) (Syntax.tcons (Syntax.tyInt Syntax.w64) Syntax.tnil))),
-) (List._∷_ (
-  14,
-  Rows.any-gone (Syntax.tyRef
-      Syntax.erased Syntax.mut (Syntax.tyInt Syntax.w8)),
-) (List._∷_ (
-  15,
-  Mut.msleft (Referent.rtF (Referent.fInt Syntax.w8)) (Syntax.tyRef Syntax.erased Syntax.mut (Syntax.tyInt
-      Syntax.w8)),
-) List.[])))))))))))))))
+  Rows.sc-here
+      (Row.sInt Syntax.w64),
+) (List._∷_ (13, Rows.sc-here (Row.sInt Syntax.w64)) (List._∷_ (14, Rows.any-gone (Syntax.tyRef Syntax.erased Syntax.mut (Syntax.tyInt Syntax.w8)))
+    (List._∷_ (15, Mut.msleft (Referent.rtF (Referent.fInt Syntax.w8)) (Syntax.tyRef Syntax.erased Syntax.mut (Syntax.tyInt Syntax.w8))) List.[])))))))))))))))
 
 abbrev pub t25 : List.List Row.Entry
 t25 = List._∷_ (
@@ -1826,7 +1748,7 @@ t25 = List._∷_ (
 ) (List._∷_ (
   3,
   Relend.mslice-owed (Referent.rtF (Referent.fInt Syntax.w8)) (Syntax.tyRef (Syntax.named 2) Syntax.mut
-      (Syntax.tyInt Syntax.w8)) 2 4 Row.off,
+      (Syntax.tyInt Syntax.w8)) 2 3 Row.off,
 ) (List._∷_ (4, Rows.whole (Declared.row MainHeader.the-type)) (List._∷_ (
   5,
   Rows.any-gone (Syntax.tyStruct (List._∷_ 104 (List._∷_ 101
@@ -1845,140 +1767,510 @@ t25 = List._∷_ (
 ) (List._∷_ (7, Rows.any-gone (Syntax.tyInt Syntax.w64)) (List._∷_ (8, Rows.any-gone (Syntax.tyInt Syntax.w64)) (List._∷_ (
   9,
   Rows.any-gone (Syntax.tyInt Syntax.w64),
-) (List._∷_ (10, Rows.any-gone (Syntax.tyInt Syntax.w64)) (List._∷_ (11, Rows.any-gone Syntax.tyUnit) (List._∷_ (
+) (List._∷_ (10, Rows.any-gone (Syntax.tyInt Syntax.w64)) (List._∷_ (11, Rows.any-gone Syntax.tyBool) (List._∷_ (
   12,
   Rows.any-gone
-      (Syntax.tyRef Syntax.erased Syntax.mut LentTilePartEntry.pointee),
+      (Syntax.tyInt Syntax.w64),
+) (List._∷_ (13, Rows.sc-here (Row.sInt Syntax.w64)) (List._∷_ (14, Rows.any-gone (Syntax.tyRef Syntax.erased Syntax.mut (Syntax.tyInt Syntax.w8)))
+    (List._∷_ (15, Mut.msleft (Referent.rtF (Referent.fInt Syntax.w8)) (Syntax.tyRef Syntax.erased Syntax.mut (Syntax.tyInt Syntax.w8))) List.[])))))))))))))))
+
+abbrev pub t26 : List.List Row.Entry
+t26 = List._∷_ (
+  0,
+  Rows.any-gone (Syntax.tyEnum (List._∷_ 104 (List._∷_ 101 (List._∷_ 97 (List._∷_ 100 (List._∷_ 101 (List._∷_ 114 (List._∷_ 58 (List._∷_ 58 (List._∷_ 112 (List._∷_
+      97 (List._∷_ 114 (List._∷_ 115 (List._∷_ 101 (List._∷_ 58 (List._∷_ 58 (List._∷_ 77 (List._∷_ 97 (List._∷_ 105 (List._∷_ 110 (List._∷_ 72 (List._∷_ 101 (List._∷_ 97 (List._∷_
+      100 (List._∷_ 101 (List._∷_ 114 List.[]))))))))))))))))))))))))) (Syntax.ttcons (Syntax.tcons (Syntax.tyStruct (List._∷_ 104 (List._∷_ 101 (List._∷_ 97 (List._∷_ 100 (List._∷_
+      101 (List._∷_ 114 (List._∷_ 58 (List._∷_ 58 (List._∷_ 112 (List._∷_ 97 (List._∷_ 114 (List._∷_ 115 (List._∷_ 101 (List._∷_ 58 (List._∷_ 58 (List._∷_ 77 (List._∷_ 97 (List._∷_
+      105 (List._∷_ 110 (List._∷_ 72 (List._∷_ 101 (List._∷_ 97 (List._∷_ 100 (List._∷_ 101 (List._∷_ 114 (List._∷_ 73 (List._∷_ 110 (List._∷_ 102 (List._∷_ 111
+      List.[]))))))))))))))))))))))))))))) (Syntax.tcons (Syntax.tyStruct (List._∷_ 116 (List._∷_ 121 (List._∷_ 112 (List._∷_ 101 (List._∷_ 115 (List._∷_ 58 (List._∷_ 58 (List._∷_ 67
+      (List._∷_ 111 (List._∷_ 100 (List._∷_ 101 (List._∷_ 115 (List._∷_ 116 (List._∷_ 114 (List._∷_ 101 (List._∷_ 97 (List._∷_ 109 (List._∷_ 79 (List._∷_ 102 (List._∷_ 102 (List._∷_
+      115 (List._∷_ 101 (List._∷_ 116 List.[]))))))))))))))))))))))) (Syntax.tcons (Syntax.tyInt Syntax.w64) Syntax.tnil)) (Syntax.tcons (Syntax.tyInt Syntax.w64) (Syntax.tcons
+      (Syntax.tyInt Syntax.w64) (Syntax.tcons (Syntax.tyInt Syntax.w64) Syntax.tnil))))) Syntax.tnil) (Syntax.ttcons (Syntax.tcons (Syntax.tyStruct (List._∷_ 116 (List._∷_ 121
+      (List._∷_ 112 (List._∷_ 101 (List._∷_ 115 (List._∷_ 58 (List._∷_ 58 (List._∷_ 82 (List._∷_ 101 (List._∷_ 102 (List._∷_ 117 (List._∷_ 115 (List._∷_ 97 (List._∷_ 108
+      List.[])))))))))))))) (Syntax.tcons (Syntax.tyInt Syntax.w32) (Syntax.tcons (Syntax.tyInt Syntax.w64) Syntax.tnil))) Syntax.tnil) Syntax.ttnil))),
 ) (List._∷_ (
-  13,
-  Rows.any-gone (Syntax.tyStruct (List._∷_ 38 (List._∷_ 91 (List._∷_ 93 List.[]))) (Syntax.tcons
-      (Syntax.tyRef Syntax.erased Syntax.mut LentTilePartEntry.pointee) (Syntax.tcons (Syntax.tyInt Syntax.w64) Syntax.tnil))),
+  1,
+  Rows.sslice
+      (Referent.rtF (Referent.fInt Syntax.w8)) (Syntax.tyRef (Syntax.named 0) Syntax.imm (Syntax.tyInt Syntax.w8)) 0,
 ) (List._∷_ (
+  2,
+  Mut.mslice LentTilePartEntry.row (Syntax.tyRef
+      (Syntax.named 1) Syntax.mut LentTilePartEntry.pointee) 1,
+) (List._∷_ (
+  3,
+  Relend.mslice-owed (Referent.rtF (Referent.fInt Syntax.w8)) (Syntax.tyRef (Syntax.named 2) Syntax.mut
+      (Syntax.tyInt Syntax.w8)) 2 3 Row.off,
+) (List._∷_ (4, Rows.whole (Declared.row MainHeader.the-type)) (List._∷_ (
+  5,
+  Rows.any-gone (Syntax.tyStruct (List._∷_ 104 (List._∷_ 101
+      (List._∷_ 97 (List._∷_ 100 (List._∷_ 101 (List._∷_ 114 (List._∷_ 58 (List._∷_ 58 (List._∷_ 112 (List._∷_ 97 (List._∷_ 114 (List._∷_ 115 (List._∷_ 101 (List._∷_ 58 (List._∷_ 58
+      (List._∷_ 77 (List._∷_ 97 (List._∷_ 105 (List._∷_ 110 (List._∷_ 72 (List._∷_ 101 (List._∷_ 97 (List._∷_ 100 (List._∷_ 101 (List._∷_ 114 (List._∷_ 73 (List._∷_ 110 (List._∷_ 102
+      (List._∷_ 111 List.[]))))))))))))))))))))))))))))) (Syntax.tcons (Syntax.tyStruct (List._∷_ 116 (List._∷_ 121 (List._∷_ 112 (List._∷_ 101 (List._∷_ 115 (List._∷_ 58 (List._∷_
+      58 (List._∷_ 67 (List._∷_ 111 (List._∷_ 100 (List._∷_ 101 (List._∷_ 115 (List._∷_ 116 (List._∷_ 114 (List._∷_ 101 (List._∷_ 97 (List._∷_ 109 (List._∷_ 79 (List._∷_ 102
+      (List._∷_ 102 (List._∷_ 115 (List._∷_ 101 (List._∷_ 116 List.[]))))))))))))))))))))))) (Syntax.tcons (Syntax.tyInt Syntax.w64) Syntax.tnil)) (Syntax.tcons (Syntax.tyInt
+      Syntax.w64) (Syntax.tcons (Syntax.tyInt Syntax.w64) (Syntax.tcons (Syntax.tyInt Syntax.w64) Syntax.tnil))))),
+) (List._∷_ (
+  6,
+  Rows.any-gone (Syntax.tyStruct (List._∷_ 116
+      (List._∷_ 121 (List._∷_ 112 (List._∷_ 101 (List._∷_ 115 (List._∷_ 58 (List._∷_ 58 (List._∷_ 67 (List._∷_ 111 (List._∷_ 100 (List._∷_ 101 (List._∷_ 115 (List._∷_ 116 (List._∷_
+      114 (List._∷_ 101 (List._∷_ 97 (List._∷_ 109 (List._∷_ 79 (List._∷_ 102 (List._∷_ 102 (List._∷_ 115 (List._∷_ 101 (List._∷_ 116 List.[]))))))))))))))))))))))) (Syntax.tcons
+      (Syntax.tyInt Syntax.w64) Syntax.tnil)),
+) (List._∷_ (7, Rows.any-gone (Syntax.tyInt Syntax.w64)) (List._∷_ (8, Rows.any-gone (Syntax.tyInt Syntax.w64)) (List._∷_ (
+  9,
+  Rows.any-gone (Syntax.tyInt Syntax.w64),
+) (List._∷_ (10, Rows.any-gone (Syntax.tyInt Syntax.w64)) (List._∷_ (11, Rows.any-gone Syntax.tyBool) (List._∷_ (
+  12,
+  Rows.any-gone
+      (Syntax.tyInt Syntax.w64),
+) (List._∷_ (13, Rows.any-gone (Syntax.tyInt Syntax.w64)) (List._∷_ (
   14,
-  Rows.any-gone (Syntax.tyRef
-      Syntax.erased Syntax.mut (Syntax.tyInt Syntax.w8)),
-) (List._∷_ (
-  15,
-  Mut.msleft (Referent.rtF (Referent.fInt Syntax.w8)) (Syntax.tyRef Syntax.erased Syntax.mut (Syntax.tyInt
+  Rows.any-gone (Syntax.tyRef Syntax.erased Syntax.mut (Syntax.tyInt
       Syntax.w8)),
+) (List._∷_ (15, Mut.msleft (Referent.rtF (Referent.fInt Syntax.w8)) (Syntax.tyRef Syntax.erased Syntax.mut (Syntax.tyInt Syntax.w8))) List.[])))))))))))))))
+
+abbrev pub t27 : List.List Row.Entry
+t27 = List._∷_ (
+  0,
+  Rows.any-gone (Syntax.tyEnum (List._∷_ 104 (List._∷_ 101 (List._∷_ 97 (List._∷_ 100 (List._∷_ 101 (List._∷_ 114 (List._∷_ 58 (List._∷_ 58 (List._∷_ 112 (List._∷_
+      97 (List._∷_ 114 (List._∷_ 115 (List._∷_ 101 (List._∷_ 58 (List._∷_ 58 (List._∷_ 77 (List._∷_ 97 (List._∷_ 105 (List._∷_ 110 (List._∷_ 72 (List._∷_ 101 (List._∷_ 97 (List._∷_
+      100 (List._∷_ 101 (List._∷_ 114 List.[]))))))))))))))))))))))))) (Syntax.ttcons (Syntax.tcons (Syntax.tyStruct (List._∷_ 104 (List._∷_ 101 (List._∷_ 97 (List._∷_ 100 (List._∷_
+      101 (List._∷_ 114 (List._∷_ 58 (List._∷_ 58 (List._∷_ 112 (List._∷_ 97 (List._∷_ 114 (List._∷_ 115 (List._∷_ 101 (List._∷_ 58 (List._∷_ 58 (List._∷_ 77 (List._∷_ 97 (List._∷_
+      105 (List._∷_ 110 (List._∷_ 72 (List._∷_ 101 (List._∷_ 97 (List._∷_ 100 (List._∷_ 101 (List._∷_ 114 (List._∷_ 73 (List._∷_ 110 (List._∷_ 102 (List._∷_ 111
+      List.[]))))))))))))))))))))))))))))) (Syntax.tcons (Syntax.tyStruct (List._∷_ 116 (List._∷_ 121 (List._∷_ 112 (List._∷_ 101 (List._∷_ 115 (List._∷_ 58 (List._∷_ 58 (List._∷_ 67
+      (List._∷_ 111 (List._∷_ 100 (List._∷_ 101 (List._∷_ 115 (List._∷_ 116 (List._∷_ 114 (List._∷_ 101 (List._∷_ 97 (List._∷_ 109 (List._∷_ 79 (List._∷_ 102 (List._∷_ 102 (List._∷_
+      115 (List._∷_ 101 (List._∷_ 116 List.[]))))))))))))))))))))))) (Syntax.tcons (Syntax.tyInt Syntax.w64) Syntax.tnil)) (Syntax.tcons (Syntax.tyInt Syntax.w64) (Syntax.tcons
+      (Syntax.tyInt Syntax.w64) (Syntax.tcons (Syntax.tyInt Syntax.w64) Syntax.tnil))))) Syntax.tnil) (Syntax.ttcons (Syntax.tcons (Syntax.tyStruct (List._∷_ 116 (List._∷_ 121
+      (List._∷_ 112 (List._∷_ 101 (List._∷_ 115 (List._∷_ 58 (List._∷_ 58 (List._∷_ 82 (List._∷_ 101 (List._∷_ 102 (List._∷_ 117 (List._∷_ 115 (List._∷_ 97 (List._∷_ 108
+      List.[])))))))))))))) (Syntax.tcons (Syntax.tyInt Syntax.w32) (Syntax.tcons (Syntax.tyInt Syntax.w64) Syntax.tnil))) Syntax.tnil) Syntax.ttnil))),
+) (List._∷_ (
+  1,
+  Rows.sslice
+      (Referent.rtF (Referent.fInt Syntax.w8)) (Syntax.tyRef (Syntax.named 0) Syntax.imm (Syntax.tyInt Syntax.w8)) 0,
+) (List._∷_ (
+  2,
+  Relend.mslice-owed LentTilePartEntry.row
+      (Syntax.tyRef (Syntax.named 1) Syntax.mut LentTilePartEntry.pointee) 1 4 Row.off,
+) (List._∷_ (
+  3,
+  Mut.mslice (Referent.rtF (Referent.fInt Syntax.w8)) (Syntax.tyRef (Syntax.named
+      2) Syntax.mut (Syntax.tyInt Syntax.w8)) 2,
+) (List._∷_ (4, Rows.whole (Declared.row MainHeader.the-type)) (List._∷_ (
+  5,
+  Rows.any-gone (Syntax.tyStruct (List._∷_ 104 (List._∷_ 101
+      (List._∷_ 97 (List._∷_ 100 (List._∷_ 101 (List._∷_ 114 (List._∷_ 58 (List._∷_ 58 (List._∷_ 112 (List._∷_ 97 (List._∷_ 114 (List._∷_ 115 (List._∷_ 101 (List._∷_ 58 (List._∷_ 58
+      (List._∷_ 77 (List._∷_ 97 (List._∷_ 105 (List._∷_ 110 (List._∷_ 72 (List._∷_ 101 (List._∷_ 97 (List._∷_ 100 (List._∷_ 101 (List._∷_ 114 (List._∷_ 73 (List._∷_ 110 (List._∷_ 102
+      (List._∷_ 111 List.[]))))))))))))))))))))))))))))) (Syntax.tcons (Syntax.tyStruct (List._∷_ 116 (List._∷_ 121 (List._∷_ 112 (List._∷_ 101 (List._∷_ 115 (List._∷_ 58 (List._∷_
+      58 (List._∷_ 67 (List._∷_ 111 (List._∷_ 100 (List._∷_ 101 (List._∷_ 115 (List._∷_ 116 (List._∷_ 114 (List._∷_ 101 (List._∷_ 97 (List._∷_ 109 (List._∷_ 79 (List._∷_ 102
+      (List._∷_ 102 (List._∷_ 115 (List._∷_ 101 (List._∷_ 116 List.[]))))))))))))))))))))))) (Syntax.tcons (Syntax.tyInt Syntax.w64) Syntax.tnil)) (Syntax.tcons (Syntax.tyInt
+      Syntax.w64) (Syntax.tcons (Syntax.tyInt Syntax.w64) (Syntax.tcons (Syntax.tyInt Syntax.w64) Syntax.tnil))))),
+) (List._∷_ (
+  6,
+  Rows.whole (Declared'.row
+      CodestreamOffset.the-type),
+) (List._∷_ (7, Rows.any-gone (Syntax.tyInt Syntax.w64)) (List._∷_ (8, Rows.any-gone (Syntax.tyInt Syntax.w64)) (List._∷_ (
+  9,
+  Rows.any-gone
+      (Syntax.tyInt Syntax.w64),
+) (List._∷_ (10, Rows.any-gone (Syntax.tyInt Syntax.w64)) (List._∷_ (11, Rows.any-gone Syntax.tyBool) (List._∷_ (
+  12,
+  Rows.any-gone (Syntax.tyInt
+      Syntax.w64),
+) (List._∷_ (13, Rows.any-gone (Syntax.tyInt Syntax.w64)) (List._∷_ (14, Rows.any-gone (Syntax.tyRef Syntax.erased Syntax.mut (Syntax.tyInt Syntax.w8))) (List._∷_ (
+  15,
+  Rows.any-gone (Syntax.tyStruct (List._∷_ 38 (List._∷_ 91 (List._∷_ 93 List.[]))) (Syntax.tcons (Syntax.tyRef Syntax.erased Syntax.mut (Syntax.tyInt Syntax.w8))
+      (Syntax.tcons (Syntax.tyInt Syntax.w64) Syntax.tnil))),
 ) List.[])))))))))))))))
 
+abbrev pub t28 : List.List Row.Entry
+t28 = List._∷_ (16, Rows.any-gone Syntax.tyUnit) (List._∷_ (17, Relend.msptr LentTilePartEntry.row (Syntax.tyRef Syntax.erased Syntax.mut LentTilePartEntry.pointee) 4) (List._∷_ (
+  18,
+  Rows.any-gone (Syntax.tyStruct (List._∷_ 38 (List._∷_ 91 (List._∷_ 93 List.[]))) (Syntax.tcons (Syntax.tyRef Syntax.erased Syntax.mut LentTilePartEntry.pointee)
+      (Syntax.tcons (Syntax.tyInt Syntax.w64) Syntax.tnil))),
+) (List._∷_ (19, Rows.any-gone (Syntax.tyRef Syntax.erased Syntax.mut (Syntax.tyInt Syntax.w8))) (List._∷_ (
+  20,
+  Rows.any-gone (Syntax.tyStruct (List._∷_ 38 (List._∷_ 91 (List._∷_ 93 List.[]))) (Syntax.tcons (Syntax.tyRef Syntax.erased Syntax.mut (Syntax.tyInt Syntax.w8)) (Syntax.tcons
+      (Syntax.tyInt Syntax.w64) Syntax.tnil))),
+) List.[]))))
+
+abbrev pub t29 : List.List Row.Entry
+t29 = List._∷_ (16, Rows.any-gone Syntax.tyUnit) (List._∷_ (17, Rows.any-gone (Syntax.tyRef Syntax.erased Syntax.mut LentTilePartEntry.pointee)) (List._∷_ (
+  18,
+  Mut.mslice
+      LentTilePartEntry.row (Syntax.tyRef Syntax.erased Syntax.mut LentTilePartEntry.pointee) 4,
+) (List._∷_ (
+  19,
+  Rows.any-gone (Syntax.tyRef Syntax.erased Syntax.mut (Syntax.tyInt
+      Syntax.w8)),
+) (List._∷_ (
+  20,
+  Rows.any-gone (Syntax.tyStruct (List._∷_ 38 (List._∷_ 91 (List._∷_ 93 List.[]))) (Syntax.tcons (Syntax.tyRef Syntax.erased Syntax.mut (Syntax.tyInt
+      Syntax.w8)) (Syntax.tcons (Syntax.tyInt Syntax.w64) Syntax.tnil))),
+) List.[]))))
+
+abbrev pub t30 : List.List Row.Entry
+t30 = List._∷_ (16, Rows.sc-here Row.sUnit) (List._∷_ (17, Rows.any-gone (Syntax.tyRef Syntax.erased Syntax.mut LentTilePartEntry.pointee)) (List._∷_ (
+  18,
+  Mut.msleft
+      LentTilePartEntry.row (Syntax.tyRef Syntax.erased Syntax.mut LentTilePartEntry.pointee),
+) (List._∷_ (
+  19,
+  Rows.any-gone (Syntax.tyRef Syntax.erased Syntax.mut (Syntax.tyInt
+      Syntax.w8)),
+) (List._∷_ (
+  20,
+  Rows.any-gone (Syntax.tyStruct (List._∷_ 38 (List._∷_ 91 (List._∷_ 93 List.[]))) (Syntax.tcons (Syntax.tyRef Syntax.erased Syntax.mut (Syntax.tyInt
+      Syntax.w8)) (Syntax.tcons (Syntax.tyInt Syntax.w64) Syntax.tnil))),
+) List.[]))))
+
+abbrev pub t31 : List.List Row.Entry
+t31 = List._∷_ (
+  0,
+  Rows.any-gone (Syntax.tyEnum (List._∷_ 104 (List._∷_ 101 (List._∷_ 97 (List._∷_ 100 (List._∷_ 101 (List._∷_ 114 (List._∷_ 58 (List._∷_ 58 (List._∷_ 112 (List._∷_
+      97 (List._∷_ 114 (List._∷_ 115 (List._∷_ 101 (List._∷_ 58 (List._∷_ 58 (List._∷_ 77 (List._∷_ 97 (List._∷_ 105 (List._∷_ 110 (List._∷_ 72 (List._∷_ 101 (List._∷_ 97 (List._∷_
+      100 (List._∷_ 101 (List._∷_ 114 List.[]))))))))))))))))))))))))) (Syntax.ttcons (Syntax.tcons (Syntax.tyStruct (List._∷_ 104 (List._∷_ 101 (List._∷_ 97 (List._∷_ 100 (List._∷_
+      101 (List._∷_ 114 (List._∷_ 58 (List._∷_ 58 (List._∷_ 112 (List._∷_ 97 (List._∷_ 114 (List._∷_ 115 (List._∷_ 101 (List._∷_ 58 (List._∷_ 58 (List._∷_ 77 (List._∷_ 97 (List._∷_
+      105 (List._∷_ 110 (List._∷_ 72 (List._∷_ 101 (List._∷_ 97 (List._∷_ 100 (List._∷_ 101 (List._∷_ 114 (List._∷_ 73 (List._∷_ 110 (List._∷_ 102 (List._∷_ 111
+      List.[]))))))))))))))))))))))))))))) (Syntax.tcons (Syntax.tyStruct (List._∷_ 116 (List._∷_ 121 (List._∷_ 112 (List._∷_ 101 (List._∷_ 115 (List._∷_ 58 (List._∷_ 58 (List._∷_ 67
+      (List._∷_ 111 (List._∷_ 100 (List._∷_ 101 (List._∷_ 115 (List._∷_ 116 (List._∷_ 114 (List._∷_ 101 (List._∷_ 97 (List._∷_ 109 (List._∷_ 79 (List._∷_ 102 (List._∷_ 102 (List._∷_
+      115 (List._∷_ 101 (List._∷_ 116 List.[]))))))))))))))))))))))) (Syntax.tcons (Syntax.tyInt Syntax.w64) Syntax.tnil)) (Syntax.tcons (Syntax.tyInt Syntax.w64) (Syntax.tcons
+      (Syntax.tyInt Syntax.w64) (Syntax.tcons (Syntax.tyInt Syntax.w64) Syntax.tnil))))) Syntax.tnil) (Syntax.ttcons (Syntax.tcons (Syntax.tyStruct (List._∷_ 116 (List._∷_ 121
+      (List._∷_ 112 (List._∷_ 101 (List._∷_ 115 (List._∷_ 58 (List._∷_ 58 (List._∷_ 82 (List._∷_ 101 (List._∷_ 102 (List._∷_ 117 (List._∷_ 115 (List._∷_ 97 (List._∷_ 108
+      List.[])))))))))))))) (Syntax.tcons (Syntax.tyInt Syntax.w32) (Syntax.tcons (Syntax.tyInt Syntax.w64) Syntax.tnil))) Syntax.tnil) Syntax.ttnil))),
+) (List._∷_ (
+  1,
+  Rows.sslice
+      (Referent.rtF (Referent.fInt Syntax.w8)) (Syntax.tyRef (Syntax.named 0) Syntax.imm (Syntax.tyInt Syntax.w8)) 0,
+) (List._∷_ (
+  2,
+  Relend.mslice-owed LentTilePartEntry.row
+      (Syntax.tyRef (Syntax.named 1) Syntax.mut LentTilePartEntry.pointee) 1 4 Row.off,
+) (List._∷_ (
+  3,
+  Mut.mslice (Referent.rtF (Referent.fInt Syntax.w8)) (Syntax.tyRef (Syntax.named
+      2) Syntax.mut (Syntax.tyInt Syntax.w8)) 2,
+) (List._∷_ (4, Rows.whole (Declared.row MainHeader.the-type)) (List._∷_ (
+  5,
+  Rows.any-gone (Syntax.tyStruct (List._∷_ 104 (List._∷_ 101
+      (List._∷_ 97 (List._∷_ 100 (List._∷_ 101 (List._∷_ 114 (List._∷_ 58 (List._∷_ 58 (List._∷_ 112 (List._∷_ 97 (List._∷_ 114 (List._∷_ 115 (List._∷_ 101 (List._∷_ 58 (List._∷_ 58
+      (List._∷_ 77 (List._∷_ 97 (List._∷_ 105 (List._∷_ 110 (List._∷_ 72 (List._∷_ 101 (List._∷_ 97 (List._∷_ 100 (List._∷_ 101 (List._∷_ 114 (List._∷_ 73 (List._∷_ 110 (List._∷_ 102
+      (List._∷_ 111 List.[]))))))))))))))))))))))))))))) (Syntax.tcons (Syntax.tyStruct (List._∷_ 116 (List._∷_ 121 (List._∷_ 112 (List._∷_ 101 (List._∷_ 115 (List._∷_ 58 (List._∷_
+      58 (List._∷_ 67 (List._∷_ 111 (List._∷_ 100 (List._∷_ 101 (List._∷_ 115 (List._∷_ 116 (List._∷_ 114 (List._∷_ 101 (List._∷_ 97 (List._∷_ 109 (List._∷_ 79 (List._∷_ 102
+      (List._∷_ 102 (List._∷_ 115 (List._∷_ 101 (List._∷_ 116 List.[]))))))))))))))))))))))) (Syntax.tcons (Syntax.tyInt Syntax.w64) Syntax.tnil)) (Syntax.tcons (Syntax.tyInt
+      Syntax.w64) (Syntax.tcons (Syntax.tyInt Syntax.w64) (Syntax.tcons (Syntax.tyInt Syntax.w64) Syntax.tnil))))),
+) (List._∷_ (
+  6,
+  Rows.any-gone (Syntax.tyStruct (List._∷_ 116
+      (List._∷_ 121 (List._∷_ 112 (List._∷_ 101 (List._∷_ 115 (List._∷_ 58 (List._∷_ 58 (List._∷_ 67 (List._∷_ 111 (List._∷_ 100 (List._∷_ 101 (List._∷_ 115 (List._∷_ 116 (List._∷_
+      114 (List._∷_ 101 (List._∷_ 97 (List._∷_ 109 (List._∷_ 79 (List._∷_ 102 (List._∷_ 102 (List._∷_ 115 (List._∷_ 101 (List._∷_ 116 List.[]))))))))))))))))))))))) (Syntax.tcons
+      (Syntax.tyInt Syntax.w64) Syntax.tnil)),
+) (List._∷_ (7, Rows.any-gone (Syntax.tyInt Syntax.w64)) (List._∷_ (8, Rows.any-gone (Syntax.tyInt Syntax.w64)) (List._∷_ (
+  9,
+  Rows.any-gone (Syntax.tyInt Syntax.w64),
+) (List._∷_ (10, Rows.any-gone (Syntax.tyInt Syntax.w64)) (List._∷_ (11, Rows.any-gone Syntax.tyBool) (List._∷_ (
+  12,
+  Rows.any-gone
+      (Syntax.tyInt Syntax.w64),
+) (List._∷_ (13, Rows.any-gone (Syntax.tyInt Syntax.w64)) (List._∷_ (
+  14,
+  Rows.any-gone (Syntax.tyRef Syntax.erased Syntax.mut (Syntax.tyInt
+      Syntax.w8)),
+) (List._∷_ (
+  15,
+  Rows.any-gone (Syntax.tyStruct (List._∷_ 38 (List._∷_ 91 (List._∷_ 93 List.[]))) (Syntax.tcons (Syntax.tyRef Syntax.erased Syntax.mut (Syntax.tyInt
+      Syntax.w8)) (Syntax.tcons (Syntax.tyInt Syntax.w64) Syntax.tnil))),
+) List.[])))))))))))))))
+
+abbrev pub t32 : List.List Row.Entry
+t32 = List._∷_ (16, Rows.any-gone Syntax.tyUnit) (List._∷_ (17, Rows.any-gone (Syntax.tyRef Syntax.erased Syntax.mut LentTilePartEntry.pointee)) (List._∷_ (
+  18,
+  Mut.msleft
+      LentTilePartEntry.row (Syntax.tyRef Syntax.erased Syntax.mut LentTilePartEntry.pointee),
+) (List._∷_ (
+  19,
+  Rows.any-gone (Syntax.tyRef Syntax.erased Syntax.mut (Syntax.tyInt
+      Syntax.w8)),
+) (List._∷_ (
+  20,
+  Rows.any-gone (Syntax.tyStruct (List._∷_ 38 (List._∷_ 91 (List._∷_ 93 List.[]))) (Syntax.tcons (Syntax.tyRef Syntax.erased Syntax.mut (Syntax.tyInt
+      Syntax.w8)) (Syntax.tcons (Syntax.tyInt Syntax.w64) Syntax.tnil))),
+) List.[]))))
+
+abbrev pub t33 : List.List Row.Entry
+t33 = List._∷_ (
+  0,
+  Rows.any-gone (Syntax.tyEnum (List._∷_ 104 (List._∷_ 101 (List._∷_ 97 (List._∷_ 100 (List._∷_ 101 (List._∷_ 114 (List._∷_ 58 (List._∷_ 58 (List._∷_ 112 (List._∷_
+      97 (List._∷_ 114 (List._∷_ 115 (List._∷_ 101 (List._∷_ 58 (List._∷_ 58 (List._∷_ 77 (List._∷_ 97 (List._∷_ 105 (List._∷_ 110 (List._∷_ 72 (List._∷_ 101 (List._∷_ 97 (List._∷_
+      100 (List._∷_ 101 (List._∷_ 114 List.[]))))))))))))))))))))))))) (Syntax.ttcons (Syntax.tcons (Syntax.tyStruct (List._∷_ 104 (List._∷_ 101 (List._∷_ 97 (List._∷_ 100 (List._∷_
+      101 (List._∷_ 114 (List._∷_ 58 (List._∷_ 58 (List._∷_ 112 (List._∷_ 97 (List._∷_ 114 (List._∷_ 115 (List._∷_ 101 (List._∷_ 58 (List._∷_ 58 (List._∷_ 77 (List._∷_ 97 (List._∷_
+      105 (List._∷_ 110 (List._∷_ 72 (List._∷_ 101 (List._∷_ 97 (List._∷_ 100 (List._∷_ 101 (List._∷_ 114 (List._∷_ 73 (List._∷_ 110 (List._∷_ 102 (List._∷_ 111
+      List.[]))))))))))))))))))))))))))))) (Syntax.tcons (Syntax.tyStruct (List._∷_ 116 (List._∷_ 121 (List._∷_ 112 (List._∷_ 101 (List._∷_ 115 (List._∷_ 58 (List._∷_ 58 (List._∷_ 67
+      (List._∷_ 111 (List._∷_ 100 (List._∷_ 101 (List._∷_ 115 (List._∷_ 116 (List._∷_ 114 (List._∷_ 101 (List._∷_ 97 (List._∷_ 109 (List._∷_ 79 (List._∷_ 102 (List._∷_ 102 (List._∷_
+      115 (List._∷_ 101 (List._∷_ 116 List.[]))))))))))))))))))))))) (Syntax.tcons (Syntax.tyInt Syntax.w64) Syntax.tnil)) (Syntax.tcons (Syntax.tyInt Syntax.w64) (Syntax.tcons
+      (Syntax.tyInt Syntax.w64) (Syntax.tcons (Syntax.tyInt Syntax.w64) Syntax.tnil))))) Syntax.tnil) (Syntax.ttcons (Syntax.tcons (Syntax.tyStruct (List._∷_ 116 (List._∷_ 121
+      (List._∷_ 112 (List._∷_ 101 (List._∷_ 115 (List._∷_ 58 (List._∷_ 58 (List._∷_ 82 (List._∷_ 101 (List._∷_ 102 (List._∷_ 117 (List._∷_ 115 (List._∷_ 97 (List._∷_ 108
+      List.[])))))))))))))) (Syntax.tcons (Syntax.tyInt Syntax.w32) (Syntax.tcons (Syntax.tyInt Syntax.w64) Syntax.tnil))) Syntax.tnil) Syntax.ttnil))),
+) (List._∷_ (
+  1,
+  Rows.sslice
+      (Referent.rtF (Referent.fInt Syntax.w8)) (Syntax.tyRef (Syntax.named 0) Syntax.imm (Syntax.tyInt Syntax.w8)) 0,
+) (List._∷_ (
+  2,
+  Mut.mslice LentTilePartEntry.row (Syntax.tyRef
+      (Syntax.named 1) Syntax.mut LentTilePartEntry.pointee) 1,
+) (List._∷_ (
+  3,
+  Relend.mslice-owed (Referent.rtF (Referent.fInt Syntax.w8)) (Syntax.tyRef (Syntax.named 2) Syntax.mut
+      (Syntax.tyInt Syntax.w8)) 2 5 Row.off,
+) (List._∷_ (4, Rows.whole (Declared.row MainHeader.the-type)) (List._∷_ (
+  5,
+  Rows.any-gone (Syntax.tyStruct (List._∷_ 104 (List._∷_ 101
+      (List._∷_ 97 (List._∷_ 100 (List._∷_ 101 (List._∷_ 114 (List._∷_ 58 (List._∷_ 58 (List._∷_ 112 (List._∷_ 97 (List._∷_ 114 (List._∷_ 115 (List._∷_ 101 (List._∷_ 58 (List._∷_ 58
+      (List._∷_ 77 (List._∷_ 97 (List._∷_ 105 (List._∷_ 110 (List._∷_ 72 (List._∷_ 101 (List._∷_ 97 (List._∷_ 100 (List._∷_ 101 (List._∷_ 114 (List._∷_ 73 (List._∷_ 110 (List._∷_ 102
+      (List._∷_ 111 List.[]))))))))))))))))))))))))))))) (Syntax.tcons (Syntax.tyStruct (List._∷_ 116 (List._∷_ 121 (List._∷_ 112 (List._∷_ 101 (List._∷_ 115 (List._∷_ 58 (List._∷_
+      58 (List._∷_ 67 (List._∷_ 111 (List._∷_ 100 (List._∷_ 101 (List._∷_ 115 (List._∷_ 116 (List._∷_ 114 (List._∷_ 101 (List._∷_ 97 (List._∷_ 109 (List._∷_ 79 (List._∷_ 102
+      (List._∷_ 102 (List._∷_ 115 (List._∷_ 101 (List._∷_ 116 List.[]))))))))))))))))))))))) (Syntax.tcons (Syntax.tyInt Syntax.w64) Syntax.tnil)) (Syntax.tcons (Syntax.tyInt
+      Syntax.w64) (Syntax.tcons (Syntax.tyInt Syntax.w64) (Syntax.tcons (Syntax.tyInt Syntax.w64) Syntax.tnil))))),
+) (List._∷_ (
+  6,
+  Rows.any-gone (Syntax.tyStruct (List._∷_ 116
+      (List._∷_ 121 (List._∷_ 112 (List._∷_ 101 (List._∷_ 115 (List._∷_ 58 (List._∷_ 58 (List._∷_ 67 (List._∷_ 111 (List._∷_ 100 (List._∷_ 101 (List._∷_ 115 (List._∷_ 116 (List._∷_
+      114 (List._∷_ 101 (List._∷_ 97 (List._∷_ 109 (List._∷_ 79 (List._∷_ 102 (List._∷_ 102 (List._∷_ 115 (List._∷_ 101 (List._∷_ 116 List.[]))))))))))))))))))))))) (Syntax.tcons
+      (Syntax.tyInt Syntax.w64) Syntax.tnil)),
+) (List._∷_ (7, Rows.any-gone (Syntax.tyInt Syntax.w64)) (List._∷_ (8, Rows.any-gone (Syntax.tyInt Syntax.w64)) (List._∷_ (
+  9,
+  Rows.any-gone (Syntax.tyInt Syntax.w64),
+) (List._∷_ (10, Rows.any-gone (Syntax.tyInt Syntax.w64)) (List._∷_ (11, Rows.any-gone Syntax.tyBool) (List._∷_ (
+  12,
+  Rows.any-gone
+      (Syntax.tyInt Syntax.w64),
+) (List._∷_ (13, Rows.any-gone (Syntax.tyInt Syntax.w64)) (List._∷_ (
+  14,
+  Rows.any-gone (Syntax.tyRef Syntax.erased Syntax.mut (Syntax.tyInt
+      Syntax.w8)),
+) (List._∷_ (
+  15,
+  Rows.any-gone (Syntax.tyStruct (List._∷_ 38 (List._∷_ 91 (List._∷_ 93 List.[]))) (Syntax.tcons (Syntax.tyRef Syntax.erased Syntax.mut (Syntax.tyInt
+      Syntax.w8)) (Syntax.tcons (Syntax.tyInt Syntax.w64) Syntax.tnil))),
+) List.[])))))))))))))))
+
+abbrev pub t34 : List.List Row.Entry
+t34 = List._∷_ (16, Rows.any-gone Syntax.tyUnit) (List._∷_ (17, Rows.any-gone (Syntax.tyRef Syntax.erased Syntax.mut LentTilePartEntry.pointee)) (List._∷_ (
+  18,
+  Rows.any-gone
+      (Syntax.tyStruct (List._∷_ 38 (List._∷_ 91 (List._∷_ 93 List.[]))) (Syntax.tcons (Syntax.tyRef Syntax.erased Syntax.mut LentTilePartEntry.pointee) (Syntax.tcons (Syntax.tyInt
+      Syntax.w64) Syntax.tnil))),
+) (List._∷_ (19, Relend.msptr (Referent.rtF (Referent.fInt Syntax.w8)) (Syntax.tyRef Syntax.erased Syntax.mut (Syntax.tyInt Syntax.w8)) 5) (List._∷_ (
+  20,
+  Rows.any-gone (Syntax.tyStruct (List._∷_ 38 (List._∷_ 91 (List._∷_ 93 List.[]))) (Syntax.tcons (Syntax.tyRef Syntax.erased Syntax.mut (Syntax.tyInt Syntax.w8))
+      (Syntax.tcons (Syntax.tyInt Syntax.w64) Syntax.tnil))),
+) List.[]))))
+
+abbrev pub t35 : List.List Row.Entry
+t35 = List._∷_ (16, Rows.any-gone Syntax.tyUnit) (List._∷_ (17, Rows.any-gone (Syntax.tyRef Syntax.erased Syntax.mut LentTilePartEntry.pointee)) (List._∷_ (
+  18,
+  Rows.any-gone
+      (Syntax.tyStruct (List._∷_ 38 (List._∷_ 91 (List._∷_ 93 List.[]))) (Syntax.tcons (Syntax.tyRef Syntax.erased Syntax.mut LentTilePartEntry.pointee) (Syntax.tcons (Syntax.tyInt
+      Syntax.w64) Syntax.tnil))),
+) (List._∷_ (19, Rows.any-gone (Syntax.tyRef Syntax.erased Syntax.mut (Syntax.tyInt Syntax.w8))) (List._∷_ (
+  20,
+  Mut.mslice (Referent.rtF
+      (Referent.fInt Syntax.w8)) (Syntax.tyRef Syntax.erased Syntax.mut (Syntax.tyInt Syntax.w8)) 5,
+) List.[]))))
+
+abbrev pub t36 : List.List Row.Entry
+t36 = List._∷_ (16, Rows.sc-here Row.sUnit) (List._∷_ (17, Rows.any-gone (Syntax.tyRef Syntax.erased Syntax.mut LentTilePartEntry.pointee)) (List._∷_ (
+  18,
+  Rows.any-gone
+      (Syntax.tyStruct (List._∷_ 38 (List._∷_ 91 (List._∷_ 93 List.[]))) (Syntax.tcons (Syntax.tyRef Syntax.erased Syntax.mut LentTilePartEntry.pointee) (Syntax.tcons (Syntax.tyInt
+      Syntax.w64) Syntax.tnil))),
+) (List._∷_ (19, Rows.any-gone (Syntax.tyRef Syntax.erased Syntax.mut (Syntax.tyInt Syntax.w8))) (List._∷_ (
+  20,
+  Mut.msleft (Referent.rtF
+      (Referent.fInt Syntax.w8)) (Syntax.tyRef Syntax.erased Syntax.mut (Syntax.tyInt Syntax.w8)),
+) List.[]))))
+
+abbrev pub t37 : List.List Row.Entry
+t37 = List._∷_ (16, Rows.any-gone Syntax.tyUnit) (List._∷_ (17, Rows.any-gone (Syntax.tyRef Syntax.erased Syntax.mut LentTilePartEntry.pointee)) (List._∷_ (
+  18,
+  Rows.any-gone
+      (Syntax.tyStruct (List._∷_ 38 (List._∷_ 91 (List._∷_ 93 List.[]))) (Syntax.tcons (Syntax.tyRef Syntax.erased Syntax.mut LentTilePartEntry.pointee) (Syntax.tcons (Syntax.tyInt
+      Syntax.w64) Syntax.tnil))),
+) (List._∷_ (19, Rows.any-gone (Syntax.tyRef Syntax.erased Syntax.mut (Syntax.tyInt Syntax.w8))) (List._∷_ (
+  20,
+  Mut.msleft (Referent.rtF
+      (Referent.fInt Syntax.w8)) (Syntax.tyRef Syntax.erased Syntax.mut (Syntax.tyInt Syntax.w8)),
+) List.[]))))
+
 abbrev pub T0 : Row.Cx
-T0 = record { locals = t0; slots = List.[] }
+T0 = record { locals = List._++_ t0 t1; slots = List.[] }
 
 abbrev pub T1 : Row.Cx
-T1 = record { locals = t1; slots = List.[] }
+T1 = record { locals = List._++_ t2 t1; slots = List.[] }
 
 abbrev pub T2 : Row.Cx
-T2 = record { locals = t0; slots = List.[] }
+T2 = record { locals = List._++_ t0 t1; slots = List.[] }
 
 abbrev pub T3 : Row.Cx
-T3 = record { locals = t0; slots = List.[] }
+T3 = record { locals = List._++_ t0 t1; slots = List.[] }
 
 abbrev pub T4 : Row.Cx
-T4 = record { locals = t2; slots = List.[] }
+T4 = record { locals = List._++_ t3 t1; slots = List.[] }
 
 abbrev pub T5 : Row.Cx
-T5 = record { locals = t3; slots = List.[] }
+T5 = record { locals = List._++_ t4 t1; slots = List.[] }
 
 abbrev pub T6 : Row.Cx
-T6 = record { locals = t4; slots = List.[] }
+T6 = record { locals = List._++_ t5 t1; slots = List.[] }
 
 abbrev pub T7 : Row.Cx
-T7 = record { locals = t5; slots = List.[] }
+T7 = record { locals = List._++_ t6 t1; slots = List.[] }
 
 abbrev pub T8 : Row.Cx
-T8 = record { locals = t6; slots = List.[] }
+T8 = record { locals = List._++_ t7 t1; slots = List.[] }
 
 abbrev pub T9 : Row.Cx
-T9 = record { locals = t7; slots = List.[] }
+T9 = record { locals = List._++_ t8 t1; slots = List.[] }
 
 abbrev pub T10 : Row.Cx
-T10 = record { locals = t8; slots = List.[] }
+T10 = record { locals = List._++_ t9 t1; slots = List.[] }
 
 abbrev pub T11 : Row.Cx
-T11 = record { locals = t9; slots = List.[] }
+T11 = record { locals = List._++_ t10 t1; slots = List.[] }
 
 abbrev pub T12 : Row.Cx
-T12 = record { locals = t10; slots = List.[] }
+T12 = record { locals = List._++_ t11 t1; slots = List.[] }
 
 abbrev pub T13 : Row.Cx
-T13 = record { locals = t11; slots = List.[] }
+T13 = record { locals = List._++_ t12 t1; slots = List.[] }
 
 abbrev pub T14 : Row.Cx
-T14 = record { locals = t12; slots = List.[] }
+T14 = record { locals = List._++_ t13 t1; slots = List.[] }
 
 abbrev pub T15 : Row.Cx
-T15 = record { locals = t12; slots = List.[] }
+T15 = record { locals = List._++_ t13 t1; slots = List.[] }
 
 abbrev pub T16 : Row.Cx
-T16 = record { locals = t13; slots = List.[] }
+T16 = record { locals = List._++_ t14 t1; slots = List.[] }
 
 abbrev pub T17 : Row.Cx
-T17 = record { locals = t9; slots = List.[] }
+T17 = record { locals = List._++_ t10 t1; slots = List.[] }
 
 abbrev pub T18 : Row.Cx
-T18 = record { locals = t11; slots = List.[] }
+T18 = record { locals = List._++_ t12 t1; slots = List.[] }
 
 abbrev pub T19 : Row.Cx
-T19 = record { locals = t14; slots = List.[] }
+T19 = record { locals = List._++_ t15 t1; slots = List.[] }
 
 abbrev pub T20 : Row.Cx
-T20 = record { locals = t1; slots = List.[] }
+T20 = record { locals = List._++_ t2 t1; slots = List.[] }
 
 abbrev pub T21 : Row.Cx
-T21 = record { locals = t15; slots = List.[] }
+T21 = record { locals = List._++_ t16 t1; slots = List.[] }
 
 abbrev pub T22 : Row.Cx
-T22 = record { locals = t16; slots = List.[] }
+T22 = record { locals = List._++_ t16 t1; slots = List.[] }
+
+abbrev pub T23 : Row.Cx
+T23 = record { locals = List._++_ t16 t1; slots = List.[] }
 
 abbrev pub T24 : Row.Cx
-T24 = record { locals = t17; slots = List.[] }
+T24 = record { locals = List._++_ t17 t1; slots = List.[] }
 
 abbrev pub T25 : Row.Cx
-T25 = record { locals = t18; slots = List.[] }
+T25 = record { locals = List._++_ t18 t1; slots = List.[] }
 
 abbrev pub T26 : Row.Cx
-T26 = record { locals = t19; slots = List.[] }
+T26 = record { locals = List._++_ t19 t1; slots = List.[] }
 
 abbrev pub T27 : Row.Cx
-T27 = record { locals = t20; slots = List.[] }
+T27 = record { locals = List._++_ t18 t1; slots = List.[] }
 
 abbrev pub T28 : Row.Cx
-T28 = record { locals = t21; slots = List.[] }
+T28 = record { locals = List._++_ t20 t1; slots = List.[] }
 
-abbrev pub T30 : Row.Cx
-T30 = record { locals = t11; slots = List.[] }
+abbrev pub T29 : Row.Cx
+T29 = record { locals = List._++_ t21 t1; slots = List.[] }
+
+abbrev pub T31 : Row.Cx
+T31 = record { locals = List._++_ t22 t1; slots = List.[] }
+
+abbrev pub T32 : Row.Cx
+T32 = record { locals = List._++_ t23 t1; slots = List.[] }
 
 abbrev pub T33 : Row.Cx
-T33 = record { locals = t22; slots = List.[] }
+T33 = record { locals = List._++_ t24 t1; slots = List.[] }
 
 abbrev pub T34 : Row.Cx
-T34 = record { locals = t23; slots = List.[] }
+T34 = record { locals = List._++_ t25 t1; slots = List.[] }
 
 abbrev pub T35 : Row.Cx
-T35 = record { locals = t24; slots = List.[] }
+T35 = record { locals = List._++_ t26 t1; slots = List.[] }
 
-abbrev pub T36 : Row.Cx
-T36 = record { locals = t25; slots = List.[] }
+abbrev pub T37 : Row.Cx
+T37 = record { locals = List._++_ t12 t1; slots = List.[] }
 
 abbrev pub T38 : Row.Cx
-T38 = record { locals = t11; slots = List.[] }
+T38 = record { locals = List._++_ t12 t1; slots = List.[] }
 
-abbrev pub T39 : Row.Cx
-T39 = record { locals = t11; slots = List.[] }
+abbrev pub T40 : Row.Cx
+T40 = record { locals = List._++_ t15 t1; slots = List.[] }
 
 abbrev pub T41 : Row.Cx
-T41 = record { locals = t14; slots = List.[] }
+T41 = record { locals = List._++_ t2 t1; slots = List.[] }
 
 abbrev pub T42 : Row.Cx
-T42 = record { locals = t1; slots = List.[] }
+T42 = record { locals = List._++_ t18 t1; slots = List.[] }
+
+abbrev pub T44 : Row.Cx
+T44 = record { locals = List._++_ t27 t28; slots = List.[] }
+
+abbrev pub T45 : Row.Cx
+T45 = record { locals = List._++_ t27 t29; slots = List.[] }
+
+abbrev pub T46 : Row.Cx
+T46 = record { locals = List._++_ t27 t30; slots = List.[] }
+
+abbrev pub T47 : Row.Cx
+T47 = record { locals = List._++_ t31 t30; slots = List.[] }
+
+abbrev pub T48 : Row.Cx
+T48 = record { locals = List._++_ t31 t32; slots = List.[] }
+
+abbrev pub T50 : Row.Cx
+T50 = record { locals = List._++_ t12 t1; slots = List.[] }
+
+abbrev pub T53 : Row.Cx
+T53 = record { locals = List._++_ t33 t34; slots = List.[] }
+
+abbrev pub T54 : Row.Cx
+T54 = record { locals = List._++_ t33 t35; slots = List.[] }
+
+abbrev pub T55 : Row.Cx
+T55 = record { locals = List._++_ t33 t36; slots = List.[] }
+
+abbrev pub T56 : Row.Cx
+T56 = record { locals = List._++_ t33 t37; slots = List.[] }
+
+abbrev pub T58 : Row.Cx
+T58 = record { locals = List._++_ t12 t1; slots = List.[] }
+
+abbrev pub T59 : Row.Cx
+T59 = record { locals = List._++_ t12 t1; slots = List.[] }
+
+abbrev pub T61 : Row.Cx
+T61 = record { locals = List._++_ t15 t1; slots = List.[] }
+
+abbrev pub T62 : Row.Cx
+T62 = record { locals = List._++_ t2 t1; slots = List.[] }
 
 abbrev pub O0 : Typed.Outs
 O0 = record { next = Option.none; exits = List.[]; returns = Option.some T1 }
 
 abbrev pub O1 : Typed.Outs
 O1 = Typed.withNext (Option.some T11) O0
+
+abbrev pub O2 : Typed.Outs
+O2 = Typed.withNext (Option.some T25) O0
 
 module _ (claims· : Claims) where
   abbrev s0 : (bs : List.List Nat.ℕ) → Typed.Gives T0 T2
@@ -2078,8 +2370,19 @@ module _ (claims· : Claims) where
       }) (λ u T′ m′. Row.set 5 (5, Rows.whole (Declared'.row MainHeaderInfo.the-type)) (u .1 .1 .1 .1 .1 .0) T′ m′) (λ u. Unit) λ u.
       Unit
 
-  abbrev s19 : (bs : List.List Nat.ℕ) → Typed.Mo T21 → Typed.Mo T22
-  s19 = λ bs. Scalar.n-room T21 5 (Syntax.tyStruct (List._∷_ 104 (List._∷_ 101 (List._∷_ 97 (List._∷_ 100 (List._∷_ 101 (List._∷_ 114 (List._∷_ 58 (List._∷_ 58 (List._∷_ 112
+  abbrev s19 : (bs : List.List Nat.ℕ) → Typed.Gives T21 T22
+  s19 = λ bs. Know'.k-struct-known MainHeaderInfo.the-type Laws'.the-laws T21 5 λ x. x
+
+  abbrev s20 : (bs : List.List Nat.ℕ) → Typed.Gives T22 T23
+  s20 = λ bs. Know'.k-struct-known CodestreamOffset.the-type Laws''.the-laws T22 6 λ x. x
+
+  abbrev s21 : (bs : List.List Nat.ℕ) → Typed.Asks T23 T24
+  s21 = λ bs. Scalar.k-op2 T23 Syntax.eq (Scalar.oFld 5 (List._∷_ (Syntax.field 1) List.[]) (Syntax.tyInt Syntax.w64) 8 (Reads.fieldV MainHeaderInfo.the-type Laws'.the-laws 1))
+      (Scalar.oFld 6 (List._∷_ (Syntax.field 0) List.[]) (Syntax.tyInt Syntax.w64) 0 (Reads.fieldV CodestreamOffset.the-type Laws''.the-laws 0)) 11 (Rows.sc-here Row.sBool)
+      (Row.sBool .of)
+
+  abbrev s22 : (bs : List.List Nat.ℕ) → Typed.Mo T24 → Typed.Mo T26
+  s22 = λ bs. Scalar.n-room T24 5 (Syntax.tyStruct (List._∷_ 104 (List._∷_ 101 (List._∷_ 97 (List._∷_ 100 (List._∷_ 101 (List._∷_ 114 (List._∷_ 58 (List._∷_ 58 (List._∷_ 112
       (List._∷_ 97 (List._∷_ 114 (List._∷_ 115 (List._∷_ 101 (List._∷_ 58 (List._∷_ 58 (List._∷_ 77 (List._∷_ 97 (List._∷_ 105 (List._∷_ 110 (List._∷_ 72 (List._∷_ 101 (List._∷_ 97
       (List._∷_ 100 (List._∷_ 101 (List._∷_ 114 (List._∷_ 73 (List._∷_ 110 (List._∷_ 102 (List._∷_ 111 List.[]))))))))))))))))))))))))))))) (Syntax.tcons (Syntax.tyStruct (List._∷_
       116 (List._∷_ 121 (List._∷_ 112 (List._∷_ 101 (List._∷_ 115 (List._∷_ 58 (List._∷_ 58 (List._∷_ 67 (List._∷_ 111 (List._∷_ 100 (List._∷_ 101 (List._∷_ 115 (List._∷_ 116
@@ -2087,73 +2390,133 @@ module _ (claims· : Claims) where
       (Syntax.tcons (Syntax.tyInt Syntax.w64) Syntax.tnil)) (Syntax.tcons (Syntax.tyInt Syntax.w64) (Syntax.tcons (Syntax.tyInt Syntax.w64) (Syntax.tcons (Syntax.tyInt Syntax.w64)
       Syntax.tnil)))))
 
-  abbrev s21 : (bs : List.List Nat.ℕ) → Typed.Gives T22 T24
-  s21 = λ bs. Relend.k-sl-relend LentTilePartEntry.row T22 2 12 1 3 (Syntax.tyRef (Syntax.named 1) Syntax.mut LentTilePartEntry.pointee) (Syntax.tyRef Syntax.erased Syntax.mut
+  abbrev s23 : (bs : List.List Nat.ℕ) → Typed.Mo T26 → Typed.Mo T27
+  s23 = λ bs. Scalar.n-room T26 11 Syntax.tyBool
+
+  abbrev s24 : (bs : List.List Nat.ℕ) → Typed.Both T27 T28
+  s24 = λ bs. Call.callB ps·1 r·1 (claims· .2) (claims· .3) T27 (record { pos = 6; st = List.[]; d = 0; at = λ x. x }, tt) 13 List.[] (Syntax.tyInt Syntax.w64)
+
+  abbrev s25 : (bs : List.List Nat.ℕ) → Typed.Mo T28 → Typed.Mo T29
+  s25 = λ bs. Scalar.n-room T28 6 (Syntax.tyStruct (List._∷_ 116 (List._∷_ 121 (List._∷_ 112 (List._∷_ 101 (List._∷_ 115 (List._∷_ 58 (List._∷_ 58 (List._∷_ 67 (List._∷_ 111
+      (List._∷_ 100 (List._∷_ 101 (List._∷_ 115 (List._∷_ 116 (List._∷_ 114 (List._∷_ 101 (List._∷_ 97 (List._∷_ 109 (List._∷_ 79 (List._∷_ 102 (List._∷_ 102 (List._∷_ 115
+      (List._∷_ 101 (List._∷_ 116 List.[]))))))))))))))))))))))) (Syntax.tcons (Syntax.tyInt Syntax.w64) Syntax.tnil))
+
+  abbrev s27 : (bs : List.List Nat.ℕ) → Typed.Gives T29 T31
+  s27 = λ bs. Relend.k-sl-relend (Referent.rtF (Referent.fInt Syntax.w8)) T29 3 14 2 3 (Syntax.tyRef (Syntax.named 2) Syntax.mut (Syntax.tyInt Syntax.w8)) (Syntax.tyRef
+      Syntax.erased Syntax.mut (Syntax.tyInt Syntax.w8)) Row.off λ x. x
+
+  abbrev s28 : (bs : List.List Nat.ℕ) → Typed.Asks T31 T32
+  s28 = λ bs. Relend.k-sl-aggregate (Referent.rtF (Referent.fInt Syntax.w8)) (Relend.asMut (Referent.rtF (Referent.fInt Syntax.w8))) T31 14 15 3 (Syntax.tyRef Syntax.erased
+      Syntax.mut (Syntax.tyInt Syntax.w8)) (Syntax.tyRef Syntax.erased Syntax.mut (Syntax.tyInt Syntax.w8)) (λ x. x) (Scalar.oFld 3 (List._∷_ (Syntax.field 1) List.[])
+      (Syntax.tyInt Syntax.w64) 8 λ v. Shared.lenV (v .0))
+
+  abbrev s29 : (bs : List.List Nat.ℕ) → Typed.Both T32 T33
+  s29 = λ bs. Call.callB ps·2 r·2 (claims· .4) (claims· .5) T32 (
+    record { pos = 1; ty = Syntax.tyRef (Syntax.named 0) Syntax.imm (Syntax.tyInt Syntax.w8); ref = λ x. x },
+    (Num.vLit 0, (Num.vAt 13 λ x. x, (record { pos = 15; ty = Syntax.tyRef Syntax.erased Syntax.mut (Syntax.tyInt Syntax.w8); ref = λ x. x }, (Num.vLit 0, tt)))),
+  ) 12 (List._∷_ 0
+      (List._∷_ 3 List.[])) (Syntax.tyInt Syntax.w64)
+
+  abbrev s30 : (bs : List.List Nat.ℕ) → Typed.Mo T33 → Typed.Mo T34
+  s30 = λ bs. Scalar.n-room T33 12 (Syntax.tyInt Syntax.w64)
+
+  abbrev s31 : (bs : List.List Nat.ℕ) → Typed.Mo T34 → Typed.Mo T35
+  s31 = λ bs. Scalar.n-room T34 13 (Syntax.tyInt Syntax.w64)
+
+  abbrev s33 : (bs : List.List Nat.ℕ) → Typed.Both T35 T37
+  s33 = λ bs. Relend.k-back-sl (Referent.rtF (Referent.fInt Syntax.w8)) T35 15 3 2 3 (Syntax.tyRef (Syntax.named 2) Syntax.mut (Syntax.tyInt Syntax.w8)) (Syntax.tyRef Syntax.erased
+      Syntax.mut (Syntax.tyInt Syntax.w8)) Row.off (λ x. x) λ x. x
+
+  abbrev s34 : (bs : List.List Nat.ℕ) → Typed.Gives T37 T38
+  s34 = λ bs. Know.k-sl-known (Referent.fInt Syntax.w8) T37 3 2 (Syntax.tyRef (Syntax.named 2) Syntax.mut (Syntax.tyInt Syntax.w8)) Row.off 0 λ x. x
+
+  abbrev s36 : (bs : List.List Nat.ℕ) → Typed.Mo T38 → Typed.Mo T40
+  s36 = λ bs. LocalCopy.n-val-copy T38 4 0 (Declared.row MainHeader.the-type) (Rows.whole (Declared.row MainHeader.the-type)) (Rows.whole (Declared.row MainHeader.the-type)) (λ x.
+      x) (λ x. x) λ x. x
+
+  abbrev s37 : (bs : List.List Nat.ℕ) → Typed.Mo T40 → Typed.Mo T41
+  s37 = λ bs. Scalar.n-room T40 4 (Syntax.tyEnum (List._∷_ 104 (List._∷_ 101 (List._∷_ 97 (List._∷_ 100 (List._∷_ 101 (List._∷_ 114 (List._∷_ 58 (List._∷_ 58 (List._∷_ 112
+      (List._∷_ 97 (List._∷_ 114 (List._∷_ 115 (List._∷_ 101 (List._∷_ 58 (List._∷_ 58 (List._∷_ 77 (List._∷_ 97 (List._∷_ 105 (List._∷_ 110 (List._∷_ 72 (List._∷_ 101 (List._∷_ 97
+      (List._∷_ 100 (List._∷_ 101 (List._∷_ 114 List.[]))))))))))))))))))))))))) (Syntax.ttcons (Syntax.tcons (Syntax.tyStruct (List._∷_ 104 (List._∷_ 101 (List._∷_ 97 (List._∷_
+      100 (List._∷_ 101 (List._∷_ 114 (List._∷_ 58 (List._∷_ 58 (List._∷_ 112 (List._∷_ 97 (List._∷_ 114 (List._∷_ 115 (List._∷_ 101 (List._∷_ 58 (List._∷_ 58 (List._∷_ 77
+      (List._∷_ 97 (List._∷_ 105 (List._∷_ 110 (List._∷_ 72 (List._∷_ 101 (List._∷_ 97 (List._∷_ 100 (List._∷_ 101 (List._∷_ 114 (List._∷_ 73 (List._∷_ 110 (List._∷_ 102 (List._∷_
+      111 List.[]))))))))))))))))))))))))))))) (Syntax.tcons (Syntax.tyStruct (List._∷_ 116 (List._∷_ 121 (List._∷_ 112 (List._∷_ 101 (List._∷_ 115 (List._∷_ 58 (List._∷_ 58
+      (List._∷_ 67 (List._∷_ 111 (List._∷_ 100 (List._∷_ 101 (List._∷_ 115 (List._∷_ 116 (List._∷_ 114 (List._∷_ 101 (List._∷_ 97 (List._∷_ 109 (List._∷_ 79 (List._∷_ 102 (List._∷_
+      102 (List._∷_ 115 (List._∷_ 101 (List._∷_ 116 List.[]))))))))))))))))))))))) (Syntax.tcons (Syntax.tyInt Syntax.w64) Syntax.tnil)) (Syntax.tcons (Syntax.tyInt Syntax.w64)
+      (Syntax.tcons (Syntax.tyInt Syntax.w64) (Syntax.tcons (Syntax.tyInt Syntax.w64) Syntax.tnil))))) Syntax.tnil) (Syntax.ttcons (Syntax.tcons (Syntax.tyStruct (List._∷_ 116
+      (List._∷_ 121 (List._∷_ 112 (List._∷_ 101 (List._∷_ 115 (List._∷_ 58 (List._∷_ 58 (List._∷_ 82 (List._∷_ 101 (List._∷_ 102 (List._∷_ 117 (List._∷_ 115 (List._∷_ 97 (List._∷_
+      108 List.[])))))))))))))) (Syntax.tcons (Syntax.tyInt Syntax.w32) (Syntax.tcons (Syntax.tyInt Syntax.w64) Syntax.tnil))) Syntax.tnil) Syntax.ttnil)))
+
+  abbrev s38 : (bs : List.List Nat.ℕ) → Typed.Mo T26 → Typed.Mo T42
+  s38 = λ bs. Scalar.n-room T26 11 Syntax.tyBool
+
+  abbrev s40 : (bs : List.List Nat.ℕ) → Typed.Gives T25 T44
+  s40 = λ bs. Relend.k-sl-relend LentTilePartEntry.row T25 2 17 1 4 (Syntax.tyRef (Syntax.named 1) Syntax.mut LentTilePartEntry.pointee) (Syntax.tyRef Syntax.erased Syntax.mut
       LentTilePartEntry.pointee) Row.off λ x. x
 
-  abbrev s22 : (bs : List.List Nat.ℕ) → Typed.Asks T24 T25
-  s22 = λ bs. Relend.k-sl-aggregate LentTilePartEntry.row (Relend.asMut LentTilePartEntry.row) T24 12 13 3 (Syntax.tyRef Syntax.erased Syntax.mut LentTilePartEntry.pointee)
+  abbrev s41 : (bs : List.List Nat.ℕ) → Typed.Asks T44 T45
+  s41 = λ bs. Relend.k-sl-aggregate LentTilePartEntry.row (Relend.asMut LentTilePartEntry.row) T44 17 18 4 (Syntax.tyRef Syntax.erased Syntax.mut LentTilePartEntry.pointee)
       (Syntax.tyRef Syntax.erased Syntax.mut LentTilePartEntry.pointee) (λ x. x) (Scalar.oFld 2 (List._∷_ (Syntax.field 1) List.[]) (Syntax.tyInt Syntax.w64) 8 λ v. Shared.lenV (v
       .0))
 
-  abbrev s23 : (bs : List.List Nat.ℕ) → Typed.Both T25 T26
-  s23 = λ bs. Call.callB ps·1 r·1 (claims· .2) (claims· .3) T25 (
+  abbrev s42 : (bs : List.List Nat.ℕ) → Typed.Both T45 T46
+  s42 = λ bs. Call.callB ps·3 r·3 (claims· .6) (claims· .7) T45 (
     record { pos = 1; ty = Syntax.tyRef (Syntax.named 0) Syntax.imm (Syntax.tyInt Syntax.w8); ref = λ x. x },
     (
       record
           { pos = 6; st = List.[]; d = 0; at = λ x. x },
-      (record { pos = 13; ty = Syntax.tyRef Syntax.erased Syntax.mut LentTilePartEntry.pointee; ref = λ x. x }, tt),
+      (record { pos = 18; ty = Syntax.tyRef Syntax.erased Syntax.mut LentTilePartEntry.pointee; ref = λ x. x }, tt),
     ),
-  ) 11 (List._∷_ 0
-      (List._∷_ 3 List.[])) Syntax.tyUnit
+  ) 16 (List._∷_ 0
+      (List._∷_ 4 List.[])) Syntax.tyUnit
 
-  abbrev s24 : (bs : List.List Nat.ℕ) → Typed.Mo T26 → Typed.Mo T27
-  s24 = λ bs. Scalar.n-room T26 6 (Syntax.tyStruct (List._∷_ 116 (List._∷_ 121 (List._∷_ 112 (List._∷_ 101 (List._∷_ 115 (List._∷_ 58 (List._∷_ 58 (List._∷_ 67 (List._∷_ 111
+  abbrev s43 : (bs : List.List Nat.ℕ) → Typed.Mo T46 → Typed.Mo T47
+  s43 = λ bs. Scalar.n-room T46 6 (Syntax.tyStruct (List._∷_ 116 (List._∷_ 121 (List._∷_ 112 (List._∷_ 101 (List._∷_ 115 (List._∷_ 58 (List._∷_ 58 (List._∷_ 67 (List._∷_ 111
       (List._∷_ 100 (List._∷_ 101 (List._∷_ 115 (List._∷_ 116 (List._∷_ 114 (List._∷_ 101 (List._∷_ 97 (List._∷_ 109 (List._∷_ 79 (List._∷_ 102 (List._∷_ 102 (List._∷_ 115
       (List._∷_ 101 (List._∷_ 116 List.[]))))))))))))))))))))))) (Syntax.tcons (Syntax.tyInt Syntax.w64) Syntax.tnil))
 
-  abbrev s25 : (bs : List.List Nat.ℕ) → Typed.Mo T27 → Typed.Mo T28
-  s25 = λ bs. Scalar.n-room T27 11 Syntax.tyUnit
+  abbrev s44 : (bs : List.List Nat.ℕ) → Typed.Mo T47 → Typed.Mo T48
+  s44 = λ bs. Scalar.n-room T47 16 Syntax.tyUnit
 
-  abbrev s27 : (bs : List.List Nat.ℕ) → Typed.Both T28 T30
-  s27 = λ bs. Relend.k-back-sl LentTilePartEntry.row T28 13 2 1 3 (Syntax.tyRef (Syntax.named 1) Syntax.mut LentTilePartEntry.pointee) (Syntax.tyRef Syntax.erased Syntax.mut
+  abbrev s46 : (bs : List.List Nat.ℕ) → Typed.Both T48 T50
+  s46 = λ bs. Relend.k-back-sl LentTilePartEntry.row T48 18 2 1 4 (Syntax.tyRef (Syntax.named 1) Syntax.mut LentTilePartEntry.pointee) (Syntax.tyRef Syntax.erased Syntax.mut
       LentTilePartEntry.pointee) Row.off (λ x. x) λ x. x
 
-  abbrev s30 : (bs : List.List Nat.ℕ) → Typed.Gives T30 T33
-  s30 = λ bs. Relend.k-sl-relend (Referent.rtF (Referent.fInt Syntax.w8)) T30 3 14 2 4 (Syntax.tyRef (Syntax.named 2) Syntax.mut (Syntax.tyInt Syntax.w8)) (Syntax.tyRef
+  abbrev s49 : (bs : List.List Nat.ℕ) → Typed.Gives T50 T53
+  s49 = λ bs. Relend.k-sl-relend (Referent.rtF (Referent.fInt Syntax.w8)) T50 3 19 2 5 (Syntax.tyRef (Syntax.named 2) Syntax.mut (Syntax.tyInt Syntax.w8)) (Syntax.tyRef
       Syntax.erased Syntax.mut (Syntax.tyInt Syntax.w8)) Row.off λ x. x
 
-  abbrev s31 : (bs : List.List Nat.ℕ) → Typed.Asks T33 T34
-  s31 = λ bs. Relend.k-sl-aggregate (Referent.rtF (Referent.fInt Syntax.w8)) (Relend.asMut (Referent.rtF (Referent.fInt Syntax.w8))) T33 14 15 4 (Syntax.tyRef Syntax.erased
+  abbrev s50 : (bs : List.List Nat.ℕ) → Typed.Asks T53 T54
+  s50 = λ bs. Relend.k-sl-aggregate (Referent.rtF (Referent.fInt Syntax.w8)) (Relend.asMut (Referent.rtF (Referent.fInt Syntax.w8))) T53 19 20 5 (Syntax.tyRef Syntax.erased
       Syntax.mut (Syntax.tyInt Syntax.w8)) (Syntax.tyRef Syntax.erased Syntax.mut (Syntax.tyInt Syntax.w8)) (λ x. x) (Scalar.oFld 3 (List._∷_ (Syntax.field 1) List.[])
       (Syntax.tyInt Syntax.w64) 8 λ v. Shared.lenV (v .0))
 
-  abbrev s32 : (bs : List.List Nat.ℕ) → Typed.Both T34 T35
-  s32 = λ bs. Call.callB ps·2 r·2 (claims· .4) (claims· .5) T34 (
+  abbrev s51 : (bs : List.List Nat.ℕ) → Typed.Both T54 T55
+  s51 = λ bs. Call.callB ps·4 r·4 (claims· .8) (claims· .9) T54 (
     record { pos = 1; ty = Syntax.tyRef (Syntax.named 0) Syntax.imm (Syntax.tyInt Syntax.w8); ref = λ x. x },
     (
       record
-          { pos = 15; ty = Syntax.tyRef Syntax.erased Syntax.mut (Syntax.tyInt Syntax.w8); ref = λ x. x },
+          { pos = 20; ty = Syntax.tyRef Syntax.erased Syntax.mut (Syntax.tyInt Syntax.w8); ref = λ x. x },
       tt,
     ),
-  ) 11 (List._∷_ 0 (List._∷_ 4 List.[])) Syntax.tyUnit
+  ) 16 (List._∷_ 0 (List._∷_ 5 List.[])) Syntax.tyUnit
 
-  abbrev s33 : (bs : List.List Nat.ℕ) → Typed.Mo T35 → Typed.Mo T36
-  s33 = λ bs. Scalar.n-room T35 11 Syntax.tyUnit
+  abbrev s52 : (bs : List.List Nat.ℕ) → Typed.Mo T55 → Typed.Mo T56
+  s52 = λ bs. Scalar.n-room T55 16 Syntax.tyUnit
 
-  abbrev s35 : (bs : List.List Nat.ℕ) → Typed.Both T36 T38
-  s35 = λ bs. Relend.k-back-sl (Referent.rtF (Referent.fInt Syntax.w8)) T36 15 3 2 4 (Syntax.tyRef (Syntax.named 2) Syntax.mut (Syntax.tyInt Syntax.w8)) (Syntax.tyRef Syntax.erased
+  abbrev s54 : (bs : List.List Nat.ℕ) → Typed.Both T56 T58
+  s54 = λ bs. Relend.k-back-sl (Referent.rtF (Referent.fInt Syntax.w8)) T56 20 3 2 5 (Syntax.tyRef (Syntax.named 2) Syntax.mut (Syntax.tyInt Syntax.w8)) (Syntax.tyRef Syntax.erased
       Syntax.mut (Syntax.tyInt Syntax.w8)) Row.off (λ x. x) λ x. x
 
-  abbrev s36 : (bs : List.List Nat.ℕ) → Typed.Gives T38 T39
-  s36 = λ bs. Know.k-sl-known (Referent.fInt Syntax.w8) T38 3 2 (Syntax.tyRef (Syntax.named 2) Syntax.mut (Syntax.tyInt Syntax.w8)) Row.off 0 λ x. x
+  abbrev s55 : (bs : List.List Nat.ℕ) → Typed.Gives T58 T59
+  s55 = λ bs. Know.k-sl-known (Referent.fInt Syntax.w8) T58 3 2 (Syntax.tyRef (Syntax.named 2) Syntax.mut (Syntax.tyInt Syntax.w8)) Row.off 0 λ x. x
 
-  abbrev s38 : (bs : List.List Nat.ℕ) → Typed.Mo T39 → Typed.Mo T41
-  s38 = λ bs. LocalCopy.n-val-copy T39 4 0 (Declared.row MainHeader.the-type) (Rows.whole (Declared.row MainHeader.the-type)) (Rows.whole (Declared.row MainHeader.the-type)) (λ x.
+  abbrev s57 : (bs : List.List Nat.ℕ) → Typed.Mo T59 → Typed.Mo T61
+  s57 = λ bs. LocalCopy.n-val-copy T59 4 0 (Declared.row MainHeader.the-type) (Rows.whole (Declared.row MainHeader.the-type)) (Rows.whole (Declared.row MainHeader.the-type)) (λ x.
       x) (λ x. x) λ x. x
 
-  abbrev s39 : (bs : List.List Nat.ℕ) → Typed.Mo T41 → Typed.Mo T42
-  s39 = λ bs. Scalar.n-room T41 4 (Syntax.tyEnum (List._∷_ 104 (List._∷_ 101 (List._∷_ 97 (List._∷_ 100 (List._∷_ 101 (List._∷_ 114 (List._∷_ 58 (List._∷_ 58 (List._∷_ 112
+  abbrev s58 : (bs : List.List Nat.ℕ) → Typed.Mo T61 → Typed.Mo T62
+  s58 = λ bs. Scalar.n-room T61 4 (Syntax.tyEnum (List._∷_ 104 (List._∷_ 101 (List._∷_ 97 (List._∷_ 100 (List._∷_ 101 (List._∷_ 114 (List._∷_ 58 (List._∷_ 58 (List._∷_ 112
       (List._∷_ 97 (List._∷_ 114 (List._∷_ 115 (List._∷_ 101 (List._∷_ 58 (List._∷_ 58 (List._∷_ 77 (List._∷_ 97 (List._∷_ 105 (List._∷_ 110 (List._∷_ 72 (List._∷_ 101 (List._∷_ 97
       (List._∷_ 100 (List._∷_ 101 (List._∷_ 114 List.[]))))))))))))))))))))))))) (Syntax.ttcons (Syntax.tcons (Syntax.tyStruct (List._∷_ 104 (List._∷_ 101 (List._∷_ 97 (List._∷_
       100 (List._∷_ 101 (List._∷_ 114 (List._∷_ 58 (List._∷_ 58 (List._∷_ 112 (List._∷_ 97 (List._∷_ 114 (List._∷_ 115 (List._∷_ 101 (List._∷_ 58 (List._∷_ 58 (List._∷_ 77
@@ -2169,9 +2532,10 @@ module _ (claims· : Claims) where
     module _ (M : Type 1) where
       abbrev pub Closed : Type 2
       Closed = (𝓤 : URA.URA M) (H : Wp.Heap 𝓤) (A : Atoms.Atoms 𝓤) (W : Kit.Given 𝓤 H A) (𝓣 : Wp.Tables 𝓤 H) (known0 : Plain.Known 𝓤 H A W 𝓣 1 ps·0 r·0 (claims· .0) (claims· .1)
-          "header::parse::decide") (known1 : Plain.Known 𝓤 H A W 𝓣 2 ps·1 r·1 (claims· .2) (claims· .3) "records::main_header::fill_table") (known2 : Plain.Known 𝓤 H A W 𝓣 2 ps·2
-          r·2 (claims· .4) (claims· .5) "header::strip::strip") → Statement.Triple 𝓤 (Wp.WpFn 𝓤 H (𝓣 .C) (𝓣 .Λ) (Function.fnOf 3 ps r xs m hs body)) (Function.plainOf 𝓤 H A 3 ps r
-          Pre· Post·)
+          "header::parse::decide") (known1 : Plain.Known 𝓤 H A W 𝓣 0 ps·1 r·1 (claims· .2) (claims· .3) "types::CodestreamOffset::position") (known2 : Plain.Known 𝓤 H A W 𝓣 2 ps·2
+          r·2 (claims· .4) (claims· .5) "header::strip::append") (known3 : Plain.Known 𝓤 H A W 𝓣 2 ps·3 r·3 (claims· .6) (claims· .7) "records::main_header::fill_table") (known4 :
+          Plain.Known 𝓤 H A W 𝓣 2 ps·4 r·4 (claims· .8) (claims· .9) "header::strip::strip") → Statement.Triple 𝓤 (Wp.WpFn 𝓤 H (𝓣 .C) (𝓣 .Λ) (Function.fnOf 3 ps r xs m hs body))
+          (Function.plainOf 𝓤 H A 3 ps r Pre· Post·)
 
     module _ where
       abbrev at0 : (bs : List.List Nat.ℕ) → Typed.TF T15 O1
@@ -2205,395 +2569,184 @@ module _ (claims· : Claims) where
       abbrev at9 : (bs : List.List Nat.ℕ) → Typed.TF T10 O1
       at9 = λ bs. λ Ψ. Typed.pass T10 T12 (s9 bs) (at8 bs Ψ)
 
-      abbrev at10 : (bs : List.List Nat.ℕ) → Typed.TF T42 O0
-      at10 = λ bs. Typed.atRet O0
+      abbrev at10 : (bs : List.List Nat.ℕ) → Typed.TF T41 O2
+      at10 = λ bs. Typed.atRet O2
 
-      abbrev at11 : (bs : List.List Nat.ℕ) → Typed.TF T41 O0
-      at11 = λ bs. λ Ψ. Typed.pass T41 T42 (s39 bs) (at10 bs Ψ)
+      abbrev at11 : (bs : List.List Nat.ℕ) → Typed.TF T40 O2
+      at11 = λ bs. λ Ψ. Typed.pass T40 T41 (s37 bs) (at10 bs Ψ)
 
-      abbrev at12 : (bs : List.List Nat.ℕ) → Typed.TF T39 O0
-      at12 = λ bs. λ Ψ. Typed.pass T39 T41 (s38 bs) (at11 bs Ψ)
+      abbrev at12 : (bs : List.List Nat.ℕ) → Typed.TF T38 O2
+      at12 = λ bs. λ Ψ. Typed.pass T38 T40 (s36 bs) (at11 bs Ψ)
 
-      abbrev at13 : (bs : List.List Nat.ℕ) → Typed.TF T39 O0
+      abbrev at13 : (bs : List.List Nat.ℕ) → Typed.TF T38 O2
       at13 = λ bs. λ Ψ. at12 bs Ψ
 
-      abbrev at14 : (bs : List.List Nat.ℕ) → Typed.TF T38 O0
-      at14 = λ bs. λ Ψ. Typed.give (s36 bs) (at13 bs Ψ)
+      abbrev at14 : (bs : List.List Nat.ℕ) → Typed.TF T37 O2
+      at14 = λ bs. λ Ψ. Typed.give (s34 bs) (at13 bs Ψ)
 
-      abbrev at15 : (bs : List.List Nat.ℕ) → Typed.TF T36 O0
-      at15 = λ bs. λ Ψ. Typed.both (s35 bs) (at14 bs Ψ)
+      abbrev at15 : (bs : List.List Nat.ℕ) → Typed.TF T35 O2
+      at15 = λ bs. λ Ψ. Typed.both (s33 bs) (at14 bs Ψ)
 
-      abbrev at16 : (bs : List.List Nat.ℕ) → Typed.TF T36 O0
+      abbrev at16 : (bs : List.List Nat.ℕ) → Typed.TF T35 O2
       at16 = λ bs. λ Ψ. at15 bs Ψ
 
-      abbrev at17 : (bs : List.List Nat.ℕ) → Typed.TF T35 O0
-      at17 = λ bs. λ Ψ. Typed.pass T35 T36 (s33 bs) (at16 bs Ψ)
+      abbrev at17 : (bs : List.List Nat.ℕ) → Typed.TF T34 O2
+      at17 = λ bs. λ Ψ. Typed.pass T34 T35 (s31 bs) (at16 bs Ψ)
 
-      abbrev at18 : (bs : List.List Nat.ℕ) → Typed.TF T34 O0
-      at18 = λ bs. λ Ψ. Typed.both (s32 bs) (at17 bs Ψ)
+      abbrev at18 : (bs : List.List Nat.ℕ) → Typed.TF T33 O2
+      at18 = λ bs. λ Ψ. Typed.pass T33 T34 (s30 bs) (at17 bs Ψ)
 
-      abbrev at19 : (bs : List.List Nat.ℕ) → Typed.TF T33 O0
-      at19 = λ bs. λ Ψ. Typed.ask (s31 bs) (at18 bs Ψ)
+      abbrev at19 : (bs : List.List Nat.ℕ) → Typed.TF T32 O2
+      at19 = λ bs. λ Ψ. Typed.both (s29 bs) (at18 bs Ψ)
 
-      abbrev at20 : (bs : List.List Nat.ℕ) → Typed.TF T30 O0
-      at20 = λ bs. λ Ψ. Typed.give (s30 bs) (at19 bs Ψ)
+      abbrev at20 : (bs : List.List Nat.ℕ) → Typed.TF T31 O2
+      at20 = λ bs. λ Ψ. Typed.ask (s28 bs) (at19 bs Ψ)
 
-      abbrev at21 : (bs : List.List Nat.ℕ) → Typed.TF T30 O0
-      at21 = λ bs. λ Ψ. at20 bs Ψ
+      abbrev at21 : (bs : List.List Nat.ℕ) → Typed.TF T29 O2
+      at21 = λ bs. λ Ψ. Typed.give (s27 bs) (at20 bs Ψ)
 
-      abbrev at22 : (bs : List.List Nat.ℕ) → Typed.TF T30 O0
+      abbrev at22 : (bs : List.List Nat.ℕ) → Typed.TF T29 O2
       at22 = λ bs. λ Ψ. at21 bs Ψ
 
-      abbrev at23 : (bs : List.List Nat.ℕ) → Typed.TF T28 O0
-      at23 = λ bs. λ Ψ. Typed.both (s27 bs) (at22 bs Ψ)
+      abbrev at23 : (bs : List.List Nat.ℕ) → Typed.TF T28 O2
+      at23 = λ bs. λ Ψ. Typed.pass T28 T29 (s25 bs) (at22 bs Ψ)
 
-      abbrev at24 : (bs : List.List Nat.ℕ) → Typed.TF T28 O0
-      at24 = λ bs. λ Ψ. at23 bs Ψ
+      abbrev at24 : (bs : List.List Nat.ℕ) → Typed.TF T27 O2
+      at24 = λ bs. λ Ψ. Typed.both (s24 bs) (at23 bs Ψ)
 
-      abbrev at25 : (bs : List.List Nat.ℕ) → Typed.TF T27 O0
-      at25 = λ bs. λ Ψ. Typed.pass T27 T28 (s25 bs) (at24 bs Ψ)
+      abbrev at25 : (bs : List.List Nat.ℕ) → Typed.TF T26 O2
+      at25 = λ bs. λ Ψ. Typed.pass T26 T27 (s23 bs) (at24 bs Ψ)
 
-      abbrev at26 : (bs : List.List Nat.ℕ) → Typed.TF T26 O0
-      at26 = λ bs. λ Ψ. Typed.pass T26 T27 (s24 bs) (at25 bs Ψ)
+      abbrev at26 : (bs : List.List Nat.ℕ) → Typed.TF T42 O2
+      at26 = λ bs. Typed.atNext O2
 
-      abbrev at27 : (bs : List.List Nat.ℕ) → Typed.TF T25 O0
-      at27 = λ bs. λ Ψ. Typed.both (s23 bs) (at26 bs Ψ)
+      abbrev at27 : (bs : List.List Nat.ℕ) → Typed.TF T26 O2
+      at27 = λ bs. λ Ψ. Typed.pass T26 T42 (s38 bs) (at26 bs Ψ)
 
-      abbrev at28 : (bs : List.List Nat.ℕ) → Typed.TF T24 O0
-      at28 = λ bs. λ Ψ. Typed.ask (s22 bs) (at27 bs Ψ)
+      abbrev at28 : (bs : List.List Nat.ℕ) → Typed.TF T26 O2
+      at28 = λ bs. Scalar.Φcond T26 O2 11 (λ x. x) (at25 bs) (at27 bs)
 
-      abbrev at29 : (bs : List.List Nat.ℕ) → Typed.TF T22 O0
-      at29 = λ bs. λ Ψ. Typed.give (s21 bs) (at28 bs Ψ)
+      abbrev at29 : (bs : List.List Nat.ℕ) → Typed.TF T24 O2
+      at29 = λ bs. λ Ψ. Typed.pass T24 T26 (s22 bs) (at28 bs Ψ)
 
-      abbrev at30 : (bs : List.List Nat.ℕ) → Typed.TF T22 O0
-      at30 = λ bs. λ Ψ. at29 bs Ψ
+      abbrev at30 : (bs : List.List Nat.ℕ) → Typed.TF T62 O0
+      at30 = λ bs. Typed.atRet O0
 
-      abbrev at31 : (bs : List.List Nat.ℕ) → Typed.TF T21 O0
-      at31 = λ bs. λ Ψ. Typed.pass T21 T22 (s19 bs) (at30 bs Ψ)
+      abbrev at31 : (bs : List.List Nat.ℕ) → Typed.TF T61 O0
+      at31 = λ bs. λ Ψ. Typed.pass T61 T62 (s58 bs) (at30 bs Ψ)
 
-      abbrev at32 : (bs : List.List Nat.ℕ) → Typed.TF T11 O0
-      at32 = λ bs. λ Ψ. Typed.both (s18 bs) (at31 bs Ψ)
+      abbrev at32 : (bs : List.List Nat.ℕ) → Typed.TF T59 O0
+      at32 = λ bs. λ Ψ. Typed.pass T59 T61 (s57 bs) (at31 bs Ψ)
 
-      abbrev at33 : (bs : List.List Nat.ℕ) → Typed.TF T10 O0
-      at33 = λ bs. λ Ψ. at9 bs (Typed.wantNext T11 O0 (at32 bs Ψ) Ψ)
+      abbrev at33 : (bs : List.List Nat.ℕ) → Typed.TF T59 O0
+      at33 = λ bs. λ Ψ. at32 bs Ψ
 
-      abbrev at34 : (bs : List.List Nat.ℕ) → Typed.TF T9 O0
-      at34 = λ bs. λ Ψ. Typed.both (s8 bs) (at33 bs Ψ)
+      abbrev at34 : (bs : List.List Nat.ℕ) → Typed.TF T58 O0
+      at34 = λ bs. λ Ψ. Typed.give (s55 bs) (at33 bs Ψ)
 
-      abbrev at35 : (bs : List.List Nat.ℕ) → Typed.TF T8 O0
-      at35 = λ bs. λ Ψ. Typed.pass T8 T9 (s7 bs) (at34 bs Ψ)
+      abbrev at35 : (bs : List.List Nat.ℕ) → Typed.TF T56 O0
+      at35 = λ bs. λ Ψ. Typed.both (s54 bs) (at34 bs Ψ)
 
-      abbrev at36 : (bs : List.List Nat.ℕ) → Typed.TF T7 O0
-      at36 = λ bs. λ Ψ. Typed.pass T7 T8 (s6 bs) (at35 bs Ψ)
+      abbrev at36 : (bs : List.List Nat.ℕ) → Typed.TF T56 O0
+      at36 = λ bs. λ Ψ. at35 bs Ψ
 
-      abbrev at37 : (bs : List.List Nat.ℕ) → Typed.TF T6 O0
-      at37 = λ bs. λ Ψ. Typed.pass T6 T7 (s5 bs) (at36 bs Ψ)
+      abbrev at37 : (bs : List.List Nat.ℕ) → Typed.TF T55 O0
+      at37 = λ bs. λ Ψ. Typed.pass T55 T56 (s52 bs) (at36 bs Ψ)
 
-      abbrev at38 : (bs : List.List Nat.ℕ) → Typed.TF T5 O0
-      at38 = λ bs. λ Ψ. Typed.pass T5 T6 (s4 bs) (at37 bs Ψ)
+      abbrev at38 : (bs : List.List Nat.ℕ) → Typed.TF T54 O0
+      at38 = λ bs. λ Ψ. Typed.both (s51 bs) (at37 bs Ψ)
 
-      abbrev at39 : (bs : List.List Nat.ℕ) → Typed.TF T4 O0
-      at39 = λ bs. λ Ψ. Typed.pass T4 T5 (s3 bs) (at38 bs Ψ)
+      abbrev at39 : (bs : List.List Nat.ℕ) → Typed.TF T53 O0
+      at39 = λ bs. λ Ψ. Typed.ask (s50 bs) (at38 bs Ψ)
 
-      abbrev at40 : (bs : List.List Nat.ℕ) → Typed.TF T3 O0
-      at40 = λ bs. λ Ψ. Typed.pass T3 T4 (s2 bs) (at39 bs Ψ)
+      abbrev at40 : (bs : List.List Nat.ℕ) → Typed.TF T50 O0
+      at40 = λ bs. λ Ψ. Typed.give (s49 bs) (at39 bs Ψ)
 
-      abbrev at41 : (bs : List.List Nat.ℕ) → Typed.TF T2 O0
-      at41 = λ bs. λ Ψ. Typed.give (s1 bs) (at40 bs Ψ)
+      abbrev at41 : (bs : List.List Nat.ℕ) → Typed.TF T50 O0
+      at41 = λ bs. λ Ψ. at40 bs Ψ
 
-      abbrev at42 : (bs : List.List Nat.ℕ) → Typed.TF T0 O0
-      at42 = λ bs. λ Ψ. Typed.give (s0 bs) (at41 bs Ψ)
+      abbrev at42 : (bs : List.List Nat.ℕ) → Typed.TF T50 O0
+      at42 = λ bs. λ Ψ. at41 bs Ψ
+
+      abbrev at43 : (bs : List.List Nat.ℕ) → Typed.TF T48 O0
+      at43 = λ bs. λ Ψ. Typed.both (s46 bs) (at42 bs Ψ)
+
+      abbrev at44 : (bs : List.List Nat.ℕ) → Typed.TF T48 O0
+      at44 = λ bs. λ Ψ. at43 bs Ψ
+
+      abbrev at45 : (bs : List.List Nat.ℕ) → Typed.TF T47 O0
+      at45 = λ bs. λ Ψ. Typed.pass T47 T48 (s44 bs) (at44 bs Ψ)
+
+      abbrev at46 : (bs : List.List Nat.ℕ) → Typed.TF T46 O0
+      at46 = λ bs. λ Ψ. Typed.pass T46 T47 (s43 bs) (at45 bs Ψ)
+
+      abbrev at47 : (bs : List.List Nat.ℕ) → Typed.TF T45 O0
+      at47 = λ bs. λ Ψ. Typed.both (s42 bs) (at46 bs Ψ)
+
+      abbrev at48 : (bs : List.List Nat.ℕ) → Typed.TF T44 O0
+      at48 = λ bs. λ Ψ. Typed.ask (s41 bs) (at47 bs Ψ)
+
+      abbrev at49 : (bs : List.List Nat.ℕ) → Typed.TF T25 O0
+      at49 = λ bs. λ Ψ. Typed.give (s40 bs) (at48 bs Ψ)
+
+      abbrev at50 : (bs : List.List Nat.ℕ) → Typed.TF T25 O0
+      at50 = λ bs. λ Ψ. at49 bs Ψ
+
+      abbrev at51 : (bs : List.List Nat.ℕ) → Typed.TF T24 O0
+      at51 = λ bs. λ Ψ. at29 bs (Typed.wantNext T25 O0 (at50 bs Ψ) Ψ)
+
+      abbrev at52 : (bs : List.List Nat.ℕ) → Typed.TF T23 O0
+      at52 = λ bs. λ Ψ. Typed.ask (s21 bs) (at51 bs Ψ)
+
+      abbrev at53 : (bs : List.List Nat.ℕ) → Typed.TF T22 O0
+      at53 = λ bs. λ Ψ. Typed.give (s20 bs) (at52 bs Ψ)
+
+      abbrev at54 : (bs : List.List Nat.ℕ) → Typed.TF T21 O0
+      at54 = λ bs. λ Ψ. Typed.give (s19 bs) (at53 bs Ψ)
+
+      abbrev at55 : (bs : List.List Nat.ℕ) → Typed.TF T11 O0
+      at55 = λ bs. λ Ψ. Typed.both (s18 bs) (at54 bs Ψ)
+
+      abbrev at56 : (bs : List.List Nat.ℕ) → Typed.TF T10 O0
+      at56 = λ bs. λ Ψ. at9 bs (Typed.wantNext T11 O0 (at55 bs Ψ) Ψ)
+
+      abbrev at57 : (bs : List.List Nat.ℕ) → Typed.TF T9 O0
+      at57 = λ bs. λ Ψ. Typed.both (s8 bs) (at56 bs Ψ)
+
+      abbrev at58 : (bs : List.List Nat.ℕ) → Typed.TF T8 O0
+      at58 = λ bs. λ Ψ. Typed.pass T8 T9 (s7 bs) (at57 bs Ψ)
+
+      abbrev at59 : (bs : List.List Nat.ℕ) → Typed.TF T7 O0
+      at59 = λ bs. λ Ψ. Typed.pass T7 T8 (s6 bs) (at58 bs Ψ)
+
+      abbrev at60 : (bs : List.List Nat.ℕ) → Typed.TF T6 O0
+      at60 = λ bs. λ Ψ. Typed.pass T6 T7 (s5 bs) (at59 bs Ψ)
+
+      abbrev at61 : (bs : List.List Nat.ℕ) → Typed.TF T5 O0
+      at61 = λ bs. λ Ψ. Typed.pass T5 T6 (s4 bs) (at60 bs Ψ)
+
+      abbrev at62 : (bs : List.List Nat.ℕ) → Typed.TF T4 O0
+      at62 = λ bs. λ Ψ. Typed.pass T4 T5 (s3 bs) (at61 bs Ψ)
+
+      abbrev at63 : (bs : List.List Nat.ℕ) → Typed.TF T3 O0
+      at63 = λ bs. λ Ψ. Typed.pass T3 T4 (s2 bs) (at62 bs Ψ)
+
+      abbrev at64 : (bs : List.List Nat.ℕ) → Typed.TF T2 O0
+      at64 = λ bs. λ Ψ. Typed.give (s1 bs) (at63 bs Ψ)
+
+      abbrev at65 : (bs : List.List Nat.ℕ) → Typed.TF T0 O0
+      at65 = λ bs. λ Ψ. Typed.give (s0 bs) (at64 bs Ψ)
 
       abbrev pub Φ : (bs : List.List Nat.ℕ) → Typed.TF T0 O0
-      Φ = λ bs. at42 bs
+      Φ = λ bs. at65 bs
 
       module _ {M : Type 1} (𝓤 : URA.URA M) (H : Wp.Heap 𝓤) (A : Atoms.Atoms 𝓤) (W : Kit.Given 𝓤 H A) (𝓣 : Wp.Tables 𝓤 H) where
         abbrev Knowns : Type 1
-        Knowns = Plain.Known 𝓤 H A W 𝓣 1 ps·0 r·0 (claims· .0) (claims· .1) "header::parse::decide" × Plain.Known 𝓤 H A W 𝓣 2 ps·1 r·1 (claims· .2) (claims· .3)
-            "records::main_header::fill_table" × Plain.Known 𝓤 H A W 𝓣 2 ps·2 r·2 (claims· .4) (claims· .5) "header::strip::strip"
+        Knowns = Plain.Known 𝓤 H A W 𝓣 1 ps·0 r·0 (claims· .0) (claims· .1) "header::parse::decide" × Plain.Known 𝓤 H A W 𝓣 0 ps·1 r·1 (claims· .2) (claims· .3)
+            "types::CodestreamOffset::position" × Plain.Known 𝓤 H A W 𝓣 2 ps·2 r·2 (claims· .4) (claims· .5) "header::strip::append" × Plain.Known 𝓤 H A W 𝓣 2 ps·3 r·3 (claims· .6)
+            (claims· .7) "records::main_header::fill_table" × Plain.Known 𝓤 H A W 𝓣 2 ps·4 r·4 (claims· .8) (claims· .9) "header::strip::strip"
 
       module _ (κs : Lifetimes.Lfts 3) (qs : Lifetimes.Shares 3) where
-        abbrev g17 : List.List Row.Entry
-        g17 = List._∷_ (
-          0,
-          Rows.any-gone (Syntax.tyEnum (List._∷_ 104 (List._∷_ 101 (List._∷_ 97 (List._∷_ 100 (List._∷_ 101 (List._∷_ 114 (List._∷_ 58 (List._∷_ 58 (List._∷_ 112
-              (List._∷_ 97 (List._∷_ 114 (List._∷_ 115 (List._∷_ 101 (List._∷_ 58 (List._∷_ 58 (List._∷_ 77 (List._∷_ 97 (List._∷_ 105 (List._∷_ 110 (List._∷_ 72 (List._∷_ 101
-              (List._∷_ 97 (List._∷_ 100 (List._∷_ 101 (List._∷_ 114 List.[]))))))))))))))))))))))))) (Syntax.ttcons (Syntax.tcons (Syntax.tyStruct (List._∷_ 104 (List._∷_ 101
-              (List._∷_ 97 (List._∷_ 100 (List._∷_ 101 (List._∷_ 114 (List._∷_ 58 (List._∷_ 58 (List._∷_ 112 (List._∷_ 97 (List._∷_ 114 (List._∷_ 115 (List._∷_ 101 (List._∷_ 58
-              (List._∷_ 58 (List._∷_ 77 (List._∷_ 97 (List._∷_ 105 (List._∷_ 110 (List._∷_ 72 (List._∷_ 101 (List._∷_ 97 (List._∷_ 100 (List._∷_ 101 (List._∷_ 114 (List._∷_ 73
-              (List._∷_ 110 (List._∷_ 102 (List._∷_ 111 List.[]))))))))))))))))))))))))))))) (Syntax.tcons (Syntax.tyStruct (List._∷_ 116 (List._∷_ 121 (List._∷_ 112 (List._∷_ 101
-              (List._∷_ 115 (List._∷_ 58 (List._∷_ 58 (List._∷_ 67 (List._∷_ 111 (List._∷_ 100 (List._∷_ 101 (List._∷_ 115 (List._∷_ 116 (List._∷_ 114 (List._∷_ 101 (List._∷_ 97
-              (List._∷_ 109 (List._∷_ 79 (List._∷_ 102 (List._∷_ 102 (List._∷_ 115 (List._∷_ 101 (List._∷_ 116 List.[]))))))))))))))))))))))) (Syntax.tcons (Syntax.tyInt Syntax.w64)
-              Syntax.tnil)) (Syntax.tcons (Syntax.tyInt Syntax.w64) (Syntax.tcons (Syntax.tyInt Syntax.w64) (Syntax.tcons (Syntax.tyInt Syntax.w64) Syntax.tnil))))) Syntax.tnil)
-              (Syntax.ttcons (Syntax.tcons (Syntax.tyStruct (List._∷_ 116 (List._∷_ 121 (List._∷_ 112 (List._∷_ 101 (List._∷_ 115 (List._∷_ 58 (List._∷_ 58 (List._∷_ 82 (List._∷_ 101
-              (List._∷_ 102 (List._∷_ 117 (List._∷_ 115 (List._∷_ 97 (List._∷_ 108 List.[])))))))))))))) (Syntax.tcons (Syntax.tyInt Syntax.w32) (Syntax.tcons (Syntax.tyInt
-              Syntax.w64) Syntax.tnil))) Syntax.tnil) Syntax.ttnil))),
-        ) (List._∷_ (
-          1,
-          Rows.sslice (Referent.rtF (Referent.fInt Syntax.w8)) (Syntax.tyRef (Syntax.named 0) Syntax.imm
-              (Syntax.tyInt Syntax.w8)) 0,
-        ) (List._∷_ (
-          2,
-          Relend.mslice-owed LentTilePartEntry.row (Syntax.tyRef (Syntax.named 1) Syntax.mut LentTilePartEntry.pointee) 1 3 (Row.lease
-              (κs .1 .0) (qs .1 .0)),
-        ) (List._∷_ (3, Mut.mslice (Referent.rtF (Referent.fInt Syntax.w8)) (Syntax.tyRef (Syntax.named 2) Syntax.mut (Syntax.tyInt Syntax.w8)) 2)
-            (List._∷_ (4, Rows.whole (Declared.row MainHeader.the-type)) (List._∷_ (
-              5,
-              Rows.any-gone (Syntax.tyStruct (List._∷_ 104 (List._∷_ 101 (List._∷_ 97 (List._∷_ 100
-                  (List._∷_ 101 (List._∷_ 114 (List._∷_ 58 (List._∷_ 58 (List._∷_ 112 (List._∷_ 97 (List._∷_ 114 (List._∷_ 115 (List._∷_ 101 (List._∷_ 58 (List._∷_ 58 (List._∷_ 77
-                  (List._∷_ 97 (List._∷_ 105 (List._∷_ 110 (List._∷_ 72 (List._∷_ 101 (List._∷_ 97 (List._∷_ 100 (List._∷_ 101 (List._∷_ 114 (List._∷_ 73 (List._∷_ 110 (List._∷_ 102
-                  (List._∷_ 111 List.[]))))))))))))))))))))))))))))) (Syntax.tcons (Syntax.tyStruct (List._∷_ 116 (List._∷_ 121 (List._∷_ 112 (List._∷_ 101 (List._∷_ 115 (List._∷_ 58
-                  (List._∷_ 58 (List._∷_ 67 (List._∷_ 111 (List._∷_ 100 (List._∷_ 101 (List._∷_ 115 (List._∷_ 116 (List._∷_ 114 (List._∷_ 101 (List._∷_ 97 (List._∷_ 109 (List._∷_ 79
-                  (List._∷_ 102 (List._∷_ 102 (List._∷_ 115 (List._∷_ 101 (List._∷_ 116 List.[]))))))))))))))))))))))) (Syntax.tcons (Syntax.tyInt Syntax.w64) Syntax.tnil)) (Syntax.tcons
-                  (Syntax.tyInt Syntax.w64) (Syntax.tcons (Syntax.tyInt Syntax.w64) (Syntax.tcons (Syntax.tyInt Syntax.w64) Syntax.tnil))))),
-            ) (List._∷_ (
-              6,
-              Rows.whole (Declared'.row
-                  CodestreamOffset.the-type),
-            ) (List._∷_ (7, Rows.any-gone (Syntax.tyInt Syntax.w64)) (List._∷_ (8, Rows.any-gone (Syntax.tyInt Syntax.w64)) (List._∷_ (
-              9,
-              Rows.any-gone
-                  (Syntax.tyInt Syntax.w64),
-            ) (List._∷_ (10, Rows.any-gone (Syntax.tyInt Syntax.w64)) (List._∷_ (11, Rows.any-gone Syntax.tyUnit) (List._∷_ (
-              12,
-              Relend.msptr
-                  LentTilePartEntry.row (Syntax.tyRef Syntax.erased Syntax.mut LentTilePartEntry.pointee) 3,
-            ) (List._∷_ (
-              13,
-              Rows.any-gone (Syntax.tyStruct (List._∷_ 38 (List._∷_ 91
-                  (List._∷_ 93 List.[]))) (Syntax.tcons (Syntax.tyRef Syntax.erased Syntax.mut LentTilePartEntry.pointee) (Syntax.tcons (Syntax.tyInt Syntax.w64) Syntax.tnil))),
-            )
-            (List._∷_ (14, Rows.any-gone (Syntax.tyRef Syntax.erased Syntax.mut (Syntax.tyInt Syntax.w8))) (List._∷_ (
-              15,
-              Rows.any-gone (Syntax.tyStruct (List._∷_ 38 (List._∷_ 91
-                  (List._∷_ 93 List.[]))) (Syntax.tcons (Syntax.tyRef Syntax.erased Syntax.mut (Syntax.tyInt Syntax.w8)) (Syntax.tcons (Syntax.tyInt Syntax.w64) Syntax.tnil))),
-            )
-            List.[])))))))))))))))
-
-        abbrev g18 : List.List Row.Entry
-        g18 = List._∷_ (
-          0,
-          Rows.any-gone (Syntax.tyEnum (List._∷_ 104 (List._∷_ 101 (List._∷_ 97 (List._∷_ 100 (List._∷_ 101 (List._∷_ 114 (List._∷_ 58 (List._∷_ 58 (List._∷_ 112
-              (List._∷_ 97 (List._∷_ 114 (List._∷_ 115 (List._∷_ 101 (List._∷_ 58 (List._∷_ 58 (List._∷_ 77 (List._∷_ 97 (List._∷_ 105 (List._∷_ 110 (List._∷_ 72 (List._∷_ 101
-              (List._∷_ 97 (List._∷_ 100 (List._∷_ 101 (List._∷_ 114 List.[]))))))))))))))))))))))))) (Syntax.ttcons (Syntax.tcons (Syntax.tyStruct (List._∷_ 104 (List._∷_ 101
-              (List._∷_ 97 (List._∷_ 100 (List._∷_ 101 (List._∷_ 114 (List._∷_ 58 (List._∷_ 58 (List._∷_ 112 (List._∷_ 97 (List._∷_ 114 (List._∷_ 115 (List._∷_ 101 (List._∷_ 58
-              (List._∷_ 58 (List._∷_ 77 (List._∷_ 97 (List._∷_ 105 (List._∷_ 110 (List._∷_ 72 (List._∷_ 101 (List._∷_ 97 (List._∷_ 100 (List._∷_ 101 (List._∷_ 114 (List._∷_ 73
-              (List._∷_ 110 (List._∷_ 102 (List._∷_ 111 List.[]))))))))))))))))))))))))))))) (Syntax.tcons (Syntax.tyStruct (List._∷_ 116 (List._∷_ 121 (List._∷_ 112 (List._∷_ 101
-              (List._∷_ 115 (List._∷_ 58 (List._∷_ 58 (List._∷_ 67 (List._∷_ 111 (List._∷_ 100 (List._∷_ 101 (List._∷_ 115 (List._∷_ 116 (List._∷_ 114 (List._∷_ 101 (List._∷_ 97
-              (List._∷_ 109 (List._∷_ 79 (List._∷_ 102 (List._∷_ 102 (List._∷_ 115 (List._∷_ 101 (List._∷_ 116 List.[]))))))))))))))))))))))) (Syntax.tcons (Syntax.tyInt Syntax.w64)
-              Syntax.tnil)) (Syntax.tcons (Syntax.tyInt Syntax.w64) (Syntax.tcons (Syntax.tyInt Syntax.w64) (Syntax.tcons (Syntax.tyInt Syntax.w64) Syntax.tnil))))) Syntax.tnil)
-              (Syntax.ttcons (Syntax.tcons (Syntax.tyStruct (List._∷_ 116 (List._∷_ 121 (List._∷_ 112 (List._∷_ 101 (List._∷_ 115 (List._∷_ 58 (List._∷_ 58 (List._∷_ 82 (List._∷_ 101
-              (List._∷_ 102 (List._∷_ 117 (List._∷_ 115 (List._∷_ 97 (List._∷_ 108 List.[])))))))))))))) (Syntax.tcons (Syntax.tyInt Syntax.w32) (Syntax.tcons (Syntax.tyInt
-              Syntax.w64) Syntax.tnil))) Syntax.tnil) Syntax.ttnil))),
-        ) (List._∷_ (
-          1,
-          Rows.sslice (Referent.rtF (Referent.fInt Syntax.w8)) (Syntax.tyRef (Syntax.named 0) Syntax.imm
-              (Syntax.tyInt Syntax.w8)) 0,
-        ) (List._∷_ (
-          2,
-          Relend.mslice-owed LentTilePartEntry.row (Syntax.tyRef (Syntax.named 1) Syntax.mut LentTilePartEntry.pointee) 1 3 (Row.lease
-              (κs .1 .0) (qs .1 .0)),
-        ) (List._∷_ (3, Mut.mslice (Referent.rtF (Referent.fInt Syntax.w8)) (Syntax.tyRef (Syntax.named 2) Syntax.mut (Syntax.tyInt Syntax.w8)) 2)
-            (List._∷_ (4, Rows.whole (Declared.row MainHeader.the-type)) (List._∷_ (
-              5,
-              Rows.any-gone (Syntax.tyStruct (List._∷_ 104 (List._∷_ 101 (List._∷_ 97 (List._∷_ 100
-                  (List._∷_ 101 (List._∷_ 114 (List._∷_ 58 (List._∷_ 58 (List._∷_ 112 (List._∷_ 97 (List._∷_ 114 (List._∷_ 115 (List._∷_ 101 (List._∷_ 58 (List._∷_ 58 (List._∷_ 77
-                  (List._∷_ 97 (List._∷_ 105 (List._∷_ 110 (List._∷_ 72 (List._∷_ 101 (List._∷_ 97 (List._∷_ 100 (List._∷_ 101 (List._∷_ 114 (List._∷_ 73 (List._∷_ 110 (List._∷_ 102
-                  (List._∷_ 111 List.[]))))))))))))))))))))))))))))) (Syntax.tcons (Syntax.tyStruct (List._∷_ 116 (List._∷_ 121 (List._∷_ 112 (List._∷_ 101 (List._∷_ 115 (List._∷_ 58
-                  (List._∷_ 58 (List._∷_ 67 (List._∷_ 111 (List._∷_ 100 (List._∷_ 101 (List._∷_ 115 (List._∷_ 116 (List._∷_ 114 (List._∷_ 101 (List._∷_ 97 (List._∷_ 109 (List._∷_ 79
-                  (List._∷_ 102 (List._∷_ 102 (List._∷_ 115 (List._∷_ 101 (List._∷_ 116 List.[]))))))))))))))))))))))) (Syntax.tcons (Syntax.tyInt Syntax.w64) Syntax.tnil)) (Syntax.tcons
-                  (Syntax.tyInt Syntax.w64) (Syntax.tcons (Syntax.tyInt Syntax.w64) (Syntax.tcons (Syntax.tyInt Syntax.w64) Syntax.tnil))))),
-            ) (List._∷_ (
-              6,
-              Rows.whole (Declared'.row
-                  CodestreamOffset.the-type),
-            ) (List._∷_ (7, Rows.any-gone (Syntax.tyInt Syntax.w64)) (List._∷_ (8, Rows.any-gone (Syntax.tyInt Syntax.w64)) (List._∷_ (
-              9,
-              Rows.any-gone
-                  (Syntax.tyInt Syntax.w64),
-            ) (List._∷_ (10, Rows.any-gone (Syntax.tyInt Syntax.w64)) (List._∷_ (11, Rows.any-gone Syntax.tyUnit) (List._∷_ (
-              12,
-              Rows.any-gone
-                  (Syntax.tyRef Syntax.erased Syntax.mut LentTilePartEntry.pointee),
-            ) (List._∷_ (
-              13,
-              Mut.mslice LentTilePartEntry.row (Syntax.tyRef Syntax.erased Syntax.mut
-                  LentTilePartEntry.pointee) 3,
-            ) (List._∷_ (14, Rows.any-gone (Syntax.tyRef Syntax.erased Syntax.mut (Syntax.tyInt Syntax.w8))) (List._∷_ (
-              15,
-              Rows.any-gone
-                  (Syntax.tyStruct (List._∷_ 38 (List._∷_ 91 (List._∷_ 93 List.[]))) (Syntax.tcons (Syntax.tyRef Syntax.erased Syntax.mut (Syntax.tyInt Syntax.w8)) (Syntax.tcons
-                  (Syntax.tyInt Syntax.w64) Syntax.tnil))),
-            ) List.[])))))))))))))))
-
-        abbrev g19 : List.List Row.Entry
-        g19 = List._∷_ (
-          0,
-          Rows.any-gone (Syntax.tyEnum (List._∷_ 104 (List._∷_ 101 (List._∷_ 97 (List._∷_ 100 (List._∷_ 101 (List._∷_ 114 (List._∷_ 58 (List._∷_ 58 (List._∷_ 112
-              (List._∷_ 97 (List._∷_ 114 (List._∷_ 115 (List._∷_ 101 (List._∷_ 58 (List._∷_ 58 (List._∷_ 77 (List._∷_ 97 (List._∷_ 105 (List._∷_ 110 (List._∷_ 72 (List._∷_ 101
-              (List._∷_ 97 (List._∷_ 100 (List._∷_ 101 (List._∷_ 114 List.[]))))))))))))))))))))))))) (Syntax.ttcons (Syntax.tcons (Syntax.tyStruct (List._∷_ 104 (List._∷_ 101
-              (List._∷_ 97 (List._∷_ 100 (List._∷_ 101 (List._∷_ 114 (List._∷_ 58 (List._∷_ 58 (List._∷_ 112 (List._∷_ 97 (List._∷_ 114 (List._∷_ 115 (List._∷_ 101 (List._∷_ 58
-              (List._∷_ 58 (List._∷_ 77 (List._∷_ 97 (List._∷_ 105 (List._∷_ 110 (List._∷_ 72 (List._∷_ 101 (List._∷_ 97 (List._∷_ 100 (List._∷_ 101 (List._∷_ 114 (List._∷_ 73
-              (List._∷_ 110 (List._∷_ 102 (List._∷_ 111 List.[]))))))))))))))))))))))))))))) (Syntax.tcons (Syntax.tyStruct (List._∷_ 116 (List._∷_ 121 (List._∷_ 112 (List._∷_ 101
-              (List._∷_ 115 (List._∷_ 58 (List._∷_ 58 (List._∷_ 67 (List._∷_ 111 (List._∷_ 100 (List._∷_ 101 (List._∷_ 115 (List._∷_ 116 (List._∷_ 114 (List._∷_ 101 (List._∷_ 97
-              (List._∷_ 109 (List._∷_ 79 (List._∷_ 102 (List._∷_ 102 (List._∷_ 115 (List._∷_ 101 (List._∷_ 116 List.[]))))))))))))))))))))))) (Syntax.tcons (Syntax.tyInt Syntax.w64)
-              Syntax.tnil)) (Syntax.tcons (Syntax.tyInt Syntax.w64) (Syntax.tcons (Syntax.tyInt Syntax.w64) (Syntax.tcons (Syntax.tyInt Syntax.w64) Syntax.tnil))))) Syntax.tnil)
-              (Syntax.ttcons (Syntax.tcons (Syntax.tyStruct (List._∷_ 116 (List._∷_ 121 (List._∷_ 112 (List._∷_ 101 (List._∷_ 115 (List._∷_ 58 (List._∷_ 58 (List._∷_ 82 (List._∷_ 101
-              (List._∷_ 102 (List._∷_ 117 (List._∷_ 115 (List._∷_ 97 (List._∷_ 108 List.[])))))))))))))) (Syntax.tcons (Syntax.tyInt Syntax.w32) (Syntax.tcons (Syntax.tyInt
-              Syntax.w64) Syntax.tnil))) Syntax.tnil) Syntax.ttnil))),
-        ) (List._∷_ (
-          1,
-          Rows.sslice (Referent.rtF (Referent.fInt Syntax.w8)) (Syntax.tyRef (Syntax.named 0) Syntax.imm
-              (Syntax.tyInt Syntax.w8)) 0,
-        ) (List._∷_ (
-          2,
-          Relend.mslice-owed LentTilePartEntry.row (Syntax.tyRef (Syntax.named 1) Syntax.mut LentTilePartEntry.pointee) 1 3 (Row.lease
-              (κs .1 .0) (qs .1 .0)),
-        ) (List._∷_ (3, Mut.mslice (Referent.rtF (Referent.fInt Syntax.w8)) (Syntax.tyRef (Syntax.named 2) Syntax.mut (Syntax.tyInt Syntax.w8)) 2)
-            (List._∷_ (4, Rows.whole (Declared.row MainHeader.the-type)) (List._∷_ (
-              5,
-              Rows.any-gone (Syntax.tyStruct (List._∷_ 104 (List._∷_ 101 (List._∷_ 97 (List._∷_ 100
-                  (List._∷_ 101 (List._∷_ 114 (List._∷_ 58 (List._∷_ 58 (List._∷_ 112 (List._∷_ 97 (List._∷_ 114 (List._∷_ 115 (List._∷_ 101 (List._∷_ 58 (List._∷_ 58 (List._∷_ 77
-                  (List._∷_ 97 (List._∷_ 105 (List._∷_ 110 (List._∷_ 72 (List._∷_ 101 (List._∷_ 97 (List._∷_ 100 (List._∷_ 101 (List._∷_ 114 (List._∷_ 73 (List._∷_ 110 (List._∷_ 102
-                  (List._∷_ 111 List.[]))))))))))))))))))))))))))))) (Syntax.tcons (Syntax.tyStruct (List._∷_ 116 (List._∷_ 121 (List._∷_ 112 (List._∷_ 101 (List._∷_ 115 (List._∷_ 58
-                  (List._∷_ 58 (List._∷_ 67 (List._∷_ 111 (List._∷_ 100 (List._∷_ 101 (List._∷_ 115 (List._∷_ 116 (List._∷_ 114 (List._∷_ 101 (List._∷_ 97 (List._∷_ 109 (List._∷_ 79
-                  (List._∷_ 102 (List._∷_ 102 (List._∷_ 115 (List._∷_ 101 (List._∷_ 116 List.[]))))))))))))))))))))))) (Syntax.tcons (Syntax.tyInt Syntax.w64) Syntax.tnil)) (Syntax.tcons
-                  (Syntax.tyInt Syntax.w64) (Syntax.tcons (Syntax.tyInt Syntax.w64) (Syntax.tcons (Syntax.tyInt Syntax.w64) Syntax.tnil))))),
-            ) (List._∷_ (
-              6,
-              Rows.whole (Declared'.row
-                  CodestreamOffset.the-type),
-            ) (List._∷_ (7, Rows.any-gone (Syntax.tyInt Syntax.w64)) (List._∷_ (8, Rows.any-gone (Syntax.tyInt Syntax.w64)) (List._∷_ (
-              9,
-              Rows.any-gone
-                  (Syntax.tyInt Syntax.w64),
-            ) (List._∷_ (10, Rows.any-gone (Syntax.tyInt Syntax.w64)) (List._∷_ (11, Rows.sc-here Row.sUnit) (List._∷_ (
-              12,
-              Rows.any-gone (Syntax.tyRef
-                  Syntax.erased Syntax.mut LentTilePartEntry.pointee),
-            ) (List._∷_ (13, Mut.msleft LentTilePartEntry.row (Syntax.tyRef Syntax.erased Syntax.mut LentTilePartEntry.pointee))
-            (List._∷_ (14, Rows.any-gone (Syntax.tyRef Syntax.erased Syntax.mut (Syntax.tyInt Syntax.w8))) (List._∷_ (
-              15,
-              Rows.any-gone (Syntax.tyStruct (List._∷_ 38 (List._∷_ 91
-                  (List._∷_ 93 List.[]))) (Syntax.tcons (Syntax.tyRef Syntax.erased Syntax.mut (Syntax.tyInt Syntax.w8)) (Syntax.tcons (Syntax.tyInt Syntax.w64) Syntax.tnil))),
-            )
-            List.[])))))))))))))))
-
-        abbrev g20 : List.List Row.Entry
-        g20 = List._∷_ (
-          0,
-          Rows.any-gone (Syntax.tyEnum (List._∷_ 104 (List._∷_ 101 (List._∷_ 97 (List._∷_ 100 (List._∷_ 101 (List._∷_ 114 (List._∷_ 58 (List._∷_ 58 (List._∷_ 112
-              (List._∷_ 97 (List._∷_ 114 (List._∷_ 115 (List._∷_ 101 (List._∷_ 58 (List._∷_ 58 (List._∷_ 77 (List._∷_ 97 (List._∷_ 105 (List._∷_ 110 (List._∷_ 72 (List._∷_ 101
-              (List._∷_ 97 (List._∷_ 100 (List._∷_ 101 (List._∷_ 114 List.[]))))))))))))))))))))))))) (Syntax.ttcons (Syntax.tcons (Syntax.tyStruct (List._∷_ 104 (List._∷_ 101
-              (List._∷_ 97 (List._∷_ 100 (List._∷_ 101 (List._∷_ 114 (List._∷_ 58 (List._∷_ 58 (List._∷_ 112 (List._∷_ 97 (List._∷_ 114 (List._∷_ 115 (List._∷_ 101 (List._∷_ 58
-              (List._∷_ 58 (List._∷_ 77 (List._∷_ 97 (List._∷_ 105 (List._∷_ 110 (List._∷_ 72 (List._∷_ 101 (List._∷_ 97 (List._∷_ 100 (List._∷_ 101 (List._∷_ 114 (List._∷_ 73
-              (List._∷_ 110 (List._∷_ 102 (List._∷_ 111 List.[]))))))))))))))))))))))))))))) (Syntax.tcons (Syntax.tyStruct (List._∷_ 116 (List._∷_ 121 (List._∷_ 112 (List._∷_ 101
-              (List._∷_ 115 (List._∷_ 58 (List._∷_ 58 (List._∷_ 67 (List._∷_ 111 (List._∷_ 100 (List._∷_ 101 (List._∷_ 115 (List._∷_ 116 (List._∷_ 114 (List._∷_ 101 (List._∷_ 97
-              (List._∷_ 109 (List._∷_ 79 (List._∷_ 102 (List._∷_ 102 (List._∷_ 115 (List._∷_ 101 (List._∷_ 116 List.[]))))))))))))))))))))))) (Syntax.tcons (Syntax.tyInt Syntax.w64)
-              Syntax.tnil)) (Syntax.tcons (Syntax.tyInt Syntax.w64) (Syntax.tcons (Syntax.tyInt Syntax.w64) (Syntax.tcons (Syntax.tyInt Syntax.w64) Syntax.tnil))))) Syntax.tnil)
-              (Syntax.ttcons (Syntax.tcons (Syntax.tyStruct (List._∷_ 116 (List._∷_ 121 (List._∷_ 112 (List._∷_ 101 (List._∷_ 115 (List._∷_ 58 (List._∷_ 58 (List._∷_ 82 (List._∷_ 101
-              (List._∷_ 102 (List._∷_ 117 (List._∷_ 115 (List._∷_ 97 (List._∷_ 108 List.[])))))))))))))) (Syntax.tcons (Syntax.tyInt Syntax.w32) (Syntax.tcons (Syntax.tyInt
-              Syntax.w64) Syntax.tnil))) Syntax.tnil) Syntax.ttnil))),
-        ) (List._∷_ (
-          1,
-          Rows.sslice (Referent.rtF (Referent.fInt Syntax.w8)) (Syntax.tyRef (Syntax.named 0) Syntax.imm
-              (Syntax.tyInt Syntax.w8)) 0,
-        ) (List._∷_ (
-          2,
-          Relend.mslice-owed LentTilePartEntry.row (Syntax.tyRef (Syntax.named 1) Syntax.mut LentTilePartEntry.pointee) 1 3 (Row.lease
-              (κs .1 .0) (qs .1 .0)),
-        ) (List._∷_ (3, Mut.mslice (Referent.rtF (Referent.fInt Syntax.w8)) (Syntax.tyRef (Syntax.named 2) Syntax.mut (Syntax.tyInt Syntax.w8)) 2)
-            (List._∷_ (4, Rows.whole (Declared.row MainHeader.the-type)) (List._∷_ (
-              5,
-              Rows.any-gone (Syntax.tyStruct (List._∷_ 104 (List._∷_ 101 (List._∷_ 97 (List._∷_ 100
-                  (List._∷_ 101 (List._∷_ 114 (List._∷_ 58 (List._∷_ 58 (List._∷_ 112 (List._∷_ 97 (List._∷_ 114 (List._∷_ 115 (List._∷_ 101 (List._∷_ 58 (List._∷_ 58 (List._∷_ 77
-                  (List._∷_ 97 (List._∷_ 105 (List._∷_ 110 (List._∷_ 72 (List._∷_ 101 (List._∷_ 97 (List._∷_ 100 (List._∷_ 101 (List._∷_ 114 (List._∷_ 73 (List._∷_ 110 (List._∷_ 102
-                  (List._∷_ 111 List.[]))))))))))))))))))))))))))))) (Syntax.tcons (Syntax.tyStruct (List._∷_ 116 (List._∷_ 121 (List._∷_ 112 (List._∷_ 101 (List._∷_ 115 (List._∷_ 58
-                  (List._∷_ 58 (List._∷_ 67 (List._∷_ 111 (List._∷_ 100 (List._∷_ 101 (List._∷_ 115 (List._∷_ 116 (List._∷_ 114 (List._∷_ 101 (List._∷_ 97 (List._∷_ 109 (List._∷_ 79
-                  (List._∷_ 102 (List._∷_ 102 (List._∷_ 115 (List._∷_ 101 (List._∷_ 116 List.[]))))))))))))))))))))))) (Syntax.tcons (Syntax.tyInt Syntax.w64) Syntax.tnil)) (Syntax.tcons
-                  (Syntax.tyInt Syntax.w64) (Syntax.tcons (Syntax.tyInt Syntax.w64) (Syntax.tcons (Syntax.tyInt Syntax.w64) Syntax.tnil))))),
-            ) (List._∷_ (
-              6,
-              Rows.any-gone (Syntax.tyStruct
-                  (List._∷_ 116 (List._∷_ 121 (List._∷_ 112 (List._∷_ 101 (List._∷_ 115 (List._∷_ 58 (List._∷_ 58 (List._∷_ 67 (List._∷_ 111 (List._∷_ 100 (List._∷_ 101 (List._∷_ 115
-                  (List._∷_ 116 (List._∷_ 114 (List._∷_ 101 (List._∷_ 97 (List._∷_ 109 (List._∷_ 79 (List._∷_ 102 (List._∷_ 102 (List._∷_ 115 (List._∷_ 101 (List._∷_ 116
-                  List.[]))))))))))))))))))))))) (Syntax.tcons (Syntax.tyInt Syntax.w64) Syntax.tnil)),
-            ) (List._∷_ (7, Rows.any-gone (Syntax.tyInt Syntax.w64)) (List._∷_ (
-              8,
-              Rows.any-gone
-                  (Syntax.tyInt Syntax.w64),
-            ) (List._∷_ (9, Rows.any-gone (Syntax.tyInt Syntax.w64)) (List._∷_ (10, Rows.any-gone (Syntax.tyInt Syntax.w64)) (List._∷_ (
-              11,
-              Rows.sc-here
-                  Row.sUnit,
-            ) (List._∷_ (12, Rows.any-gone (Syntax.tyRef Syntax.erased Syntax.mut LentTilePartEntry.pointee)) (List._∷_ (
-              13,
-              Mut.msleft LentTilePartEntry.row (Syntax.tyRef
-                  Syntax.erased Syntax.mut LentTilePartEntry.pointee),
-            ) (List._∷_ (14, Rows.any-gone (Syntax.tyRef Syntax.erased Syntax.mut (Syntax.tyInt Syntax.w8))) (List._∷_ (
-              15,
-              Rows.any-gone (Syntax.tyStruct (List._∷_ 38 (List._∷_ 91 (List._∷_ 93 List.[]))) (Syntax.tcons (Syntax.tyRef Syntax.erased Syntax.mut (Syntax.tyInt Syntax.w8))
-                  (Syntax.tcons (Syntax.tyInt Syntax.w64) Syntax.tnil))),
-            ) List.[])))))))))))))))
-
-        abbrev g21 : List.List Row.Entry
-        g21 = List._∷_ (
-          0,
-          Rows.any-gone (Syntax.tyEnum (List._∷_ 104 (List._∷_ 101 (List._∷_ 97 (List._∷_ 100 (List._∷_ 101 (List._∷_ 114 (List._∷_ 58 (List._∷_ 58 (List._∷_ 112
-              (List._∷_ 97 (List._∷_ 114 (List._∷_ 115 (List._∷_ 101 (List._∷_ 58 (List._∷_ 58 (List._∷_ 77 (List._∷_ 97 (List._∷_ 105 (List._∷_ 110 (List._∷_ 72 (List._∷_ 101
-              (List._∷_ 97 (List._∷_ 100 (List._∷_ 101 (List._∷_ 114 List.[]))))))))))))))))))))))))) (Syntax.ttcons (Syntax.tcons (Syntax.tyStruct (List._∷_ 104 (List._∷_ 101
-              (List._∷_ 97 (List._∷_ 100 (List._∷_ 101 (List._∷_ 114 (List._∷_ 58 (List._∷_ 58 (List._∷_ 112 (List._∷_ 97 (List._∷_ 114 (List._∷_ 115 (List._∷_ 101 (List._∷_ 58
-              (List._∷_ 58 (List._∷_ 77 (List._∷_ 97 (List._∷_ 105 (List._∷_ 110 (List._∷_ 72 (List._∷_ 101 (List._∷_ 97 (List._∷_ 100 (List._∷_ 101 (List._∷_ 114 (List._∷_ 73
-              (List._∷_ 110 (List._∷_ 102 (List._∷_ 111 List.[]))))))))))))))))))))))))))))) (Syntax.tcons (Syntax.tyStruct (List._∷_ 116 (List._∷_ 121 (List._∷_ 112 (List._∷_ 101
-              (List._∷_ 115 (List._∷_ 58 (List._∷_ 58 (List._∷_ 67 (List._∷_ 111 (List._∷_ 100 (List._∷_ 101 (List._∷_ 115 (List._∷_ 116 (List._∷_ 114 (List._∷_ 101 (List._∷_ 97
-              (List._∷_ 109 (List._∷_ 79 (List._∷_ 102 (List._∷_ 102 (List._∷_ 115 (List._∷_ 101 (List._∷_ 116 List.[]))))))))))))))))))))))) (Syntax.tcons (Syntax.tyInt Syntax.w64)
-              Syntax.tnil)) (Syntax.tcons (Syntax.tyInt Syntax.w64) (Syntax.tcons (Syntax.tyInt Syntax.w64) (Syntax.tcons (Syntax.tyInt Syntax.w64) Syntax.tnil))))) Syntax.tnil)
-              (Syntax.ttcons (Syntax.tcons (Syntax.tyStruct (List._∷_ 116 (List._∷_ 121 (List._∷_ 112 (List._∷_ 101 (List._∷_ 115 (List._∷_ 58 (List._∷_ 58 (List._∷_ 82 (List._∷_ 101
-              (List._∷_ 102 (List._∷_ 117 (List._∷_ 115 (List._∷_ 97 (List._∷_ 108 List.[])))))))))))))) (Syntax.tcons (Syntax.tyInt Syntax.w32) (Syntax.tcons (Syntax.tyInt
-              Syntax.w64) Syntax.tnil))) Syntax.tnil) Syntax.ttnil))),
-        ) (List._∷_ (
-          1,
-          Rows.sslice (Referent.rtF (Referent.fInt Syntax.w8)) (Syntax.tyRef (Syntax.named 0) Syntax.imm
-              (Syntax.tyInt Syntax.w8)) 0,
-        ) (List._∷_ (
-          2,
-          Relend.mslice-owed LentTilePartEntry.row (Syntax.tyRef (Syntax.named 1) Syntax.mut LentTilePartEntry.pointee) 1 3 (Row.lease
-              (κs .1 .0) (qs .1 .0)),
-        ) (List._∷_ (3, Mut.mslice (Referent.rtF (Referent.fInt Syntax.w8)) (Syntax.tyRef (Syntax.named 2) Syntax.mut (Syntax.tyInt Syntax.w8)) 2)
-            (List._∷_ (4, Rows.whole (Declared.row MainHeader.the-type)) (List._∷_ (
-              5,
-              Rows.any-gone (Syntax.tyStruct (List._∷_ 104 (List._∷_ 101 (List._∷_ 97 (List._∷_ 100
-                  (List._∷_ 101 (List._∷_ 114 (List._∷_ 58 (List._∷_ 58 (List._∷_ 112 (List._∷_ 97 (List._∷_ 114 (List._∷_ 115 (List._∷_ 101 (List._∷_ 58 (List._∷_ 58 (List._∷_ 77
-                  (List._∷_ 97 (List._∷_ 105 (List._∷_ 110 (List._∷_ 72 (List._∷_ 101 (List._∷_ 97 (List._∷_ 100 (List._∷_ 101 (List._∷_ 114 (List._∷_ 73 (List._∷_ 110 (List._∷_ 102
-                  (List._∷_ 111 List.[]))))))))))))))))))))))))))))) (Syntax.tcons (Syntax.tyStruct (List._∷_ 116 (List._∷_ 121 (List._∷_ 112 (List._∷_ 101 (List._∷_ 115 (List._∷_ 58
-                  (List._∷_ 58 (List._∷_ 67 (List._∷_ 111 (List._∷_ 100 (List._∷_ 101 (List._∷_ 115 (List._∷_ 116 (List._∷_ 114 (List._∷_ 101 (List._∷_ 97 (List._∷_ 109 (List._∷_ 79
-                  (List._∷_ 102 (List._∷_ 102 (List._∷_ 115 (List._∷_ 101 (List._∷_ 116 List.[]))))))))))))))))))))))) (Syntax.tcons (Syntax.tyInt Syntax.w64) Syntax.tnil)) (Syntax.tcons
-                  (Syntax.tyInt Syntax.w64) (Syntax.tcons (Syntax.tyInt Syntax.w64) (Syntax.tcons (Syntax.tyInt Syntax.w64) Syntax.tnil))))),
-            ) (List._∷_ (
-              6,
-              Rows.any-gone (Syntax.tyStruct
-                  (List._∷_ 116 (List._∷_ 121 (List._∷_ 112 (List._∷_ 101 (List._∷_ 115 (List._∷_ 58 (List._∷_ 58 (List._∷_ 67 (List._∷_ 111 (List._∷_ 100 (List._∷_ 101 (List._∷_ 115
-                  (List._∷_ 116 (List._∷_ 114 (List._∷_ 101 (List._∷_ 97 (List._∷_ 109 (List._∷_ 79 (List._∷_ 102 (List._∷_ 102 (List._∷_ 115 (List._∷_ 101 (List._∷_ 116
-                  List.[]))))))))))))))))))))))) (Syntax.tcons (Syntax.tyInt Syntax.w64) Syntax.tnil)),
-            ) (List._∷_ (7, Rows.any-gone (Syntax.tyInt Syntax.w64)) (List._∷_ (
-              8,
-              Rows.any-gone
-                  (Syntax.tyInt Syntax.w64),
-            ) (List._∷_ (9, Rows.any-gone (Syntax.tyInt Syntax.w64)) (List._∷_ (10, Rows.any-gone (Syntax.tyInt Syntax.w64)) (List._∷_ (
-              11,
-              Rows.any-gone
-                  Syntax.tyUnit,
-            ) (List._∷_ (12, Rows.any-gone (Syntax.tyRef Syntax.erased Syntax.mut LentTilePartEntry.pointee)) (List._∷_ (
-              13,
-              Mut.msleft LentTilePartEntry.row
-                  (Syntax.tyRef Syntax.erased Syntax.mut LentTilePartEntry.pointee),
-            ) (List._∷_ (14, Rows.any-gone (Syntax.tyRef Syntax.erased Syntax.mut (Syntax.tyInt Syntax.w8)))
-            (List._∷_ (
-              15,
-              Rows.any-gone (Syntax.tyStruct (List._∷_ 38 (List._∷_ 91 (List._∷_ 93 List.[]))) (Syntax.tcons (Syntax.tyRef Syntax.erased Syntax.mut (Syntax.tyInt
-                  Syntax.w8)) (Syntax.tcons (Syntax.tyInt Syntax.w64) Syntax.tnil))),
-            ) List.[])))))))))))))))
-
         abbrev g22 : List.List Row.Entry
         g22 = List._∷_ (
           0,
@@ -2615,7 +2768,7 @@ module _ (claims· : Claims) where
               (Syntax.tyInt Syntax.w8)) 0,
         ) (List._∷_ (2, Mut.mslice LentTilePartEntry.row (Syntax.tyRef (Syntax.named 1) Syntax.mut LentTilePartEntry.pointee) 1) (List._∷_ (
           3,
-          Relend.mslice-owed (Referent.rtF (Referent.fInt Syntax.w8)) (Syntax.tyRef (Syntax.named 2) Syntax.mut (Syntax.tyInt Syntax.w8)) 2 4 (Row.lease (κs .1 .1 .0) (qs .1 .1
+          Relend.mslice-owed (Referent.rtF (Referent.fInt Syntax.w8)) (Syntax.tyRef (Syntax.named 2) Syntax.mut (Syntax.tyInt Syntax.w8)) 2 3 (Row.lease (κs .1 .1 .0) (qs .1 .1
               .0)),
         ) (List._∷_ (4, Rows.whole (Declared.row MainHeader.the-type)) (List._∷_ (
           5,
@@ -2639,17 +2792,17 @@ module _ (claims· : Claims) where
         ) (List._∷_ (9, Rows.any-gone (Syntax.tyInt Syntax.w64)) (List._∷_ (10, Rows.any-gone (Syntax.tyInt Syntax.w64)) (List._∷_ (
           11,
           Rows.any-gone
-              Syntax.tyUnit,
-        ) (List._∷_ (12, Rows.any-gone (Syntax.tyRef Syntax.erased Syntax.mut LentTilePartEntry.pointee)) (List._∷_ (
-          13,
-          Rows.any-gone (Syntax.tyStruct (List._∷_
-              38 (List._∷_ 91 (List._∷_ 93 List.[]))) (Syntax.tcons (Syntax.tyRef Syntax.erased Syntax.mut LentTilePartEntry.pointee) (Syntax.tcons (Syntax.tyInt Syntax.w64)
-              Syntax.tnil))),
-        ) (List._∷_ (14, Relend.msptr (Referent.rtF (Referent.fInt Syntax.w8)) (Syntax.tyRef Syntax.erased Syntax.mut (Syntax.tyInt Syntax.w8)) 4) (List._∷_ (
+              Syntax.tyBool,
+        ) (List._∷_ (12, Rows.any-gone (Syntax.tyInt Syntax.w64)) (List._∷_ (13, Rows.sc-here (Row.sInt Syntax.w64)) (List._∷_ (
+          14,
+          Relend.msptr (Referent.rtF
+              (Referent.fInt Syntax.w8)) (Syntax.tyRef Syntax.erased Syntax.mut (Syntax.tyInt Syntax.w8)) 3,
+        ) (List._∷_ (
           15,
-          Rows.any-gone (Syntax.tyStruct (List._∷_ 38 (List._∷_ 91 (List._∷_ 93 List.[]))) (Syntax.tcons (Syntax.tyRef Syntax.erased Syntax.mut (Syntax.tyInt Syntax.w8))
-              (Syntax.tcons (Syntax.tyInt Syntax.w64) Syntax.tnil))),
-        ) List.[])))))))))))))))
+          Rows.any-gone (Syntax.tyStruct (List._∷_ 38 (List._∷_ 91
+              (List._∷_ 93 List.[]))) (Syntax.tcons (Syntax.tyRef Syntax.erased Syntax.mut (Syntax.tyInt Syntax.w8)) (Syntax.tcons (Syntax.tyInt Syntax.w64) Syntax.tnil))),
+        )
+            List.[])))))))))))))))
 
         abbrev g23 : List.List Row.Entry
         g23 = List._∷_ (
@@ -2672,7 +2825,7 @@ module _ (claims· : Claims) where
               (Syntax.tyInt Syntax.w8)) 0,
         ) (List._∷_ (2, Mut.mslice LentTilePartEntry.row (Syntax.tyRef (Syntax.named 1) Syntax.mut LentTilePartEntry.pointee) 1) (List._∷_ (
           3,
-          Relend.mslice-owed (Referent.rtF (Referent.fInt Syntax.w8)) (Syntax.tyRef (Syntax.named 2) Syntax.mut (Syntax.tyInt Syntax.w8)) 2 4 (Row.lease (κs .1 .1 .0) (qs .1 .1
+          Relend.mslice-owed (Referent.rtF (Referent.fInt Syntax.w8)) (Syntax.tyRef (Syntax.named 2) Syntax.mut (Syntax.tyInt Syntax.w8)) 2 3 (Row.lease (κs .1 .1 .0) (qs .1 .1
               .0)),
         ) (List._∷_ (4, Rows.whole (Declared.row MainHeader.the-type)) (List._∷_ (
           5,
@@ -2696,16 +2849,15 @@ module _ (claims· : Claims) where
         ) (List._∷_ (9, Rows.any-gone (Syntax.tyInt Syntax.w64)) (List._∷_ (10, Rows.any-gone (Syntax.tyInt Syntax.w64)) (List._∷_ (
           11,
           Rows.any-gone
-              Syntax.tyUnit,
-        ) (List._∷_ (12, Rows.any-gone (Syntax.tyRef Syntax.erased Syntax.mut LentTilePartEntry.pointee)) (List._∷_ (
-          13,
-          Rows.any-gone (Syntax.tyStruct (List._∷_
-              38 (List._∷_ 91 (List._∷_ 93 List.[]))) (Syntax.tcons (Syntax.tyRef Syntax.erased Syntax.mut LentTilePartEntry.pointee) (Syntax.tcons (Syntax.tyInt Syntax.w64)
-              Syntax.tnil))),
-        ) (List._∷_ (14, Rows.any-gone (Syntax.tyRef Syntax.erased Syntax.mut (Syntax.tyInt Syntax.w8))) (List._∷_ (
+              Syntax.tyBool,
+        ) (List._∷_ (12, Rows.any-gone (Syntax.tyInt Syntax.w64)) (List._∷_ (13, Rows.sc-here (Row.sInt Syntax.w64)) (List._∷_ (
+          14,
+          Rows.any-gone (Syntax.tyRef
+              Syntax.erased Syntax.mut (Syntax.tyInt Syntax.w8)),
+        ) (List._∷_ (
           15,
-          Mut.mslice (Referent.rtF (Referent.fInt
-              Syntax.w8)) (Syntax.tyRef Syntax.erased Syntax.mut (Syntax.tyInt Syntax.w8)) 4,
+          Mut.mslice (Referent.rtF (Referent.fInt Syntax.w8)) (Syntax.tyRef Syntax.erased Syntax.mut
+              (Syntax.tyInt Syntax.w8)) 3,
         ) List.[])))))))))))))))
 
         abbrev g24 : List.List Row.Entry
@@ -2729,7 +2881,7 @@ module _ (claims· : Claims) where
               (Syntax.tyInt Syntax.w8)) 0,
         ) (List._∷_ (2, Mut.mslice LentTilePartEntry.row (Syntax.tyRef (Syntax.named 1) Syntax.mut LentTilePartEntry.pointee) 1) (List._∷_ (
           3,
-          Relend.mslice-owed (Referent.rtF (Referent.fInt Syntax.w8)) (Syntax.tyRef (Syntax.named 2) Syntax.mut (Syntax.tyInt Syntax.w8)) 2 4 (Row.lease (κs .1 .1 .0) (qs .1 .1
+          Relend.mslice-owed (Referent.rtF (Referent.fInt Syntax.w8)) (Syntax.tyRef (Syntax.named 2) Syntax.mut (Syntax.tyInt Syntax.w8)) 2 3 (Row.lease (κs .1 .1 .0) (qs .1 .1
               .0)),
         ) (List._∷_ (4, Rows.whole (Declared.row MainHeader.the-type)) (List._∷_ (
           5,
@@ -2752,17 +2904,16 @@ module _ (claims· : Claims) where
               (Syntax.tyInt Syntax.w64),
         ) (List._∷_ (9, Rows.any-gone (Syntax.tyInt Syntax.w64)) (List._∷_ (10, Rows.any-gone (Syntax.tyInt Syntax.w64)) (List._∷_ (
           11,
-          Rows.sc-here
-              Row.sUnit,
-        ) (List._∷_ (12, Rows.any-gone (Syntax.tyRef Syntax.erased Syntax.mut LentTilePartEntry.pointee)) (List._∷_ (
-          13,
-          Rows.any-gone (Syntax.tyStruct (List._∷_ 38
-              (List._∷_ 91 (List._∷_ 93 List.[]))) (Syntax.tcons (Syntax.tyRef Syntax.erased Syntax.mut LentTilePartEntry.pointee) (Syntax.tcons (Syntax.tyInt Syntax.w64)
-              Syntax.tnil))),
-        ) (List._∷_ (14, Rows.any-gone (Syntax.tyRef Syntax.erased Syntax.mut (Syntax.tyInt Syntax.w8))) (List._∷_ (
+          Rows.any-gone
+              Syntax.tyBool,
+        ) (List._∷_ (12, Rows.sc-here (Row.sInt Syntax.w64)) (List._∷_ (13, Rows.sc-here (Row.sInt Syntax.w64)) (List._∷_ (
+          14,
+          Rows.any-gone (Syntax.tyRef
+              Syntax.erased Syntax.mut (Syntax.tyInt Syntax.w8)),
+        ) (List._∷_ (
           15,
-          Mut.msleft (Referent.rtF (Referent.fInt
-              Syntax.w8)) (Syntax.tyRef Syntax.erased Syntax.mut (Syntax.tyInt Syntax.w8)),
+          Mut.msleft (Referent.rtF (Referent.fInt Syntax.w8)) (Syntax.tyRef Syntax.erased Syntax.mut
+              (Syntax.tyInt Syntax.w8)),
         ) List.[])))))))))))))))
 
         abbrev g25 : List.List Row.Entry
@@ -2786,7 +2937,7 @@ module _ (claims· : Claims) where
               (Syntax.tyInt Syntax.w8)) 0,
         ) (List._∷_ (2, Mut.mslice LentTilePartEntry.row (Syntax.tyRef (Syntax.named 1) Syntax.mut LentTilePartEntry.pointee) 1) (List._∷_ (
           3,
-          Relend.mslice-owed (Referent.rtF (Referent.fInt Syntax.w8)) (Syntax.tyRef (Syntax.named 2) Syntax.mut (Syntax.tyInt Syntax.w8)) 2 4 (Row.lease (κs .1 .1 .0) (qs .1 .1
+          Relend.mslice-owed (Referent.rtF (Referent.fInt Syntax.w8)) (Syntax.tyRef (Syntax.named 2) Syntax.mut (Syntax.tyInt Syntax.w8)) 2 3 (Row.lease (κs .1 .1 .0) (qs .1 .1
               .0)),
         ) (List._∷_ (4, Rows.whole (Declared.row MainHeader.the-type)) (List._∷_ (
           5,
@@ -2810,317 +2961,680 @@ module _ (claims· : Claims) where
         ) (List._∷_ (9, Rows.any-gone (Syntax.tyInt Syntax.w64)) (List._∷_ (10, Rows.any-gone (Syntax.tyInt Syntax.w64)) (List._∷_ (
           11,
           Rows.any-gone
-              Syntax.tyUnit,
-        ) (List._∷_ (12, Rows.any-gone (Syntax.tyRef Syntax.erased Syntax.mut LentTilePartEntry.pointee)) (List._∷_ (
-          13,
-          Rows.any-gone (Syntax.tyStruct (List._∷_
-              38 (List._∷_ 91 (List._∷_ 93 List.[]))) (Syntax.tcons (Syntax.tyRef Syntax.erased Syntax.mut LentTilePartEntry.pointee) (Syntax.tcons (Syntax.tyInt Syntax.w64)
-              Syntax.tnil))),
-        ) (List._∷_ (14, Rows.any-gone (Syntax.tyRef Syntax.erased Syntax.mut (Syntax.tyInt Syntax.w8))) (List._∷_ (
+              Syntax.tyBool,
+        ) (List._∷_ (12, Rows.any-gone (Syntax.tyInt Syntax.w64)) (List._∷_ (13, Rows.sc-here (Row.sInt Syntax.w64)) (List._∷_ (
+          14,
+          Rows.any-gone (Syntax.tyRef
+              Syntax.erased Syntax.mut (Syntax.tyInt Syntax.w8)),
+        ) (List._∷_ (
           15,
-          Mut.msleft (Referent.rtF (Referent.fInt
-              Syntax.w8)) (Syntax.tyRef Syntax.erased Syntax.mut (Syntax.tyInt Syntax.w8)),
+          Mut.msleft (Referent.rtF (Referent.fInt Syntax.w8)) (Syntax.tyRef Syntax.erased Syntax.mut
+              (Syntax.tyInt Syntax.w8)),
+        ) List.[])))))))))))))))
+
+        abbrev g26 : List.List Row.Entry
+        g26 = List._∷_ (
+          0,
+          Rows.any-gone (Syntax.tyEnum (List._∷_ 104 (List._∷_ 101 (List._∷_ 97 (List._∷_ 100 (List._∷_ 101 (List._∷_ 114 (List._∷_ 58 (List._∷_ 58 (List._∷_ 112
+              (List._∷_ 97 (List._∷_ 114 (List._∷_ 115 (List._∷_ 101 (List._∷_ 58 (List._∷_ 58 (List._∷_ 77 (List._∷_ 97 (List._∷_ 105 (List._∷_ 110 (List._∷_ 72 (List._∷_ 101
+              (List._∷_ 97 (List._∷_ 100 (List._∷_ 101 (List._∷_ 114 List.[]))))))))))))))))))))))))) (Syntax.ttcons (Syntax.tcons (Syntax.tyStruct (List._∷_ 104 (List._∷_ 101
+              (List._∷_ 97 (List._∷_ 100 (List._∷_ 101 (List._∷_ 114 (List._∷_ 58 (List._∷_ 58 (List._∷_ 112 (List._∷_ 97 (List._∷_ 114 (List._∷_ 115 (List._∷_ 101 (List._∷_ 58
+              (List._∷_ 58 (List._∷_ 77 (List._∷_ 97 (List._∷_ 105 (List._∷_ 110 (List._∷_ 72 (List._∷_ 101 (List._∷_ 97 (List._∷_ 100 (List._∷_ 101 (List._∷_ 114 (List._∷_ 73
+              (List._∷_ 110 (List._∷_ 102 (List._∷_ 111 List.[]))))))))))))))))))))))))))))) (Syntax.tcons (Syntax.tyStruct (List._∷_ 116 (List._∷_ 121 (List._∷_ 112 (List._∷_ 101
+              (List._∷_ 115 (List._∷_ 58 (List._∷_ 58 (List._∷_ 67 (List._∷_ 111 (List._∷_ 100 (List._∷_ 101 (List._∷_ 115 (List._∷_ 116 (List._∷_ 114 (List._∷_ 101 (List._∷_ 97
+              (List._∷_ 109 (List._∷_ 79 (List._∷_ 102 (List._∷_ 102 (List._∷_ 115 (List._∷_ 101 (List._∷_ 116 List.[]))))))))))))))))))))))) (Syntax.tcons (Syntax.tyInt Syntax.w64)
+              Syntax.tnil)) (Syntax.tcons (Syntax.tyInt Syntax.w64) (Syntax.tcons (Syntax.tyInt Syntax.w64) (Syntax.tcons (Syntax.tyInt Syntax.w64) Syntax.tnil))))) Syntax.tnil)
+              (Syntax.ttcons (Syntax.tcons (Syntax.tyStruct (List._∷_ 116 (List._∷_ 121 (List._∷_ 112 (List._∷_ 101 (List._∷_ 115 (List._∷_ 58 (List._∷_ 58 (List._∷_ 82 (List._∷_ 101
+              (List._∷_ 102 (List._∷_ 117 (List._∷_ 115 (List._∷_ 97 (List._∷_ 108 List.[])))))))))))))) (Syntax.tcons (Syntax.tyInt Syntax.w32) (Syntax.tcons (Syntax.tyInt
+              Syntax.w64) Syntax.tnil))) Syntax.tnil) Syntax.ttnil))),
+        ) (List._∷_ (
+          1,
+          Rows.sslice (Referent.rtF (Referent.fInt Syntax.w8)) (Syntax.tyRef (Syntax.named 0) Syntax.imm
+              (Syntax.tyInt Syntax.w8)) 0,
+        ) (List._∷_ (2, Mut.mslice LentTilePartEntry.row (Syntax.tyRef (Syntax.named 1) Syntax.mut LentTilePartEntry.pointee) 1) (List._∷_ (
+          3,
+          Relend.mslice-owed (Referent.rtF (Referent.fInt Syntax.w8)) (Syntax.tyRef (Syntax.named 2) Syntax.mut (Syntax.tyInt Syntax.w8)) 2 3 (Row.lease (κs .1 .1 .0) (qs .1 .1
+              .0)),
+        ) (List._∷_ (4, Rows.whole (Declared.row MainHeader.the-type)) (List._∷_ (
+          5,
+          Rows.any-gone (Syntax.tyStruct (List._∷_ 104 (List._∷_ 101 (List._∷_ 97 (List._∷_ 100
+              (List._∷_ 101 (List._∷_ 114 (List._∷_ 58 (List._∷_ 58 (List._∷_ 112 (List._∷_ 97 (List._∷_ 114 (List._∷_ 115 (List._∷_ 101 (List._∷_ 58 (List._∷_ 58 (List._∷_ 77
+              (List._∷_ 97 (List._∷_ 105 (List._∷_ 110 (List._∷_ 72 (List._∷_ 101 (List._∷_ 97 (List._∷_ 100 (List._∷_ 101 (List._∷_ 114 (List._∷_ 73 (List._∷_ 110 (List._∷_ 102
+              (List._∷_ 111 List.[]))))))))))))))))))))))))))))) (Syntax.tcons (Syntax.tyStruct (List._∷_ 116 (List._∷_ 121 (List._∷_ 112 (List._∷_ 101 (List._∷_ 115 (List._∷_ 58
+              (List._∷_ 58 (List._∷_ 67 (List._∷_ 111 (List._∷_ 100 (List._∷_ 101 (List._∷_ 115 (List._∷_ 116 (List._∷_ 114 (List._∷_ 101 (List._∷_ 97 (List._∷_ 109 (List._∷_ 79
+              (List._∷_ 102 (List._∷_ 102 (List._∷_ 115 (List._∷_ 101 (List._∷_ 116 List.[]))))))))))))))))))))))) (Syntax.tcons (Syntax.tyInt Syntax.w64) Syntax.tnil)) (Syntax.tcons
+              (Syntax.tyInt Syntax.w64) (Syntax.tcons (Syntax.tyInt Syntax.w64) (Syntax.tcons (Syntax.tyInt Syntax.w64) Syntax.tnil))))),
+        ) (List._∷_ (
+          6,
+          Rows.any-gone (Syntax.tyStruct
+              (List._∷_ 116 (List._∷_ 121 (List._∷_ 112 (List._∷_ 101 (List._∷_ 115 (List._∷_ 58 (List._∷_ 58 (List._∷_ 67 (List._∷_ 111 (List._∷_ 100 (List._∷_ 101 (List._∷_ 115
+              (List._∷_ 116 (List._∷_ 114 (List._∷_ 101 (List._∷_ 97 (List._∷_ 109 (List._∷_ 79 (List._∷_ 102 (List._∷_ 102 (List._∷_ 115 (List._∷_ 101 (List._∷_ 116
+              List.[]))))))))))))))))))))))) (Syntax.tcons (Syntax.tyInt Syntax.w64) Syntax.tnil)),
+        ) (List._∷_ (7, Rows.any-gone (Syntax.tyInt Syntax.w64)) (List._∷_ (
+          8,
+          Rows.any-gone
+              (Syntax.tyInt Syntax.w64),
+        ) (List._∷_ (9, Rows.any-gone (Syntax.tyInt Syntax.w64)) (List._∷_ (10, Rows.any-gone (Syntax.tyInt Syntax.w64)) (List._∷_ (
+          11,
+          Rows.any-gone
+              Syntax.tyBool,
+        ) (List._∷_ (12, Rows.any-gone (Syntax.tyInt Syntax.w64)) (List._∷_ (13, Rows.any-gone (Syntax.tyInt Syntax.w64)) (List._∷_ (
+          14,
+          Rows.any-gone
+              (Syntax.tyRef Syntax.erased Syntax.mut (Syntax.tyInt Syntax.w8)),
+        ) (List._∷_ (
+          15,
+          Mut.msleft (Referent.rtF (Referent.fInt Syntax.w8)) (Syntax.tyRef Syntax.erased
+              Syntax.mut (Syntax.tyInt Syntax.w8)),
+        ) List.[])))))))))))))))
+
+        abbrev g27 : List.List Row.Entry
+        g27 = List._∷_ (
+          0,
+          Rows.any-gone (Syntax.tyEnum (List._∷_ 104 (List._∷_ 101 (List._∷_ 97 (List._∷_ 100 (List._∷_ 101 (List._∷_ 114 (List._∷_ 58 (List._∷_ 58 (List._∷_ 112
+              (List._∷_ 97 (List._∷_ 114 (List._∷_ 115 (List._∷_ 101 (List._∷_ 58 (List._∷_ 58 (List._∷_ 77 (List._∷_ 97 (List._∷_ 105 (List._∷_ 110 (List._∷_ 72 (List._∷_ 101
+              (List._∷_ 97 (List._∷_ 100 (List._∷_ 101 (List._∷_ 114 List.[]))))))))))))))))))))))))) (Syntax.ttcons (Syntax.tcons (Syntax.tyStruct (List._∷_ 104 (List._∷_ 101
+              (List._∷_ 97 (List._∷_ 100 (List._∷_ 101 (List._∷_ 114 (List._∷_ 58 (List._∷_ 58 (List._∷_ 112 (List._∷_ 97 (List._∷_ 114 (List._∷_ 115 (List._∷_ 101 (List._∷_ 58
+              (List._∷_ 58 (List._∷_ 77 (List._∷_ 97 (List._∷_ 105 (List._∷_ 110 (List._∷_ 72 (List._∷_ 101 (List._∷_ 97 (List._∷_ 100 (List._∷_ 101 (List._∷_ 114 (List._∷_ 73
+              (List._∷_ 110 (List._∷_ 102 (List._∷_ 111 List.[]))))))))))))))))))))))))))))) (Syntax.tcons (Syntax.tyStruct (List._∷_ 116 (List._∷_ 121 (List._∷_ 112 (List._∷_ 101
+              (List._∷_ 115 (List._∷_ 58 (List._∷_ 58 (List._∷_ 67 (List._∷_ 111 (List._∷_ 100 (List._∷_ 101 (List._∷_ 115 (List._∷_ 116 (List._∷_ 114 (List._∷_ 101 (List._∷_ 97
+              (List._∷_ 109 (List._∷_ 79 (List._∷_ 102 (List._∷_ 102 (List._∷_ 115 (List._∷_ 101 (List._∷_ 116 List.[]))))))))))))))))))))))) (Syntax.tcons (Syntax.tyInt Syntax.w64)
+              Syntax.tnil)) (Syntax.tcons (Syntax.tyInt Syntax.w64) (Syntax.tcons (Syntax.tyInt Syntax.w64) (Syntax.tcons (Syntax.tyInt Syntax.w64) Syntax.tnil))))) Syntax.tnil)
+              (Syntax.ttcons (Syntax.tcons (Syntax.tyStruct (List._∷_ 116 (List._∷_ 121 (List._∷_ 112 (List._∷_ 101 (List._∷_ 115 (List._∷_ 58 (List._∷_ 58 (List._∷_ 82 (List._∷_ 101
+              (List._∷_ 102 (List._∷_ 117 (List._∷_ 115 (List._∷_ 97 (List._∷_ 108 List.[])))))))))))))) (Syntax.tcons (Syntax.tyInt Syntax.w32) (Syntax.tcons (Syntax.tyInt
+              Syntax.w64) Syntax.tnil))) Syntax.tnil) Syntax.ttnil))),
+        ) (List._∷_ (
+          1,
+          Rows.sslice (Referent.rtF (Referent.fInt Syntax.w8)) (Syntax.tyRef (Syntax.named 0) Syntax.imm
+              (Syntax.tyInt Syntax.w8)) 0,
+        ) (List._∷_ (
+          2,
+          Relend.mslice-owed LentTilePartEntry.row (Syntax.tyRef (Syntax.named 1) Syntax.mut LentTilePartEntry.pointee) 1 4 (Row.lease
+              (κs .1 .0) (qs .1 .0)),
+        ) (List._∷_ (3, Mut.mslice (Referent.rtF (Referent.fInt Syntax.w8)) (Syntax.tyRef (Syntax.named 2) Syntax.mut (Syntax.tyInt Syntax.w8)) 2)
+            (List._∷_ (4, Rows.whole (Declared.row MainHeader.the-type)) (List._∷_ (
+              5,
+              Rows.any-gone (Syntax.tyStruct (List._∷_ 104 (List._∷_ 101 (List._∷_ 97 (List._∷_ 100
+                  (List._∷_ 101 (List._∷_ 114 (List._∷_ 58 (List._∷_ 58 (List._∷_ 112 (List._∷_ 97 (List._∷_ 114 (List._∷_ 115 (List._∷_ 101 (List._∷_ 58 (List._∷_ 58 (List._∷_ 77
+                  (List._∷_ 97 (List._∷_ 105 (List._∷_ 110 (List._∷_ 72 (List._∷_ 101 (List._∷_ 97 (List._∷_ 100 (List._∷_ 101 (List._∷_ 114 (List._∷_ 73 (List._∷_ 110 (List._∷_ 102
+                  (List._∷_ 111 List.[]))))))))))))))))))))))))))))) (Syntax.tcons (Syntax.tyStruct (List._∷_ 116 (List._∷_ 121 (List._∷_ 112 (List._∷_ 101 (List._∷_ 115 (List._∷_ 58
+                  (List._∷_ 58 (List._∷_ 67 (List._∷_ 111 (List._∷_ 100 (List._∷_ 101 (List._∷_ 115 (List._∷_ 116 (List._∷_ 114 (List._∷_ 101 (List._∷_ 97 (List._∷_ 109 (List._∷_ 79
+                  (List._∷_ 102 (List._∷_ 102 (List._∷_ 115 (List._∷_ 101 (List._∷_ 116 List.[]))))))))))))))))))))))) (Syntax.tcons (Syntax.tyInt Syntax.w64) Syntax.tnil)) (Syntax.tcons
+                  (Syntax.tyInt Syntax.w64) (Syntax.tcons (Syntax.tyInt Syntax.w64) (Syntax.tcons (Syntax.tyInt Syntax.w64) Syntax.tnil))))),
+            ) (List._∷_ (
+              6,
+              Rows.whole (Declared'.row
+                  CodestreamOffset.the-type),
+            ) (List._∷_ (7, Rows.any-gone (Syntax.tyInt Syntax.w64)) (List._∷_ (8, Rows.any-gone (Syntax.tyInt Syntax.w64)) (List._∷_ (
+              9,
+              Rows.any-gone
+                  (Syntax.tyInt Syntax.w64),
+            ) (List._∷_ (10, Rows.any-gone (Syntax.tyInt Syntax.w64)) (List._∷_ (11, Rows.any-gone Syntax.tyBool) (List._∷_ (
+              12,
+              Rows.any-gone
+                  (Syntax.tyInt Syntax.w64),
+            ) (List._∷_ (13, Rows.any-gone (Syntax.tyInt Syntax.w64)) (List._∷_ (
+              14,
+              Rows.any-gone (Syntax.tyRef Syntax.erased Syntax.mut (Syntax.tyInt
+                  Syntax.w8)),
+            ) (List._∷_ (
+              15,
+              Rows.any-gone (Syntax.tyStruct (List._∷_ 38 (List._∷_ 91 (List._∷_ 93 List.[]))) (Syntax.tcons (Syntax.tyRef Syntax.erased Syntax.mut
+                  (Syntax.tyInt Syntax.w8)) (Syntax.tcons (Syntax.tyInt Syntax.w64) Syntax.tnil))),
+            ) List.[])))))))))))))))
+
+        abbrev g31 : List.List Row.Entry
+        g31 = List._∷_ (
+          0,
+          Rows.any-gone (Syntax.tyEnum (List._∷_ 104 (List._∷_ 101 (List._∷_ 97 (List._∷_ 100 (List._∷_ 101 (List._∷_ 114 (List._∷_ 58 (List._∷_ 58 (List._∷_ 112
+              (List._∷_ 97 (List._∷_ 114 (List._∷_ 115 (List._∷_ 101 (List._∷_ 58 (List._∷_ 58 (List._∷_ 77 (List._∷_ 97 (List._∷_ 105 (List._∷_ 110 (List._∷_ 72 (List._∷_ 101
+              (List._∷_ 97 (List._∷_ 100 (List._∷_ 101 (List._∷_ 114 List.[]))))))))))))))))))))))))) (Syntax.ttcons (Syntax.tcons (Syntax.tyStruct (List._∷_ 104 (List._∷_ 101
+              (List._∷_ 97 (List._∷_ 100 (List._∷_ 101 (List._∷_ 114 (List._∷_ 58 (List._∷_ 58 (List._∷_ 112 (List._∷_ 97 (List._∷_ 114 (List._∷_ 115 (List._∷_ 101 (List._∷_ 58
+              (List._∷_ 58 (List._∷_ 77 (List._∷_ 97 (List._∷_ 105 (List._∷_ 110 (List._∷_ 72 (List._∷_ 101 (List._∷_ 97 (List._∷_ 100 (List._∷_ 101 (List._∷_ 114 (List._∷_ 73
+              (List._∷_ 110 (List._∷_ 102 (List._∷_ 111 List.[]))))))))))))))))))))))))))))) (Syntax.tcons (Syntax.tyStruct (List._∷_ 116 (List._∷_ 121 (List._∷_ 112 (List._∷_ 101
+              (List._∷_ 115 (List._∷_ 58 (List._∷_ 58 (List._∷_ 67 (List._∷_ 111 (List._∷_ 100 (List._∷_ 101 (List._∷_ 115 (List._∷_ 116 (List._∷_ 114 (List._∷_ 101 (List._∷_ 97
+              (List._∷_ 109 (List._∷_ 79 (List._∷_ 102 (List._∷_ 102 (List._∷_ 115 (List._∷_ 101 (List._∷_ 116 List.[]))))))))))))))))))))))) (Syntax.tcons (Syntax.tyInt Syntax.w64)
+              Syntax.tnil)) (Syntax.tcons (Syntax.tyInt Syntax.w64) (Syntax.tcons (Syntax.tyInt Syntax.w64) (Syntax.tcons (Syntax.tyInt Syntax.w64) Syntax.tnil))))) Syntax.tnil)
+              (Syntax.ttcons (Syntax.tcons (Syntax.tyStruct (List._∷_ 116 (List._∷_ 121 (List._∷_ 112 (List._∷_ 101 (List._∷_ 115 (List._∷_ 58 (List._∷_ 58 (List._∷_ 82 (List._∷_ 101
+              (List._∷_ 102 (List._∷_ 117 (List._∷_ 115 (List._∷_ 97 (List._∷_ 108 List.[])))))))))))))) (Syntax.tcons (Syntax.tyInt Syntax.w32) (Syntax.tcons (Syntax.tyInt
+              Syntax.w64) Syntax.tnil))) Syntax.tnil) Syntax.ttnil))),
+        ) (List._∷_ (
+          1,
+          Rows.sslice (Referent.rtF (Referent.fInt Syntax.w8)) (Syntax.tyRef (Syntax.named 0) Syntax.imm
+              (Syntax.tyInt Syntax.w8)) 0,
+        ) (List._∷_ (
+          2,
+          Relend.mslice-owed LentTilePartEntry.row (Syntax.tyRef (Syntax.named 1) Syntax.mut LentTilePartEntry.pointee) 1 4 (Row.lease
+              (κs .1 .0) (qs .1 .0)),
+        ) (List._∷_ (3, Mut.mslice (Referent.rtF (Referent.fInt Syntax.w8)) (Syntax.tyRef (Syntax.named 2) Syntax.mut (Syntax.tyInt Syntax.w8)) 2)
+            (List._∷_ (4, Rows.whole (Declared.row MainHeader.the-type)) (List._∷_ (
+              5,
+              Rows.any-gone (Syntax.tyStruct (List._∷_ 104 (List._∷_ 101 (List._∷_ 97 (List._∷_ 100
+                  (List._∷_ 101 (List._∷_ 114 (List._∷_ 58 (List._∷_ 58 (List._∷_ 112 (List._∷_ 97 (List._∷_ 114 (List._∷_ 115 (List._∷_ 101 (List._∷_ 58 (List._∷_ 58 (List._∷_ 77
+                  (List._∷_ 97 (List._∷_ 105 (List._∷_ 110 (List._∷_ 72 (List._∷_ 101 (List._∷_ 97 (List._∷_ 100 (List._∷_ 101 (List._∷_ 114 (List._∷_ 73 (List._∷_ 110 (List._∷_ 102
+                  (List._∷_ 111 List.[]))))))))))))))))))))))))))))) (Syntax.tcons (Syntax.tyStruct (List._∷_ 116 (List._∷_ 121 (List._∷_ 112 (List._∷_ 101 (List._∷_ 115 (List._∷_ 58
+                  (List._∷_ 58 (List._∷_ 67 (List._∷_ 111 (List._∷_ 100 (List._∷_ 101 (List._∷_ 115 (List._∷_ 116 (List._∷_ 114 (List._∷_ 101 (List._∷_ 97 (List._∷_ 109 (List._∷_ 79
+                  (List._∷_ 102 (List._∷_ 102 (List._∷_ 115 (List._∷_ 101 (List._∷_ 116 List.[]))))))))))))))))))))))) (Syntax.tcons (Syntax.tyInt Syntax.w64) Syntax.tnil)) (Syntax.tcons
+                  (Syntax.tyInt Syntax.w64) (Syntax.tcons (Syntax.tyInt Syntax.w64) (Syntax.tcons (Syntax.tyInt Syntax.w64) Syntax.tnil))))),
+            ) (List._∷_ (
+              6,
+              Rows.any-gone (Syntax.tyStruct
+                  (List._∷_ 116 (List._∷_ 121 (List._∷_ 112 (List._∷_ 101 (List._∷_ 115 (List._∷_ 58 (List._∷_ 58 (List._∷_ 67 (List._∷_ 111 (List._∷_ 100 (List._∷_ 101 (List._∷_ 115
+                  (List._∷_ 116 (List._∷_ 114 (List._∷_ 101 (List._∷_ 97 (List._∷_ 109 (List._∷_ 79 (List._∷_ 102 (List._∷_ 102 (List._∷_ 115 (List._∷_ 101 (List._∷_ 116
+                  List.[]))))))))))))))))))))))) (Syntax.tcons (Syntax.tyInt Syntax.w64) Syntax.tnil)),
+            ) (List._∷_ (7, Rows.any-gone (Syntax.tyInt Syntax.w64)) (List._∷_ (
+              8,
+              Rows.any-gone
+                  (Syntax.tyInt Syntax.w64),
+            ) (List._∷_ (9, Rows.any-gone (Syntax.tyInt Syntax.w64)) (List._∷_ (10, Rows.any-gone (Syntax.tyInt Syntax.w64)) (List._∷_ (
+              11,
+              Rows.any-gone
+                  Syntax.tyBool,
+            ) (List._∷_ (12, Rows.any-gone (Syntax.tyInt Syntax.w64)) (List._∷_ (13, Rows.any-gone (Syntax.tyInt Syntax.w64)) (List._∷_ (
+              14,
+              Rows.any-gone
+                  (Syntax.tyRef Syntax.erased Syntax.mut (Syntax.tyInt Syntax.w8)),
+            ) (List._∷_ (
+              15,
+              Rows.any-gone (Syntax.tyStruct (List._∷_ 38 (List._∷_ 91 (List._∷_ 93 List.[])))
+                  (Syntax.tcons (Syntax.tyRef Syntax.erased Syntax.mut (Syntax.tyInt Syntax.w8)) (Syntax.tcons (Syntax.tyInt Syntax.w64) Syntax.tnil))),
+            ) List.[])))))))))))))))
+
+        abbrev g33 : List.List Row.Entry
+        g33 = List._∷_ (
+          0,
+          Rows.any-gone (Syntax.tyEnum (List._∷_ 104 (List._∷_ 101 (List._∷_ 97 (List._∷_ 100 (List._∷_ 101 (List._∷_ 114 (List._∷_ 58 (List._∷_ 58 (List._∷_ 112
+              (List._∷_ 97 (List._∷_ 114 (List._∷_ 115 (List._∷_ 101 (List._∷_ 58 (List._∷_ 58 (List._∷_ 77 (List._∷_ 97 (List._∷_ 105 (List._∷_ 110 (List._∷_ 72 (List._∷_ 101
+              (List._∷_ 97 (List._∷_ 100 (List._∷_ 101 (List._∷_ 114 List.[]))))))))))))))))))))))))) (Syntax.ttcons (Syntax.tcons (Syntax.tyStruct (List._∷_ 104 (List._∷_ 101
+              (List._∷_ 97 (List._∷_ 100 (List._∷_ 101 (List._∷_ 114 (List._∷_ 58 (List._∷_ 58 (List._∷_ 112 (List._∷_ 97 (List._∷_ 114 (List._∷_ 115 (List._∷_ 101 (List._∷_ 58
+              (List._∷_ 58 (List._∷_ 77 (List._∷_ 97 (List._∷_ 105 (List._∷_ 110 (List._∷_ 72 (List._∷_ 101 (List._∷_ 97 (List._∷_ 100 (List._∷_ 101 (List._∷_ 114 (List._∷_ 73
+              (List._∷_ 110 (List._∷_ 102 (List._∷_ 111 List.[]))))))))))))))))))))))))))))) (Syntax.tcons (Syntax.tyStruct (List._∷_ 116 (List._∷_ 121 (List._∷_ 112 (List._∷_ 101
+              (List._∷_ 115 (List._∷_ 58 (List._∷_ 58 (List._∷_ 67 (List._∷_ 111 (List._∷_ 100 (List._∷_ 101 (List._∷_ 115 (List._∷_ 116 (List._∷_ 114 (List._∷_ 101 (List._∷_ 97
+              (List._∷_ 109 (List._∷_ 79 (List._∷_ 102 (List._∷_ 102 (List._∷_ 115 (List._∷_ 101 (List._∷_ 116 List.[]))))))))))))))))))))))) (Syntax.tcons (Syntax.tyInt Syntax.w64)
+              Syntax.tnil)) (Syntax.tcons (Syntax.tyInt Syntax.w64) (Syntax.tcons (Syntax.tyInt Syntax.w64) (Syntax.tcons (Syntax.tyInt Syntax.w64) Syntax.tnil))))) Syntax.tnil)
+              (Syntax.ttcons (Syntax.tcons (Syntax.tyStruct (List._∷_ 116 (List._∷_ 121 (List._∷_ 112 (List._∷_ 101 (List._∷_ 115 (List._∷_ 58 (List._∷_ 58 (List._∷_ 82 (List._∷_ 101
+              (List._∷_ 102 (List._∷_ 117 (List._∷_ 115 (List._∷_ 97 (List._∷_ 108 List.[])))))))))))))) (Syntax.tcons (Syntax.tyInt Syntax.w32) (Syntax.tcons (Syntax.tyInt
+              Syntax.w64) Syntax.tnil))) Syntax.tnil) Syntax.ttnil))),
+        ) (List._∷_ (
+          1,
+          Rows.sslice (Referent.rtF (Referent.fInt Syntax.w8)) (Syntax.tyRef (Syntax.named 0) Syntax.imm
+              (Syntax.tyInt Syntax.w8)) 0,
+        ) (List._∷_ (2, Mut.mslice LentTilePartEntry.row (Syntax.tyRef (Syntax.named 1) Syntax.mut LentTilePartEntry.pointee) 1) (List._∷_ (
+          3,
+          Relend.mslice-owed (Referent.rtF (Referent.fInt Syntax.w8)) (Syntax.tyRef (Syntax.named 2) Syntax.mut (Syntax.tyInt Syntax.w8)) 2 5 (Row.lease (κs .1 .1 .0) (qs .1 .1
+              .0)),
+        ) (List._∷_ (4, Rows.whole (Declared.row MainHeader.the-type)) (List._∷_ (
+          5,
+          Rows.any-gone (Syntax.tyStruct (List._∷_ 104 (List._∷_ 101 (List._∷_ 97 (List._∷_ 100
+              (List._∷_ 101 (List._∷_ 114 (List._∷_ 58 (List._∷_ 58 (List._∷_ 112 (List._∷_ 97 (List._∷_ 114 (List._∷_ 115 (List._∷_ 101 (List._∷_ 58 (List._∷_ 58 (List._∷_ 77
+              (List._∷_ 97 (List._∷_ 105 (List._∷_ 110 (List._∷_ 72 (List._∷_ 101 (List._∷_ 97 (List._∷_ 100 (List._∷_ 101 (List._∷_ 114 (List._∷_ 73 (List._∷_ 110 (List._∷_ 102
+              (List._∷_ 111 List.[]))))))))))))))))))))))))))))) (Syntax.tcons (Syntax.tyStruct (List._∷_ 116 (List._∷_ 121 (List._∷_ 112 (List._∷_ 101 (List._∷_ 115 (List._∷_ 58
+              (List._∷_ 58 (List._∷_ 67 (List._∷_ 111 (List._∷_ 100 (List._∷_ 101 (List._∷_ 115 (List._∷_ 116 (List._∷_ 114 (List._∷_ 101 (List._∷_ 97 (List._∷_ 109 (List._∷_ 79
+              (List._∷_ 102 (List._∷_ 102 (List._∷_ 115 (List._∷_ 101 (List._∷_ 116 List.[]))))))))))))))))))))))) (Syntax.tcons (Syntax.tyInt Syntax.w64) Syntax.tnil)) (Syntax.tcons
+              (Syntax.tyInt Syntax.w64) (Syntax.tcons (Syntax.tyInt Syntax.w64) (Syntax.tcons (Syntax.tyInt Syntax.w64) Syntax.tnil))))),
+        ) (List._∷_ (
+          6,
+          Rows.any-gone (Syntax.tyStruct
+              (List._∷_ 116 (List._∷_ 121 (List._∷_ 112 (List._∷_ 101 (List._∷_ 115 (List._∷_ 58 (List._∷_ 58 (List._∷_ 67 (List._∷_ 111 (List._∷_ 100 (List._∷_ 101 (List._∷_ 115
+              (List._∷_ 116 (List._∷_ 114 (List._∷_ 101 (List._∷_ 97 (List._∷_ 109 (List._∷_ 79 (List._∷_ 102 (List._∷_ 102 (List._∷_ 115 (List._∷_ 101 (List._∷_ 116
+              List.[]))))))))))))))))))))))) (Syntax.tcons (Syntax.tyInt Syntax.w64) Syntax.tnil)),
+        ) (List._∷_ (7, Rows.any-gone (Syntax.tyInt Syntax.w64)) (List._∷_ (
+          8,
+          Rows.any-gone
+              (Syntax.tyInt Syntax.w64),
+        ) (List._∷_ (9, Rows.any-gone (Syntax.tyInt Syntax.w64)) (List._∷_ (10, Rows.any-gone (Syntax.tyInt Syntax.w64)) (List._∷_ (
+          11,
+          Rows.any-gone
+              Syntax.tyBool,
+        ) (List._∷_ (12, Rows.any-gone (Syntax.tyInt Syntax.w64)) (List._∷_ (13, Rows.any-gone (Syntax.tyInt Syntax.w64)) (List._∷_ (
+          14,
+          Rows.any-gone
+              (Syntax.tyRef Syntax.erased Syntax.mut (Syntax.tyInt Syntax.w8)),
+        ) (List._∷_ (
+          15,
+          Rows.any-gone (Syntax.tyStruct (List._∷_ 38 (List._∷_ 91 (List._∷_ 93 List.[])))
+              (Syntax.tcons (Syntax.tyRef Syntax.erased Syntax.mut (Syntax.tyInt Syntax.w8)) (Syntax.tcons (Syntax.tyInt Syntax.w64) Syntax.tnil))),
         ) List.[])))))))))))))))
 
         abbrev G0 : Row.Cx
         G0 = record {
-          locals = t0;
-          slots = List._∷_ (Row.lease (κs .0) (qs .0)) (List._∷_ (Row.lease (κs .1 .0) (qs .1 .0)) (List._∷_ (Row.lease (κs .1 .1 .0) (qs .1 .1 .0))
-              (List._∷_ Row.off (List._∷_ Row.off List.[]))));
+          locals = List._++_ t0 t1;
+          slots = List._∷_ (Row.lease (κs .0) (qs .0)) (List._∷_ (Row.lease (κs .1 .0) (qs .1 .0)) (List._∷_ (Row.lease (κs .1 .1 .0) (qs .1
+              .1 .0)) (List._∷_ Row.off (List._∷_ Row.off (List._∷_ Row.off List.[])))));
         }
 
         abbrev G1 : Row.Cx
         G1 = record {
-          locals = t1;
-          slots = List._∷_ (Row.lease (κs .0) (qs .0)) (List._∷_ (Row.lease (κs .1 .0) (qs .1 .0)) (List._∷_ (Row.lease (κs .1 .1 .0) (qs .1 .1 .0))
-              (List._∷_ Row.off (List._∷_ Row.off List.[]))));
+          locals = List._++_ t2 t1;
+          slots = List._∷_ (Row.lease (κs .0) (qs .0)) (List._∷_ (Row.lease (κs .1 .0) (qs .1 .0)) (List._∷_ (Row.lease (κs .1 .1 .0) (qs .1
+              .1 .0)) (List._∷_ Row.off (List._∷_ Row.off (List._∷_ Row.off List.[])))));
         }
 
         abbrev G2 : Row.Cx
         G2 = record {
-          locals = t0;
-          slots = List._∷_ (Row.lease (κs .0) (qs .0)) (List._∷_ (Row.lease (κs .1 .0) (qs .1 .0)) (List._∷_ (Row.lease (κs .1 .1 .0) (qs .1 .1 .0))
-              (List._∷_ Row.off (List._∷_ Row.off List.[]))));
+          locals = List._++_ t0 t1;
+          slots = List._∷_ (Row.lease (κs .0) (qs .0)) (List._∷_ (Row.lease (κs .1 .0) (qs .1 .0)) (List._∷_ (Row.lease (κs .1 .1 .0) (qs .1
+              .1 .0)) (List._∷_ Row.off (List._∷_ Row.off (List._∷_ Row.off List.[])))));
         }
 
         abbrev G3 : Row.Cx
         G3 = record {
-          locals = t0;
-          slots = List._∷_ (Row.lease (κs .0) (qs .0)) (List._∷_ (Row.lease (κs .1 .0) (qs .1 .0)) (List._∷_ (Row.lease (κs .1 .1 .0) (qs .1 .1 .0))
-              (List._∷_ Row.off (List._∷_ Row.off List.[]))));
+          locals = List._++_ t0 t1;
+          slots = List._∷_ (Row.lease (κs .0) (qs .0)) (List._∷_ (Row.lease (κs .1 .0) (qs .1 .0)) (List._∷_ (Row.lease (κs .1 .1 .0) (qs .1
+              .1 .0)) (List._∷_ Row.off (List._∷_ Row.off (List._∷_ Row.off List.[])))));
         }
 
         abbrev G4 : Row.Cx
         G4 = record {
-          locals = t2;
-          slots = List._∷_ (Row.lease (κs .0) (qs .0)) (List._∷_ (Row.lease (κs .1 .0) (qs .1 .0)) (List._∷_ (Row.lease (κs .1 .1 .0) (qs .1 .1 .0))
-              (List._∷_ Row.off (List._∷_ Row.off List.[]))));
+          locals = List._++_ t3 t1;
+          slots = List._∷_ (Row.lease (κs .0) (qs .0)) (List._∷_ (Row.lease (κs .1 .0) (qs .1 .0)) (List._∷_ (Row.lease (κs .1 .1 .0) (qs .1
+              .1 .0)) (List._∷_ Row.off (List._∷_ Row.off (List._∷_ Row.off List.[])))));
         }
 
         abbrev G5 : Row.Cx
         G5 = record {
-          locals = t3;
-          slots = List._∷_ (Row.lease (κs .0) (qs .0)) (List._∷_ (Row.lease (κs .1 .0) (qs .1 .0)) (List._∷_ (Row.lease (κs .1 .1 .0) (qs .1 .1 .0))
-              (List._∷_ Row.off (List._∷_ Row.off List.[]))));
+          locals = List._++_ t4 t1;
+          slots = List._∷_ (Row.lease (κs .0) (qs .0)) (List._∷_ (Row.lease (κs .1 .0) (qs .1 .0)) (List._∷_ (Row.lease (κs .1 .1 .0) (qs .1
+              .1 .0)) (List._∷_ Row.off (List._∷_ Row.off (List._∷_ Row.off List.[])))));
         }
 
         abbrev G6 : Row.Cx
         G6 = record {
-          locals = t4;
-          slots = List._∷_ (Row.lease (κs .0) (qs .0)) (List._∷_ (Row.lease (κs .1 .0) (qs .1 .0)) (List._∷_ (Row.lease (κs .1 .1 .0) (qs .1 .1 .0))
-              (List._∷_ Row.off (List._∷_ Row.off List.[]))));
+          locals = List._++_ t5 t1;
+          slots = List._∷_ (Row.lease (κs .0) (qs .0)) (List._∷_ (Row.lease (κs .1 .0) (qs .1 .0)) (List._∷_ (Row.lease (κs .1 .1 .0) (qs .1
+              .1 .0)) (List._∷_ Row.off (List._∷_ Row.off (List._∷_ Row.off List.[])))));
         }
 
         abbrev G7 : Row.Cx
         G7 = record {
-          locals = t5;
-          slots = List._∷_ (Row.lease (κs .0) (qs .0)) (List._∷_ (Row.lease (κs .1 .0) (qs .1 .0)) (List._∷_ (Row.lease (κs .1 .1 .0) (qs .1 .1 .0))
-              (List._∷_ Row.off (List._∷_ Row.off List.[]))));
+          locals = List._++_ t6 t1;
+          slots = List._∷_ (Row.lease (κs .0) (qs .0)) (List._∷_ (Row.lease (κs .1 .0) (qs .1 .0)) (List._∷_ (Row.lease (κs .1 .1 .0) (qs .1
+              .1 .0)) (List._∷_ Row.off (List._∷_ Row.off (List._∷_ Row.off List.[])))));
         }
 
         abbrev G8 : Row.Cx
         G8 = record {
-          locals = t6;
-          slots = List._∷_ (Row.lease (κs .0) (qs .0)) (List._∷_ (Row.lease (κs .1 .0) (qs .1 .0)) (List._∷_ (Row.lease (κs .1 .1 .0) (qs .1 .1 .0))
-              (List._∷_ Row.off (List._∷_ Row.off List.[]))));
+          locals = List._++_ t7 t1;
+          slots = List._∷_ (Row.lease (κs .0) (qs .0)) (List._∷_ (Row.lease (κs .1 .0) (qs .1 .0)) (List._∷_ (Row.lease (κs .1 .1 .0) (qs .1
+              .1 .0)) (List._∷_ Row.off (List._∷_ Row.off (List._∷_ Row.off List.[])))));
         }
 
         abbrev G9 : Row.Cx
         G9 = record {
-          locals = t7;
-          slots = List._∷_ (Row.lease (κs .0) (qs .0)) (List._∷_ (Row.lease (κs .1 .0) (qs .1 .0)) (List._∷_ (Row.lease (κs .1 .1 .0) (qs .1 .1 .0))
-              (List._∷_ Row.off (List._∷_ Row.off List.[]))));
+          locals = List._++_ t8 t1;
+          slots = List._∷_ (Row.lease (κs .0) (qs .0)) (List._∷_ (Row.lease (κs .1 .0) (qs .1 .0)) (List._∷_ (Row.lease (κs .1 .1 .0) (qs .1
+              .1 .0)) (List._∷_ Row.off (List._∷_ Row.off (List._∷_ Row.off List.[])))));
         }
 
         abbrev G10 : Row.Cx
         G10 = record {
-          locals = t8;
-          slots = List._∷_ (Row.lease (κs .0) (qs .0)) (List._∷_ (Row.lease (κs .1 .0) (qs .1 .0)) (List._∷_ (Row.lease (κs .1 .1 .0) (qs .1 .1 .0))
-              (List._∷_ Row.off (List._∷_ Row.off List.[]))));
+          locals = List._++_ t9 t1;
+          slots = List._∷_ (Row.lease (κs .0) (qs .0)) (List._∷_ (Row.lease (κs .1 .0) (qs .1 .0)) (List._∷_ (Row.lease (κs .1 .1 .0) (qs .1
+              .1 .0)) (List._∷_ Row.off (List._∷_ Row.off (List._∷_ Row.off List.[])))));
         }
 
         abbrev G11 : Row.Cx
         G11 = record {
-          locals = t9;
-          slots = List._∷_ (Row.lease (κs .0) (qs .0)) (List._∷_ (Row.lease (κs .1 .0) (qs .1 .0)) (List._∷_ (Row.lease (κs .1 .1 .0) (qs .1 .1 .0))
-              (List._∷_ Row.off (List._∷_ Row.off List.[]))));
+          locals = List._++_ t10 t1;
+          slots = List._∷_ (Row.lease (κs .0) (qs .0)) (List._∷_ (Row.lease (κs .1 .0) (qs .1 .0)) (List._∷_ (Row.lease (κs .1 .1 .0) (qs .1
+              .1 .0)) (List._∷_ Row.off (List._∷_ Row.off (List._∷_ Row.off List.[])))));
         }
 
         abbrev G12 : Row.Cx
         G12 = record {
-          locals = t10;
-          slots = List._∷_ (Row.lease (κs .0) (qs .0)) (List._∷_ (Row.lease (κs .1 .0) (qs .1 .0)) (List._∷_ (Row.lease (κs .1 .1 .0) (qs .1 .1 .0))
-              (List._∷_ Row.off (List._∷_ Row.off List.[]))));
+          locals = List._++_ t11 t1;
+          slots = List._∷_ (Row.lease (κs .0) (qs .0)) (List._∷_ (Row.lease (κs .1 .0) (qs .1 .0)) (List._∷_ (Row.lease (κs .1 .1 .0) (qs .1
+              .1 .0)) (List._∷_ Row.off (List._∷_ Row.off (List._∷_ Row.off List.[])))));
         }
 
         abbrev G13 : Row.Cx
         G13 = record {
-          locals = t11;
-          slots = List._∷_ (Row.lease (κs .0) (qs .0)) (List._∷_ (Row.lease (κs .1 .0) (qs .1 .0)) (List._∷_ (Row.lease (κs .1 .1 .0) (qs .1 .1 .0))
-              (List._∷_ Row.off (List._∷_ Row.off List.[]))));
+          locals = List._++_ t12 t1;
+          slots = List._∷_ (Row.lease (κs .0) (qs .0)) (List._∷_ (Row.lease (κs .1 .0) (qs .1 .0)) (List._∷_ (Row.lease (κs .1 .1 .0) (qs .1
+              .1 .0)) (List._∷_ Row.off (List._∷_ Row.off (List._∷_ Row.off List.[])))));
         }
 
         abbrev G14 : Row.Cx
         G14 = record {
-          locals = t12;
-          slots = List._∷_ (Row.lease (κs .0) (qs .0)) (List._∷_ (Row.lease (κs .1 .0) (qs .1 .0)) (List._∷_ (Row.lease (κs .1 .1 .0) (qs .1 .1 .0))
-              (List._∷_ Row.off (List._∷_ Row.off List.[]))));
+          locals = List._++_ t13 t1;
+          slots = List._∷_ (Row.lease (κs .0) (qs .0)) (List._∷_ (Row.lease (κs .1 .0) (qs .1 .0)) (List._∷_ (Row.lease (κs .1 .1 .0) (qs .1
+              .1 .0)) (List._∷_ Row.off (List._∷_ Row.off (List._∷_ Row.off List.[])))));
         }
 
         abbrev G15 : Row.Cx
         G15 = record {
-          locals = t12;
-          slots = List._∷_ (Row.lease (κs .0) (qs .0)) (List._∷_ (Row.lease (κs .1 .0) (qs .1 .0)) (List._∷_ (Row.lease (κs .1 .1 .0) (qs .1 .1 .0))
-              (List._∷_ Row.off (List._∷_ Row.off List.[]))));
+          locals = List._++_ t13 t1;
+          slots = List._∷_ (Row.lease (κs .0) (qs .0)) (List._∷_ (Row.lease (κs .1 .0) (qs .1 .0)) (List._∷_ (Row.lease (κs .1 .1 .0) (qs .1
+              .1 .0)) (List._∷_ Row.off (List._∷_ Row.off (List._∷_ Row.off List.[])))));
         }
 
         abbrev G16 : Row.Cx
         G16 = record {
-          locals = t13;
-          slots = List._∷_ (Row.lease (κs .0) (qs .0)) (List._∷_ (Row.lease (κs .1 .0) (qs .1 .0)) (List._∷_ (Row.lease (κs .1 .1 .0) (qs .1 .1 .0))
-              (List._∷_ Row.off (List._∷_ Row.off List.[]))));
+          locals = List._++_ t14 t1;
+          slots = List._∷_ (Row.lease (κs .0) (qs .0)) (List._∷_ (Row.lease (κs .1 .0) (qs .1 .0)) (List._∷_ (Row.lease (κs .1 .1 .0) (qs .1
+              .1 .0)) (List._∷_ Row.off (List._∷_ Row.off (List._∷_ Row.off List.[])))));
         }
 
         abbrev G17 : Row.Cx
         G17 = record {
-          locals = t9;
-          slots = List._∷_ (Row.lease (κs .0) (qs .0)) (List._∷_ (Row.lease (κs .1 .0) (qs .1 .0)) (List._∷_ (Row.lease (κs .1 .1 .0) (qs .1 .1 .0))
-              (List._∷_ Row.off (List._∷_ Row.off List.[]))));
+          locals = List._++_ t10 t1;
+          slots = List._∷_ (Row.lease (κs .0) (qs .0)) (List._∷_ (Row.lease (κs .1 .0) (qs .1 .0)) (List._∷_ (Row.lease (κs .1 .1 .0) (qs .1
+              .1 .0)) (List._∷_ Row.off (List._∷_ Row.off (List._∷_ Row.off List.[])))));
         }
 
         abbrev G18 : Row.Cx
         G18 = record {
-          locals = t11;
-          slots = List._∷_ (Row.lease (κs .0) (qs .0)) (List._∷_ (Row.lease (κs .1 .0) (qs .1 .0)) (List._∷_ (Row.lease (κs .1 .1 .0) (qs .1 .1 .0))
-              (List._∷_ Row.off (List._∷_ Row.off List.[]))));
+          locals = List._++_ t12 t1;
+          slots = List._∷_ (Row.lease (κs .0) (qs .0)) (List._∷_ (Row.lease (κs .1 .0) (qs .1 .0)) (List._∷_ (Row.lease (κs .1 .1 .0) (qs .1
+              .1 .0)) (List._∷_ Row.off (List._∷_ Row.off (List._∷_ Row.off List.[])))));
         }
 
         abbrev G19 : Row.Cx
         G19 = record {
-          locals = t14;
-          slots = List._∷_ (Row.lease (κs .0) (qs .0)) (List._∷_ (Row.lease (κs .1 .0) (qs .1 .0)) (List._∷_ (Row.lease (κs .1 .1 .0) (qs .1 .1 .0))
-              (List._∷_ Row.off (List._∷_ Row.off List.[]))));
+          locals = List._++_ t15 t1;
+          slots = List._∷_ (Row.lease (κs .0) (qs .0)) (List._∷_ (Row.lease (κs .1 .0) (qs .1 .0)) (List._∷_ (Row.lease (κs .1 .1 .0) (qs .1
+              .1 .0)) (List._∷_ Row.off (List._∷_ Row.off (List._∷_ Row.off List.[])))));
         }
 
         abbrev G20 : Row.Cx
         G20 = record {
-          locals = t1;
-          slots = List._∷_ (Row.lease (κs .0) (qs .0)) (List._∷_ (Row.lease (κs .1 .0) (qs .1 .0)) (List._∷_ (Row.lease (κs .1 .1 .0) (qs .1 .1 .0))
-              (List._∷_ Row.off (List._∷_ Row.off List.[]))));
+          locals = List._++_ t2 t1;
+          slots = List._∷_ (Row.lease (κs .0) (qs .0)) (List._∷_ (Row.lease (κs .1 .0) (qs .1 .0)) (List._∷_ (Row.lease (κs .1 .1 .0) (qs .1
+              .1 .0)) (List._∷_ Row.off (List._∷_ Row.off (List._∷_ Row.off List.[])))));
         }
 
         abbrev G21 : Row.Cx
         G21 = record {
-          locals = t15;
-          slots = List._∷_ (Row.lease (κs .0) (qs .0)) (List._∷_ (Row.lease (κs .1 .0) (qs .1 .0)) (List._∷_ (Row.lease (κs .1 .1 .0) (qs .1 .1 .0))
-              (List._∷_ Row.off (List._∷_ Row.off List.[]))));
+          locals = List._++_ t16 t1;
+          slots = List._∷_ (Row.lease (κs .0) (qs .0)) (List._∷_ (Row.lease (κs .1 .0) (qs .1 .0)) (List._∷_ (Row.lease (κs .1 .1 .0) (qs .1
+              .1 .0)) (List._∷_ Row.off (List._∷_ Row.off (List._∷_ Row.off List.[])))));
         }
 
         abbrev G22 : Row.Cx
         G22 = record {
-          locals = t16;
-          slots = List._∷_ (Row.lease (κs .0) (qs .0)) (List._∷_ (Row.lease (κs .1 .0) (qs .1 .0)) (List._∷_ (Row.lease (κs .1 .1 .0) (qs .1 .1 .0))
-              (List._∷_ Row.off (List._∷_ Row.off List.[]))));
+          locals = List._++_ t16 t1;
+          slots = List._∷_ (Row.lease (κs .0) (qs .0)) (List._∷_ (Row.lease (κs .1 .0) (qs .1 .0)) (List._∷_ (Row.lease (κs .1 .1 .0) (qs .1
+              .1 .0)) (List._∷_ Row.off (List._∷_ Row.off (List._∷_ Row.off List.[])))));
         }
 
         abbrev G23 : Row.Cx
         G23 = record {
-          locals = t16;
-          slots = List._∷_ (Row.lease (κs .0) (qs .0)) (List._∷_ (Row.lease (κs .1 .0) (qs .1 .0)) (List._∷_ (Row.lease (κs .1 .1 .0) (qs .1 .1 .0))
-              (List._∷_ Row.alive (List._∷_ Row.off List.[]))));
+          locals = List._++_ t16 t1;
+          slots = List._∷_ (Row.lease (κs .0) (qs .0)) (List._∷_ (Row.lease (κs .1 .0) (qs .1 .0)) (List._∷_ (Row.lease (κs .1 .1 .0) (qs .1
+              .1 .0)) (List._∷_ Row.off (List._∷_ Row.off (List._∷_ Row.off List.[])))));
         }
 
         abbrev G24 : Row.Cx
         G24 = record {
-          locals = g17;
-          slots = List._∷_ (Row.lease (κs .0) (qs .0)) (List._∷_ Row.off (List._∷_ (Row.lease (κs .1 .1 .0) (qs .1 .1 .0)) (List._∷_ Row.alive (List._∷_
-              Row.off List.[]))));
+          locals = List._++_ t17 t1;
+          slots = List._∷_ (Row.lease (κs .0) (qs .0)) (List._∷_ (Row.lease (κs .1 .0) (qs .1 .0)) (List._∷_ (Row.lease (κs .1 .1 .0) (qs .1
+              .1 .0)) (List._∷_ Row.off (List._∷_ Row.off (List._∷_ Row.off List.[])))));
         }
 
         abbrev G25 : Row.Cx
         G25 = record {
-          locals = g18;
-          slots = List._∷_ (Row.lease (κs .0) (qs .0)) (List._∷_ Row.off (List._∷_ (Row.lease (κs .1 .1 .0) (qs .1 .1 .0)) (List._∷_ Row.alive (List._∷_
-              Row.off List.[]))));
+          locals = List._++_ t18 t1;
+          slots = List._∷_ (Row.lease (κs .0) (qs .0)) (List._∷_ (Row.lease (κs .1 .0) (qs .1 .0)) (List._∷_ (Row.lease (κs .1 .1 .0) (qs .1
+              .1 .0)) (List._∷_ Row.off (List._∷_ Row.off (List._∷_ Row.off List.[])))));
         }
 
         abbrev G26 : Row.Cx
         G26 = record {
-          locals = g19;
-          slots = List._∷_ (Row.lease (κs .0) (qs .0)) (List._∷_ Row.off (List._∷_ (Row.lease (κs .1 .1 .0) (qs .1 .1 .0)) (List._∷_ Row.alive (List._∷_
-              Row.off List.[]))));
+          locals = List._++_ t19 t1;
+          slots = List._∷_ (Row.lease (κs .0) (qs .0)) (List._∷_ (Row.lease (κs .1 .0) (qs .1 .0)) (List._∷_ (Row.lease (κs .1 .1 .0) (qs .1
+              .1 .0)) (List._∷_ Row.off (List._∷_ Row.off (List._∷_ Row.off List.[])))));
         }
 
         abbrev G27 : Row.Cx
         G27 = record {
-          locals = g20;
-          slots = List._∷_ (Row.lease (κs .0) (qs .0)) (List._∷_ Row.off (List._∷_ (Row.lease (κs .1 .1 .0) (qs .1 .1 .0)) (List._∷_ Row.alive (List._∷_
-              Row.off List.[]))));
+          locals = List._++_ t18 t1;
+          slots = List._∷_ (Row.lease (κs .0) (qs .0)) (List._∷_ (Row.lease (κs .1 .0) (qs .1 .0)) (List._∷_ (Row.lease (κs .1 .1 .0) (qs .1
+              .1 .0)) (List._∷_ Row.off (List._∷_ Row.off (List._∷_ Row.off List.[])))));
         }
 
         abbrev G28 : Row.Cx
         G28 = record {
-          locals = g21;
-          slots = List._∷_ (Row.lease (κs .0) (qs .0)) (List._∷_ Row.off (List._∷_ (Row.lease (κs .1 .1 .0) (qs .1 .1 .0)) (List._∷_ Row.alive (List._∷_
-              Row.off List.[]))));
+          locals = List._++_ t20 t1;
+          slots = List._∷_ (Row.lease (κs .0) (qs .0)) (List._∷_ (Row.lease (κs .1 .0) (qs .1 .0)) (List._∷_ (Row.lease (κs .1 .1 .0) (qs .1
+              .1 .0)) (List._∷_ Row.off (List._∷_ Row.off (List._∷_ Row.off List.[])))));
         }
 
         abbrev G29 : Row.Cx
         G29 = record {
-          locals = g21;
-          slots = List._∷_ (Row.lease (κs .0) (qs .0)) (List._∷_ Row.off (List._∷_ (Row.lease (κs .1 .1 .0) (qs .1 .1 .0)) (List._∷_ Row.dead (List._∷_
-              Row.off List.[]))));
+          locals = List._++_ t21 t1;
+          slots = List._∷_ (Row.lease (κs .0) (qs .0)) (List._∷_ (Row.lease (κs .1 .0) (qs .1 .0)) (List._∷_ (Row.lease (κs .1 .1 .0) (qs .1
+              .1 .0)) (List._∷_ Row.off (List._∷_ Row.off (List._∷_ Row.off List.[])))));
         }
 
         abbrev G30 : Row.Cx
         G30 = record {
-          locals = t11;
-          slots = List._∷_ (Row.lease (κs .0) (qs .0)) (List._∷_ (Row.lease (κs .1 .0) (qs .1 .0)) (List._∷_ (Row.lease (κs .1 .1 .0) (qs .1 .1 .0))
-              (List._∷_ Row.dead (List._∷_ Row.off List.[]))));
+          locals = List._++_ t21 t1;
+          slots = List._∷_ (Row.lease (κs .0) (qs .0)) (List._∷_ (Row.lease (κs .1 .0) (qs .1 .0)) (List._∷_ (Row.lease (κs .1 .1 .0) (qs .1
+              .1 .0)) (List._∷_ Row.alive (List._∷_ Row.off (List._∷_ Row.off List.[])))));
         }
 
         abbrev G31 : Row.Cx
         G31 = record {
-          locals = t11;
-          slots = List._∷_ (Row.lease (κs .0) (qs .0)) (List._∷_ (Row.lease (κs .1 .0) (qs .1 .0)) (List._∷_ (Row.lease (κs .1 .1 .0) (qs .1 .1 .0))
-              (List._∷_ Row.off (List._∷_ Row.off List.[]))));
+          locals = List._++_ g22 t1;
+          slots = List._∷_ (Row.lease (κs .0) (qs .0)) (List._∷_ (Row.lease (κs .1 .0) (qs .1 .0)) (List._∷_ Row.off (List._∷_ Row.alive
+              (List._∷_ Row.off (List._∷_ Row.off List.[])))));
         }
 
         abbrev G32 : Row.Cx
         G32 = record {
-          locals = t11;
-          slots = List._∷_ (Row.lease (κs .0) (qs .0)) (List._∷_ (Row.lease (κs .1 .0) (qs .1 .0)) (List._∷_ (Row.lease (κs .1 .1 .0) (qs .1 .1 .0))
-              (List._∷_ Row.off (List._∷_ Row.alive List.[]))));
+          locals = List._++_ g23 t1;
+          slots = List._∷_ (Row.lease (κs .0) (qs .0)) (List._∷_ (Row.lease (κs .1 .0) (qs .1 .0)) (List._∷_ Row.off (List._∷_ Row.alive
+              (List._∷_ Row.off (List._∷_ Row.off List.[])))));
         }
 
         abbrev G33 : Row.Cx
         G33 = record {
-          locals = g22;
-          slots = List._∷_ (Row.lease (κs .0) (qs .0)) (List._∷_ (Row.lease (κs .1 .0) (qs .1 .0)) (List._∷_ Row.off (List._∷_ Row.off (List._∷_
-              Row.alive List.[]))));
+          locals = List._++_ g24 t1;
+          slots = List._∷_ (Row.lease (κs .0) (qs .0)) (List._∷_ (Row.lease (κs .1 .0) (qs .1 .0)) (List._∷_ Row.off (List._∷_ Row.alive
+              (List._∷_ Row.off (List._∷_ Row.off List.[])))));
         }
 
         abbrev G34 : Row.Cx
         G34 = record {
-          locals = g23;
-          slots = List._∷_ (Row.lease (κs .0) (qs .0)) (List._∷_ (Row.lease (κs .1 .0) (qs .1 .0)) (List._∷_ Row.off (List._∷_ Row.off (List._∷_
-              Row.alive List.[]))));
+          locals = List._++_ g25 t1;
+          slots = List._∷_ (Row.lease (κs .0) (qs .0)) (List._∷_ (Row.lease (κs .1 .0) (qs .1 .0)) (List._∷_ Row.off (List._∷_ Row.alive
+              (List._∷_ Row.off (List._∷_ Row.off List.[])))));
         }
 
         abbrev G35 : Row.Cx
         G35 = record {
-          locals = g24;
-          slots = List._∷_ (Row.lease (κs .0) (qs .0)) (List._∷_ (Row.lease (κs .1 .0) (qs .1 .0)) (List._∷_ Row.off (List._∷_ Row.off (List._∷_
-              Row.alive List.[]))));
+          locals = List._++_ g26 t1;
+          slots = List._∷_ (Row.lease (κs .0) (qs .0)) (List._∷_ (Row.lease (κs .1 .0) (qs .1 .0)) (List._∷_ Row.off (List._∷_ Row.alive
+              (List._∷_ Row.off (List._∷_ Row.off List.[])))));
         }
 
         abbrev G36 : Row.Cx
         G36 = record {
-          locals = g25;
-          slots = List._∷_ (Row.lease (κs .0) (qs .0)) (List._∷_ (Row.lease (κs .1 .0) (qs .1 .0)) (List._∷_ Row.off (List._∷_ Row.off (List._∷_
-              Row.alive List.[]))));
+          locals = List._++_ g26 t1;
+          slots = List._∷_ (Row.lease (κs .0) (qs .0)) (List._∷_ (Row.lease (κs .1 .0) (qs .1 .0)) (List._∷_ Row.off (List._∷_ Row.dead
+              (List._∷_ Row.off (List._∷_ Row.off List.[])))));
         }
 
         abbrev G37 : Row.Cx
         G37 = record {
-          locals = g25;
-          slots = List._∷_ (Row.lease (κs .0) (qs .0)) (List._∷_ (Row.lease (κs .1 .0) (qs .1 .0)) (List._∷_ Row.off (List._∷_ Row.off (List._∷_ Row.dead
-              List.[]))));
+          locals = List._++_ t12 t1;
+          slots = List._∷_ (Row.lease (κs .0) (qs .0)) (List._∷_ (Row.lease (κs .1 .0) (qs .1 .0)) (List._∷_ (Row.lease (κs .1 .1 .0) (qs .1
+              .1 .0)) (List._∷_ Row.dead (List._∷_ Row.off (List._∷_ Row.off List.[])))));
         }
 
         abbrev G38 : Row.Cx
         G38 = record {
-          locals = t11;
-          slots = List._∷_ (Row.lease (κs .0) (qs .0)) (List._∷_ (Row.lease (κs .1 .0) (qs .1 .0)) (List._∷_ (Row.lease (κs .1 .1 .0) (qs .1 .1 .0))
-              (List._∷_ Row.off (List._∷_ Row.dead List.[]))));
+          locals = List._++_ t12 t1;
+          slots = List._∷_ (Row.lease (κs .0) (qs .0)) (List._∷_ (Row.lease (κs .1 .0) (qs .1 .0)) (List._∷_ (Row.lease (κs .1 .1 .0) (qs .1
+              .1 .0)) (List._∷_ Row.dead (List._∷_ Row.off (List._∷_ Row.off List.[])))));
         }
 
         abbrev G39 : Row.Cx
         G39 = record {
-          locals = t11;
-          slots = List._∷_ (Row.lease (κs .0) (qs .0)) (List._∷_ (Row.lease (κs .1 .0) (qs .1 .0)) (List._∷_ (Row.lease (κs .1 .1 .0) (qs .1 .1 .0))
-              (List._∷_ Row.off (List._∷_ Row.dead List.[]))));
+          locals = List._++_ t12 t1;
+          slots = List._∷_ (Row.lease (κs .0) (qs .0)) (List._∷_ (Row.lease (κs .1 .0) (qs .1 .0)) (List._∷_ (Row.lease (κs .1 .1 .0) (qs .1
+              .1 .0)) (List._∷_ Row.off (List._∷_ Row.off (List._∷_ Row.off List.[])))));
         }
 
         abbrev G40 : Row.Cx
         G40 = record {
-          locals = t11;
-          slots = List._∷_ (Row.lease (κs .0) (qs .0)) (List._∷_ (Row.lease (κs .1 .0) (qs .1 .0)) (List._∷_ (Row.lease (κs .1 .1 .0) (qs .1 .1 .0))
-              (List._∷_ Row.off (List._∷_ Row.off List.[]))));
+          locals = List._++_ t15 t1;
+          slots = List._∷_ (Row.lease (κs .0) (qs .0)) (List._∷_ (Row.lease (κs .1 .0) (qs .1 .0)) (List._∷_ (Row.lease (κs .1 .1 .0) (qs .1
+              .1 .0)) (List._∷_ Row.off (List._∷_ Row.off (List._∷_ Row.off List.[])))));
         }
 
         abbrev G41 : Row.Cx
         G41 = record {
-          locals = t14;
-          slots = List._∷_ (Row.lease (κs .0) (qs .0)) (List._∷_ (Row.lease (κs .1 .0) (qs .1 .0)) (List._∷_ (Row.lease (κs .1 .1 .0) (qs .1 .1 .0))
-              (List._∷_ Row.off (List._∷_ Row.off List.[]))));
+          locals = List._++_ t2 t1;
+          slots = List._∷_ (Row.lease (κs .0) (qs .0)) (List._∷_ (Row.lease (κs .1 .0) (qs .1 .0)) (List._∷_ (Row.lease (κs .1 .1 .0) (qs .1
+              .1 .0)) (List._∷_ Row.off (List._∷_ Row.off (List._∷_ Row.off List.[])))));
         }
 
         abbrev G42 : Row.Cx
         G42 = record {
-          locals = t1;
-          slots = List._∷_ (Row.lease (κs .0) (qs .0)) (List._∷_ (Row.lease (κs .1 .0) (qs .1 .0)) (List._∷_ (Row.lease (κs .1 .1 .0) (qs .1 .1 .0))
-              (List._∷_ Row.off (List._∷_ Row.off List.[]))));
+          locals = List._++_ t18 t1;
+          slots = List._∷_ (Row.lease (κs .0) (qs .0)) (List._∷_ (Row.lease (κs .1 .0) (qs .1 .0)) (List._∷_ (Row.lease (κs .1 .1 .0) (qs .1
+              .1 .0)) (List._∷_ Row.off (List._∷_ Row.off (List._∷_ Row.off List.[])))));
+        }
+
+        abbrev G43 : Row.Cx
+        G43 = record {
+          locals = List._++_ t18 t1;
+          slots = List._∷_ (Row.lease (κs .0) (qs .0)) (List._∷_ (Row.lease (κs .1 .0) (qs .1 .0)) (List._∷_ (Row.lease (κs .1 .1 .0) (qs .1
+              .1 .0)) (List._∷_ Row.off (List._∷_ Row.alive (List._∷_ Row.off List.[])))));
+        }
+
+        abbrev G44 : Row.Cx
+        G44 = record {
+          locals = List._++_ g27 t28;
+          slots = List._∷_ (Row.lease (κs .0) (qs .0)) (List._∷_ Row.off (List._∷_ (Row.lease (κs .1 .1 .0) (qs .1 .1 .0)) (List._∷_
+              Row.off (List._∷_ Row.alive (List._∷_ Row.off List.[])))));
+        }
+
+        abbrev G45 : Row.Cx
+        G45 = record {
+          locals = List._++_ g27 t29;
+          slots = List._∷_ (Row.lease (κs .0) (qs .0)) (List._∷_ Row.off (List._∷_ (Row.lease (κs .1 .1 .0) (qs .1 .1 .0)) (List._∷_
+              Row.off (List._∷_ Row.alive (List._∷_ Row.off List.[])))));
+        }
+
+        abbrev G46 : Row.Cx
+        G46 = record {
+          locals = List._++_ g27 t30;
+          slots = List._∷_ (Row.lease (κs .0) (qs .0)) (List._∷_ Row.off (List._∷_ (Row.lease (κs .1 .1 .0) (qs .1 .1 .0)) (List._∷_
+              Row.off (List._∷_ Row.alive (List._∷_ Row.off List.[])))));
+        }
+
+        abbrev G47 : Row.Cx
+        G47 = record {
+          locals = List._++_ g31 t30;
+          slots = List._∷_ (Row.lease (κs .0) (qs .0)) (List._∷_ Row.off (List._∷_ (Row.lease (κs .1 .1 .0) (qs .1 .1 .0)) (List._∷_
+              Row.off (List._∷_ Row.alive (List._∷_ Row.off List.[])))));
+        }
+
+        abbrev G48 : Row.Cx
+        G48 = record {
+          locals = List._++_ g31 t32;
+          slots = List._∷_ (Row.lease (κs .0) (qs .0)) (List._∷_ Row.off (List._∷_ (Row.lease (κs .1 .1 .0) (qs .1 .1 .0)) (List._∷_
+              Row.off (List._∷_ Row.alive (List._∷_ Row.off List.[])))));
+        }
+
+        abbrev G49 : Row.Cx
+        G49 = record {
+          locals = List._++_ g31 t32;
+          slots = List._∷_ (Row.lease (κs .0) (qs .0)) (List._∷_ Row.off (List._∷_ (Row.lease (κs .1 .1 .0) (qs .1 .1 .0)) (List._∷_
+              Row.off (List._∷_ Row.dead (List._∷_ Row.off List.[])))));
+        }
+
+        abbrev G50 : Row.Cx
+        G50 = record {
+          locals = List._++_ t12 t1;
+          slots = List._∷_ (Row.lease (κs .0) (qs .0)) (List._∷_ (Row.lease (κs .1 .0) (qs .1 .0)) (List._∷_ (Row.lease (κs .1 .1 .0) (qs .1
+              .1 .0)) (List._∷_ Row.off (List._∷_ Row.dead (List._∷_ Row.off List.[])))));
+        }
+
+        abbrev G51 : Row.Cx
+        G51 = record {
+          locals = List._++_ t12 t1;
+          slots = List._∷_ (Row.lease (κs .0) (qs .0)) (List._∷_ (Row.lease (κs .1 .0) (qs .1 .0)) (List._∷_ (Row.lease (κs .1 .1 .0) (qs .1
+              .1 .0)) (List._∷_ Row.off (List._∷_ Row.off (List._∷_ Row.off List.[])))));
+        }
+
+        abbrev G52 : Row.Cx
+        G52 = record {
+          locals = List._++_ t12 t1;
+          slots = List._∷_ (Row.lease (κs .0) (qs .0)) (List._∷_ (Row.lease (κs .1 .0) (qs .1 .0)) (List._∷_ (Row.lease (κs .1 .1 .0) (qs .1
+              .1 .0)) (List._∷_ Row.off (List._∷_ Row.off (List._∷_ Row.alive List.[])))));
+        }
+
+        abbrev G53 : Row.Cx
+        G53 = record {
+          locals = List._++_ g33 t34;
+          slots = List._∷_ (Row.lease (κs .0) (qs .0)) (List._∷_ (Row.lease (κs .1 .0) (qs .1 .0)) (List._∷_ Row.off (List._∷_ Row.off
+              (List._∷_ Row.off (List._∷_ Row.alive List.[])))));
+        }
+
+        abbrev G54 : Row.Cx
+        G54 = record {
+          locals = List._++_ g33 t35;
+          slots = List._∷_ (Row.lease (κs .0) (qs .0)) (List._∷_ (Row.lease (κs .1 .0) (qs .1 .0)) (List._∷_ Row.off (List._∷_ Row.off
+              (List._∷_ Row.off (List._∷_ Row.alive List.[])))));
+        }
+
+        abbrev G55 : Row.Cx
+        G55 = record {
+          locals = List._++_ g33 t36;
+          slots = List._∷_ (Row.lease (κs .0) (qs .0)) (List._∷_ (Row.lease (κs .1 .0) (qs .1 .0)) (List._∷_ Row.off (List._∷_ Row.off
+              (List._∷_ Row.off (List._∷_ Row.alive List.[])))));
+        }
+
+        abbrev G56 : Row.Cx
+        G56 = record {
+          locals = List._++_ g33 t37;
+          slots = List._∷_ (Row.lease (κs .0) (qs .0)) (List._∷_ (Row.lease (κs .1 .0) (qs .1 .0)) (List._∷_ Row.off (List._∷_ Row.off
+              (List._∷_ Row.off (List._∷_ Row.alive List.[])))));
+        }
+
+        abbrev G57 : Row.Cx
+        G57 = record {
+          locals = List._++_ g33 t37;
+          slots = List._∷_ (Row.lease (κs .0) (qs .0)) (List._∷_ (Row.lease (κs .1 .0) (qs .1 .0)) (List._∷_ Row.off (List._∷_ Row.off
+              (List._∷_ Row.off (List._∷_ Row.dead List.[])))));
+        }
+
+        abbrev G58 : Row.Cx
+        G58 = record {
+          locals = List._++_ t12 t1;
+          slots = List._∷_ (Row.lease (κs .0) (qs .0)) (List._∷_ (Row.lease (κs .1 .0) (qs .1 .0)) (List._∷_ (Row.lease (κs .1 .1 .0) (qs .1
+              .1 .0)) (List._∷_ Row.off (List._∷_ Row.off (List._∷_ Row.dead List.[])))));
+        }
+
+        abbrev G59 : Row.Cx
+        G59 = record {
+          locals = List._++_ t12 t1;
+          slots = List._∷_ (Row.lease (κs .0) (qs .0)) (List._∷_ (Row.lease (κs .1 .0) (qs .1 .0)) (List._∷_ (Row.lease (κs .1 .1 .0) (qs .1
+              .1 .0)) (List._∷_ Row.off (List._∷_ Row.off (List._∷_ Row.dead List.[])))));
+        }
+
+        abbrev G60 : Row.Cx
+        G60 = record {
+          locals = List._++_ t12 t1;
+          slots = List._∷_ (Row.lease (κs .0) (qs .0)) (List._∷_ (Row.lease (κs .1 .0) (qs .1 .0)) (List._∷_ (Row.lease (κs .1 .1 .0) (qs .1
+              .1 .0)) (List._∷_ Row.off (List._∷_ Row.off (List._∷_ Row.off List.[])))));
+        }
+
+        abbrev G61 : Row.Cx
+        G61 = record {
+          locals = List._++_ t15 t1;
+          slots = List._∷_ (Row.lease (κs .0) (qs .0)) (List._∷_ (Row.lease (κs .1 .0) (qs .1 .0)) (List._∷_ (Row.lease (κs .1 .1 .0) (qs .1
+              .1 .0)) (List._∷_ Row.off (List._∷_ Row.off (List._∷_ Row.off List.[])))));
+        }
+
+        abbrev G62 : Row.Cx
+        G62 = record {
+          locals = List._++_ t2 t1;
+          slots = List._∷_ (Row.lease (κs .0) (qs .0)) (List._∷_ (Row.lease (κs .1 .0) (qs .1 .0)) (List._∷_ (Row.lease (κs .1 .1 .0) (qs .1
+              .1 .0)) (List._∷_ Row.off (List._∷_ Row.off (List._∷_ Row.off List.[])))));
         }
 
         abbrev Δ0 : Typed.Outs
@@ -3128,6 +3642,9 @@ module _ (claims· : Claims) where
 
         abbrev Δ1 : Typed.Outs
         Δ1 = Typed.withNext (Option.some G11) Δ0
+
+        abbrev Δ2 : Typed.Outs
+        Δ2 = Typed.withNext (Option.some G25) Δ0
 
         module _ {M : Type 1} (𝓤 : URA.URA M) (H : Wp.Heap 𝓤) (A : Atoms.Atoms 𝓤) (W : Kit.Given 𝓤 H A) (𝓣 : Wp.Tables 𝓤 H) (known : Knowns 𝓤 H A W 𝓣) (bs : List.List Nat.ℕ) (bd :
             Lifetimes.AllOutlive 3 (Kinds.osR r) κs) where
@@ -3146,7 +3663,7 @@ module _ (claims· : Claims) where
               (List._∷_ 102 (List._∷_ 115 (List._∷_ 101 (List._∷_ 116 List.[]))))))))))))))))))))))) (Syntax.tcons (Syntax.tyInt Syntax.w64) Syntax.tnil)) (Syntax.tcons
               (Syntax.tyInt Syntax.w64) (Syntax.tcons (Syntax.tyInt Syntax.w64) (Syntax.tcons (Syntax.tyInt Syntax.w64) Syntax.tnil))))) 8 λ v. Laws'4.val MainHeaderInfo.the-type
               Laws'.the-laws (v .0)) (λ m. m .1 .1 .1 .1 .0 .0) (λ m. Laws'3.Fields (Declared.variants MainHeader.the-type) (Laws'3.spellss (MainHeader.enum .parts) Laws.the-laws)
-              (MainHeader.the-type .to (Known.at MainHeader.enum 0 (m .1 .1 .1 .1 .0)))) (Reads.room-gone 𝓤 H A (Syntax.tyStruct (List._∷_ 104 (List._∷_ 101 (List._∷_ 97 (List._∷_
+              (MainHeader.the-type .to (Known.at MainHeader.enum 0 (m .1 .1 .1 .1 .0)))) (Reads'.room-gone 𝓤 H A (Syntax.tyStruct (List._∷_ 104 (List._∷_ 101 (List._∷_ 97 (List._∷_
               100 (List._∷_ 101 (List._∷_ 114 (List._∷_ 58 (List._∷_ 58 (List._∷_ 112 (List._∷_ 97 (List._∷_ 114 (List._∷_ 115 (List._∷_ 101 (List._∷_ 58 (List._∷_ 58 (List._∷_ 77
               (List._∷_ 97 (List._∷_ 105 (List._∷_ 110 (List._∷_ 72 (List._∷_ 101 (List._∷_ 97 (List._∷_ 100 (List._∷_ 101 (List._∷_ 114 (List._∷_ 73 (List._∷_ 110 (List._∷_ 102
               (List._∷_ 111 List.[]))))))))))))))))))))))))))))) (Syntax.tcons (Syntax.tyStruct (List._∷_ 116 (List._∷_ 121 (List._∷_ 112 (List._∷_ 101 (List._∷_ 115 (List._∷_ 58
@@ -3166,14 +3683,14 @@ module _ (claims· : Claims) where
               ) Path'.refl (λ ρ m. Make.tells-row 𝓤 H A W E ρ (Row.out 5 (G15 .locals)) m 4
               (Laws'3.Fields (Declared.variants MainHeader.the-type) (Laws'3.spellss (MainHeader.enum .parts) Laws.the-laws) (MainHeader.the-type .to (Known.at MainHeader.enum 0 (m
               .1 .1 .1 .1 .0)))) (Known.known-is 𝓤 H A W E MainHeader.enum 0 Laws.the-laws ρ 4 (m .1 .1 .1 .1 .0))) (λ m k wa. Path'.refl) λ m k wa. k .0) (Known.g-enum-whole 𝓤 H A
-              W E MainHeader.enum 0 G16 4 (λ x. x) (Reads.as-is 𝓤 H A (Rows.whole (Known.Known MainHeader.enum 0)))))
+              W E MainHeader.enum 0 G16 4 (λ x. x) (Reads'.as-is 𝓤 H A (Rows.whole (Known.Known MainHeader.enum 0)))))
 
           d1 : Typed.Typed 𝓤 H A 𝓣 E G14 b5 Δ1 (at1 bs)
-          d1 = Typed.g-pre 𝓤 H A W 𝓣 E G14 G15 b5 Δ1 (Typed.give (s12 bs)) (at0 bs) (Known.g-known-told 𝓤 H A W E MainHeader.enum 0 G14 4 Laws.the-laws (λ x. x) (Reads.as-is 𝓤 H A
+          d1 = Typed.g-pre 𝓤 H A W 𝓣 E G14 G15 b5 Δ1 (Typed.give (s12 bs)) (at0 bs) (Known.g-known-told 𝓤 H A W E MainHeader.enum 0 G14 4 Laws.the-laws (λ x. x) (Reads'.as-is 𝓤 H A
               (Rows.whole (Known.Known MainHeader.enum 0)))) d0
 
           d2 : Typed.Typed 𝓤 H A 𝓣 E G13 b5 Δ1 (at2 bs)
-          d2 = Typed.g-pre 𝓤 H A W 𝓣 E G13 G14 b5 Δ1 (Typed.both (s11 bs)) (at1 bs) (Known.g-enum-known 𝓤 H A W E MainHeader.enum 0 G13 4 (λ x. x) (Reads.as-is 𝓤 H A (Rows.whole
+          d2 = Typed.g-pre 𝓤 H A W 𝓣 E G13 G14 b5 Δ1 (Typed.both (s11 bs)) (at1 bs) (Known.g-enum-known 𝓤 H A W E MainHeader.enum 0 G13 4 (λ x. x) (Reads'.as-is 𝓤 H A (Rows.whole
               (Declared.row MainHeader.the-type)))) d1
 
           d3 : Typed.Typed 𝓤 H A 𝓣 E G20 b7 Δ1 (at3 bs)
@@ -3233,7 +3750,7 @@ module _ (claims· : Claims) where
               (Declared.row MainHeader.the-type)) (Rows.whole (Declared.row MainHeader.the-type)) (λ x. x) (λ x. x) (λ x. x) Path'.refl (Own.told-none 𝓤 H A (G18 .slots))
               (Yields.yields-copy 𝓤 H A W (λ ρ. Unit) (Declared.row MainHeader.the-type) Path'.refl (Copies.cEnum MainHeader.the-type Laws.the-laws Laws.the-copy .copy 𝓤 H A W)
               (Rows.whole (Declared.row MainHeader.the-type)) (λ x. x) (λ x. x) (λ ρ told. Local.mem-whole 𝓤 H A W (Declared.row MainHeader.the-type) ρ) λ ρ told. Local.whole-mem 𝓤
-              H A W (Declared.row MainHeader.the-type) ρ) (Reads.room-gone 𝓤 H A (Syntax.tyEnum (List._∷_ 104 (List._∷_ 101 (List._∷_ 97 (List._∷_ 100 (List._∷_ 101 (List._∷_ 114
+              H A W (Declared.row MainHeader.the-type) ρ) (Reads'.room-gone 𝓤 H A (Syntax.tyEnum (List._∷_ 104 (List._∷_ 101 (List._∷_ 97 (List._∷_ 100 (List._∷_ 101 (List._∷_ 114
               (List._∷_ 58 (List._∷_ 58 (List._∷_ 112 (List._∷_ 97 (List._∷_ 114 (List._∷_ 115 (List._∷_ 101 (List._∷_ 58 (List._∷_ 58 (List._∷_ 77 (List._∷_ 97 (List._∷_ 105
               (List._∷_ 110 (List._∷_ 72 (List._∷_ 101 (List._∷_ 97 (List._∷_ 100 (List._∷_ 101 (List._∷_ 114 List.[]))))))))))))))))))))))))) (Syntax.ttcons (Syntax.tcons
               (Syntax.tyStruct (List._∷_ 104 (List._∷_ 101 (List._∷_ 97 (List._∷_ 100 (List._∷_ 101 (List._∷_ 114 (List._∷_ 58 (List._∷_ 58 (List._∷_ 112 (List._∷_ 97 (List._∷_ 114
@@ -3268,11 +3785,11 @@ module _ (claims· : Claims) where
           d9 = Typed.g-pre 𝓤 H A W 𝓣 E G10 G12 b9 Δ1 (Typed.pass T10 T12 (s9 bs)) (at8 bs) (Scalar.g-room 𝓤 H A W E G10 8 (Syntax.tyInt Syntax.w64) (Scalar.room-sc 𝓤 H A W
               (Row.sInt Syntax.w64))) d8
 
-          d10 : Typed.Typed 𝓤 H A 𝓣 E G42 b18 Δ0 (at10 bs)
-          d10 = Typed.t-return 𝓤 H A W 𝓣 E Δ0 tt
+          d10 : Typed.Typed 𝓤 H A 𝓣 E G41 b17 Δ2 (at10 bs)
+          d10 = Typed.t-return 𝓤 H A W 𝓣 E Δ2 tt
 
-          d11 : Typed.Typed 𝓤 H A 𝓣 E G41 b18 Δ0 (at11 bs)
-          d11 = Typed.g-pre 𝓤 H A W 𝓣 E G41 G42 b18 Δ0 (Typed.pass T41 T42 (s39 bs)) (at10 bs) (Scalar.g-room 𝓤 H A W E G41 4 (Syntax.tyEnum (List._∷_ 104 (List._∷_ 101 (List._∷_
+          d11 : Typed.Typed 𝓤 H A 𝓣 E G40 b17 Δ2 (at11 bs)
+          d11 = Typed.g-pre 𝓤 H A W 𝓣 E G40 G41 b17 Δ2 (Typed.pass T40 T41 (s37 bs)) (at10 bs) (Scalar.g-room 𝓤 H A W E G40 4 (Syntax.tyEnum (List._∷_ 104 (List._∷_ 101 (List._∷_
               97 (List._∷_ 100 (List._∷_ 101 (List._∷_ 114 (List._∷_ 58 (List._∷_ 58 (List._∷_ 112 (List._∷_ 97 (List._∷_ 114 (List._∷_ 115 (List._∷_ 101 (List._∷_ 58 (List._∷_ 58
               (List._∷_ 77 (List._∷_ 97 (List._∷_ 105 (List._∷_ 110 (List._∷_ 72 (List._∷_ 101 (List._∷_ 97 (List._∷_ 100 (List._∷_ 101 (List._∷_ 114
               List.[]))))))))))))))))))))))))) (Syntax.ttcons (Syntax.tcons (Syntax.tyStruct (List._∷_ 104 (List._∷_ 101 (List._∷_ 97 (List._∷_ 100 (List._∷_ 101 (List._∷_ 114
@@ -3297,8 +3814,8 @@ module _ (claims· : Claims) where
               112 (List._∷_ 101 (List._∷_ 115 (List._∷_ 58 (List._∷_ 58 (List._∷_ 82 (List._∷_ 101 (List._∷_ 102 (List._∷_ 117 (List._∷_ 115 (List._∷_ 97 (List._∷_ 108
               List.[])))))))))))))) (Syntax.tcons (Syntax.tyInt Syntax.w32) (Syntax.tcons (Syntax.tyInt Syntax.w64) Syntax.tnil))) Syntax.tnil) Syntax.ttnil))) Path'.refl)) d10
 
-          d12 : Typed.Typed 𝓤 H A 𝓣 E G40 b19 Δ0 (at12 bs)
-          d12 = Typed.s-seq 𝓤 H A W 𝓣 E G40 G41 b17 b18 Δ0 (Typed.pass T39 T41 (s38 bs)) (at11 bs) (LocalCopy.t-val-copy 𝓤 H A W E 𝓣 (λ ρ. Unit) G40 4 0 (Declared.row
+          d12 : Typed.Typed 𝓤 H A 𝓣 E G39 b18 Δ2 (at12 bs)
+          d12 = Typed.s-seq 𝓤 H A W 𝓣 E G39 G40 b16 b17 Δ2 (Typed.pass T38 T40 (s36 bs)) (at11 bs) (LocalCopy.t-val-copy 𝓤 H A W E 𝓣 (λ ρ. Unit) G39 4 0 (Declared.row
               MainHeader.the-type) (Syntax.tyEnum (List._∷_ 104 (List._∷_ 101 (List._∷_ 97 (List._∷_ 100 (List._∷_ 101 (List._∷_ 114 (List._∷_ 58 (List._∷_ 58 (List._∷_ 112
               (List._∷_ 97 (List._∷_ 114 (List._∷_ 115 (List._∷_ 101 (List._∷_ 58 (List._∷_ 58 (List._∷_ 77 (List._∷_ 97 (List._∷_ 105 (List._∷_ 110 (List._∷_ 72 (List._∷_ 101
               (List._∷_ 97 (List._∷_ 100 (List._∷_ 101 (List._∷_ 114 List.[]))))))))))))))))))))))))) (Syntax.ttcons (Syntax.tcons (Syntax.tyStruct (List._∷_ 104 (List._∷_ 101
@@ -3322,10 +3839,10 @@ module _ (claims· : Claims) where
               (Syntax.tcons (Syntax.tyInt Syntax.w64) Syntax.tnil))))) Syntax.tnil) (Syntax.ttcons (Syntax.tcons (Syntax.tyStruct (List._∷_ 116 (List._∷_ 121 (List._∷_ 112
               (List._∷_ 101 (List._∷_ 115 (List._∷_ 58 (List._∷_ 58 (List._∷_ 82 (List._∷_ 101 (List._∷_ 102 (List._∷_ 117 (List._∷_ 115 (List._∷_ 97 (List._∷_ 108
               List.[])))))))))))))) (Syntax.tcons (Syntax.tyInt Syntax.w32) (Syntax.tcons (Syntax.tyInt Syntax.w64) Syntax.tnil))) Syntax.tnil) Syntax.ttnil))) (Rows.whole
-              (Declared.row MainHeader.the-type)) (Rows.whole (Declared.row MainHeader.the-type)) (λ x. x) (λ x. x) (λ x. x) Path'.refl (Own.told-none 𝓤 H A (G40 .slots))
+              (Declared.row MainHeader.the-type)) (Rows.whole (Declared.row MainHeader.the-type)) (λ x. x) (λ x. x) (λ x. x) Path'.refl (Own.told-none 𝓤 H A (G39 .slots))
               (Yields.yields-copy 𝓤 H A W (λ ρ. Unit) (Declared.row MainHeader.the-type) Path'.refl (Copies.cEnum MainHeader.the-type Laws.the-laws Laws.the-copy .copy 𝓤 H A W)
               (Rows.whole (Declared.row MainHeader.the-type)) (λ x. x) (λ x. x) (λ ρ told. Local.mem-whole 𝓤 H A W (Declared.row MainHeader.the-type) ρ) λ ρ told. Local.whole-mem 𝓤
-              H A W (Declared.row MainHeader.the-type) ρ) (Reads.room-gone 𝓤 H A (Syntax.tyEnum (List._∷_ 104 (List._∷_ 101 (List._∷_ 97 (List._∷_ 100 (List._∷_ 101 (List._∷_ 114
+              H A W (Declared.row MainHeader.the-type) ρ) (Reads'.room-gone 𝓤 H A (Syntax.tyEnum (List._∷_ 104 (List._∷_ 101 (List._∷_ 97 (List._∷_ 100 (List._∷_ 101 (List._∷_ 114
               (List._∷_ 58 (List._∷_ 58 (List._∷_ 112 (List._∷_ 97 (List._∷_ 114 (List._∷_ 115 (List._∷_ 101 (List._∷_ 58 (List._∷_ 58 (List._∷_ 77 (List._∷_ 97 (List._∷_ 105
               (List._∷_ 110 (List._∷_ 72 (List._∷_ 101 (List._∷_ 97 (List._∷_ 100 (List._∷_ 101 (List._∷_ 114 List.[]))))))))))))))))))))))))) (Syntax.ttcons (Syntax.tcons
               (Syntax.tyStruct (List._∷_ 104 (List._∷_ 101 (List._∷_ 97 (List._∷_ 100 (List._∷_ 101 (List._∷_ 114 (List._∷_ 58 (List._∷_ 58 (List._∷_ 112 (List._∷_ 97 (List._∷_ 114
@@ -3340,75 +3857,81 @@ module _ (claims· : Claims) where
               H A W (λ ρ. Unit) (Declared.row MainHeader.the-type) Path'.refl (Rows.whole (Declared.row MainHeader.the-type)) (λ x. x) λ ρ told. Local.whole-mem 𝓤 H A W
               (Declared.row MainHeader.the-type) ρ) Path'.refl Path'.refl) d11
 
-          d13 : Typed.Typed 𝓤 H A 𝓣 E G39 b19 Δ0 (at13 bs)
-          d13 = Typed.g-pre 𝓤 H A W 𝓣 E G39 G40 b19 Δ0 (λ Ψ. Ψ) (at12 bs) (Lifetime.g-forget 𝓤 H A W E G39 4 Row.dead Path'.refl) d12
+          d13 : Typed.Typed 𝓤 H A 𝓣 E G38 b18 Δ2 (at13 bs)
+          d13 = Typed.g-pre 𝓤 H A W 𝓣 E G38 G39 b18 Δ2 (λ Ψ. Ψ) (at12 bs) (Lifetime.g-forget 𝓤 H A W E G38 3 Row.dead Path'.refl) d12
 
-          d14 : Typed.Typed 𝓤 H A 𝓣 E G38 b19 Δ0 (at14 bs)
-          d14 = Typed.g-pre 𝓤 H A W 𝓣 E G38 G39 b19 Δ0 (Typed.give (s36 bs)) (at13 bs) (Know.g-sl-known 𝓤 H A W (Referent.fInt Syntax.w8) E G38 3 2 (Syntax.tyRef (Syntax.named 2)
-              Syntax.mut (Syntax.tyInt Syntax.w8)) (Row.lease (κs .1 .1 .0) (qs .1 .1 .0)) 0 (λ x. x) record { fits = Dec'.lit< tt } (Reads.as-is 𝓤 H A (Mut.mslice (Referent.rtF
+          d14 : Typed.Typed 𝓤 H A 𝓣 E G37 b18 Δ2 (at14 bs)
+          d14 = Typed.g-pre 𝓤 H A W 𝓣 E G37 G38 b18 Δ2 (Typed.give (s34 bs)) (at13 bs) (Know.g-sl-known 𝓤 H A W (Referent.fInt Syntax.w8) E G37 3 2 (Syntax.tyRef (Syntax.named 2)
+              Syntax.mut (Syntax.tyInt Syntax.w8)) (Row.lease (κs .1 .1 .0) (qs .1 .1 .0)) 0 (λ x. x) record { fits = Dec'.lit< tt } (Reads'.as-is 𝓤 H A (Mut.mslice (Referent.rtF
               (Referent.fInt Syntax.w8)) (Syntax.tyRef (Syntax.named 2) Syntax.mut (Syntax.tyInt Syntax.w8)) 2)) Path'.refl tt) d13
 
-          d15 : Typed.Typed 𝓤 H A 𝓣 E G37 b19 Δ0 (at15 bs)
-          d15 = Typed.g-pre 𝓤 H A W 𝓣 E G37 G38 b19 Δ0 (Typed.both (s35 bs)) (at14 bs) (Relend.g-back-sl 𝓤 H A W E (Referent.rtF (Referent.fInt Syntax.w8)) G37 15 3 2 4
+          d15 : Typed.Typed 𝓤 H A 𝓣 E G36 b18 Δ2 (at15 bs)
+          d15 = Typed.g-pre 𝓤 H A W 𝓣 E G36 G37 b18 Δ2 (Typed.both (s33 bs)) (at14 bs) (Relend.g-back-sl 𝓤 H A W E (Referent.rtF (Referent.fInt Syntax.w8)) G36 15 3 2 3
               (Syntax.tyRef (Syntax.named 2) Syntax.mut (Syntax.tyInt Syntax.w8)) (Syntax.tyRef Syntax.erased Syntax.mut (Syntax.tyInt Syntax.w8)) (Row.lease (κs .1 .1 .0) (qs .1
-              .1 .0)) (λ x. x) (λ x. x) (Reads.as-is 𝓤 H A (Mut.msleft (Referent.rtF (Referent.fInt Syntax.w8)) (Syntax.tyRef Syntax.erased Syntax.mut (Syntax.tyInt Syntax.w8))))
-              (Reads.as-is 𝓤 H A (Relend.mslice-owed (Referent.rtF (Referent.fInt Syntax.w8)) (Syntax.tyRef (Syntax.named 2) Syntax.mut (Syntax.tyInt Syntax.w8)) 2 4 (Row.lease (κs
-              .1 .1 .0) (qs .1 .1 .0)))) Path'.refl Path'.refl) d14
+              .1 .0)) (λ x. x) (λ x. x) (Reads'.as-is 𝓤 H A (Mut.msleft (Referent.rtF (Referent.fInt Syntax.w8)) (Syntax.tyRef Syntax.erased Syntax.mut (Syntax.tyInt Syntax.w8))))
+              (Reads'.as-is 𝓤 H A (Relend.mslice-owed (Referent.rtF (Referent.fInt Syntax.w8)) (Syntax.tyRef (Syntax.named 2) Syntax.mut (Syntax.tyInt Syntax.w8)) 2 3 (Row.lease
+              (κs .1 .1 .0) (qs .1 .1 .0)))) Path'.refl Path'.refl) d14
 
-          d16 : Typed.Typed 𝓤 H A 𝓣 E G36 b19 Δ0 (at16 bs)
-          d16 = Typed.g-pre 𝓤 H A W 𝓣 E G36 G37 b19 Δ0 (λ Ψ. Ψ) (at15 bs) (Lifetime.g-end 𝓤 H A W E G36 4 Path'.refl) d15
+          d16 : Typed.Typed 𝓤 H A 𝓣 E G35 b18 Δ2 (at16 bs)
+          d16 = Typed.g-pre 𝓤 H A W 𝓣 E G35 G36 b18 Δ2 (λ Ψ. Ψ) (at15 bs) (Lifetime.g-end 𝓤 H A W E G35 3 Path'.refl) d15
 
-          d17 : Typed.Typed 𝓤 H A 𝓣 E G35 b19 Δ0 (at17 bs)
-          d17 = Typed.g-pre 𝓤 H A W 𝓣 E G35 G36 b19 Δ0 (Typed.pass T35 T36 (s33 bs)) (at16 bs) (Scalar.g-room 𝓤 H A W E G35 11 Syntax.tyUnit (Scalar.room-sc 𝓤 H A W Row.sUnit)) d16
+          d17 : Typed.Typed 𝓤 H A 𝓣 E G34 b18 Δ2 (at17 bs)
+          d17 = Typed.g-pre 𝓤 H A W 𝓣 E G34 G35 b18 Δ2 (Typed.pass T34 T35 (s31 bs)) (at16 bs) (Scalar.g-room 𝓤 H A W E G34 13 (Syntax.tyInt Syntax.w64) (Scalar.room-sc 𝓤 H A W
+              (Row.sInt Syntax.w64))) d16
 
-          d18 : Typed.Typed 𝓤 H A 𝓣 E G34 b20 Δ0 (at18 bs)
-          d18 = Typed.s-seq 𝓤 H A W 𝓣 E G34 G35 b16 b19 Δ0 (Typed.both (s32 bs)) (at17 bs) (Plain.t-call-plain 𝓤 H A W 𝓣 2 ps·2 r·2 (claims· .4) (claims· .5) "header::strip::strip"
-              (known .2) E (λ pos β. β) G34 (
+          d18 : Typed.Typed 𝓤 H A 𝓣 E G33 b18 Δ2 (at18 bs)
+          d18 = Typed.g-pre 𝓤 H A W 𝓣 E G33 G34 b18 Δ2 (Typed.pass T33 T34 (s30 bs)) (at17 bs) (Scalar.g-room 𝓤 H A W E G33 12 (Syntax.tyInt Syntax.w64) (Scalar.room-sc 𝓤 H A W
+              (Row.sInt Syntax.w64))) d17
+
+          d19 : Typed.Typed 𝓤 H A 𝓣 E G32 b19 Δ2 (at19 bs)
+          d19 = Typed.s-seq 𝓤 H A W 𝓣 E G32 G33 b15 b18 Δ2 (Typed.both (s29 bs)) (at18 bs) (Plain.t-call-plain 𝓤 H A W 𝓣 2 ps·2 r·2 (claims· .4) (claims· .5)
+              "header::strip::append" (known .2) E (λ pos β. β) G32 (
                 record { pos = 1; ty = Syntax.tyRef (Syntax.named 0) Syntax.imm (Syntax.tyInt Syntax.w8); ref = λ x. x },
-                (
-                  record {
-                    pos = 15;
-                    ty =
-                        Syntax.tyRef Syntax.erased Syntax.mut (Syntax.tyInt Syntax.w8);
-                    ref = λ x. x;
-                  },
-                  tt,
-                ),
-              ) 11 (List._∷_ 0 (List._∷_ 4 List.[])) (Call.sub-id 𝓤 H A W (G34 .slots)) (
-                ShrSlice.spares-sslice 𝓤 H A W (Referent.rtF (Referent.fInt Syntax.w8)) (Syntax.tyRef (Syntax.named 0) Syntax.imm (Syntax.tyInt Syntax.w8)) 0,
-                Shared.reads-sslice 𝓤
-                    H A W (Referent.rtF (Referent.fInt Syntax.w8)) (Syntax.tyRef (Syntax.named 0) Syntax.imm (Syntax.tyInt Syntax.w8)) 0,
+                (Num.vLit 0, (Num.vAt 13 λ x. x, (record { pos = 15; ty = Syntax.tyRef Syntax.erased Syntax.mut (Syntax.tyInt Syntax.w8); ref = λ x. x }, (Num.vLit 0, tt)))),
+              ) 12
+              (List._∷_ 0 (List._∷_ 3 List.[])) (Call.sub-id 𝓤 H A W (G32 .slots)) (
+                ShrSlice.spares-sslice 𝓤 H A W (Referent.rtF (Referent.fInt Syntax.w8)) (Syntax.tyRef
+                    (Syntax.named 0) Syntax.imm (Syntax.tyInt Syntax.w8)) 0,
+                Shared.reads-sslice 𝓤 H A W (Referent.rtF (Referent.fInt Syntax.w8)) (Syntax.tyRef (Syntax.named 0)
+                    Syntax.imm (Syntax.tyInt Syntax.w8)) 0,
                 Path'.refl,
                 (
-                  Reads.as-is 𝓤 H A (Mut.mslice
-                      (Referent.rtF (Referent.fInt Syntax.w8)) (Syntax.tyRef Syntax.erased Syntax.mut (Syntax.tyInt Syntax.w8)) 4),
-                  Mut.reads-mslice 𝓤 H A W (Referent.rtF (Referent.fInt
-                      Syntax.w8)) (Syntax.tyRef Syntax.erased Syntax.mut (Syntax.tyInt Syntax.w8)) 4,
-                  Path'.refl,
                   tt,
+                  (
+                    (Scalar.reads-sc 𝓤 H A W (Row.sInt Syntax.w64), Path'.refl),
+                    (
+                      Reads'.as-is 𝓤 H A (Mut.mslice (Referent.rtF
+                          (Referent.fInt Syntax.w8)) (Syntax.tyRef Syntax.erased Syntax.mut (Syntax.tyInt Syntax.w8)) 3),
+                      Mut.reads-mslice 𝓤 H A W (Referent.rtF (Referent.fInt Syntax.w8))
+                          (Syntax.tyRef Syntax.erased Syntax.mut (Syntax.tyInt Syntax.w8)) 3,
+                      Path'.refl,
+                      (tt, tt),
+                    ),
+                  ),
                 ),
-              ) (Reads.room-gone 𝓤 H A Syntax.tyUnit) (tt, (tt, tt)) Path'.refl) d17
+              ) (Reads'.room-gone 𝓤 H A (Syntax.tyInt Syntax.w64)) (tt, (tt, tt))
+              Path'.refl) d18
 
-          d19 : Typed.Typed 𝓤 H A 𝓣 E G33 b21 Δ0 (at19 bs)
-          d19 = Typed.s-seq 𝓤 H A W 𝓣 E G33 G34 b15 b20 Δ0 (Typed.ask (s31 bs)) (at18 bs) (Relend.t-sl-aggregate 𝓤 H A W E (Referent.rtF (Referent.fInt Syntax.w8)) 𝓣 (Relend.asMut
-              (Referent.rtF (Referent.fInt Syntax.w8))) G33 14 15 4 (Syntax.tyRef Syntax.erased Syntax.mut (Syntax.tyInt Syntax.w8)) (Syntax.tyRef Syntax.erased Syntax.mut
-              (Syntax.tyInt Syntax.w8)) (λ x. x) (Scalar.oFld 3 (List._∷_ (Syntax.field 1) List.[]) (Syntax.tyInt Syntax.w64) 8 λ v. Shared.lenV (v .0)) (Reads.as-is 𝓤 H A
-              (Relend.msptr (Referent.rtF (Referent.fInt Syntax.w8)) (Syntax.tyRef Syntax.erased Syntax.mut (Syntax.tyInt Syntax.w8)) 4)) (Reads.room-gone 𝓤 H A (Syntax.tyStruct
+          d20 : Typed.Typed 𝓤 H A 𝓣 E G31 b20 Δ2 (at20 bs)
+          d20 = Typed.s-seq 𝓤 H A W 𝓣 E G31 G32 b14 b19 Δ2 (Typed.ask (s28 bs)) (at19 bs) (Relend.t-sl-aggregate 𝓤 H A W E (Referent.rtF (Referent.fInt Syntax.w8)) 𝓣 (Relend.asMut
+              (Referent.rtF (Referent.fInt Syntax.w8))) G31 14 15 3 (Syntax.tyRef Syntax.erased Syntax.mut (Syntax.tyInt Syntax.w8)) (Syntax.tyRef Syntax.erased Syntax.mut
+              (Syntax.tyInt Syntax.w8)) (λ x. x) (Scalar.oFld 3 (List._∷_ (Syntax.field 1) List.[]) (Syntax.tyInt Syntax.w64) 8 λ v. Shared.lenV (v .0)) (Reads'.as-is 𝓤 H A
+              (Relend.msptr (Referent.rtF (Referent.fInt Syntax.w8)) (Syntax.tyRef Syntax.erased Syntax.mut (Syntax.tyInt Syntax.w8)) 3)) (Reads'.room-gone 𝓤 H A (Syntax.tyStruct
               (List._∷_ 38 (List._∷_ 91 (List._∷_ 93 List.[]))) (Syntax.tcons (Syntax.tyRef Syntax.erased Syntax.mut (Syntax.tyInt Syntax.w8)) (Syntax.tcons (Syntax.tyInt
               Syntax.w64) Syntax.tnil)))) (
                 Relend.reads-owed-len 𝓤 H A W (Referent.rtF (Referent.fInt Syntax.w8)) (Syntax.tyRef (Syntax.named 2) Syntax.mut (Syntax.tyInt
-                    Syntax.w8)) 2 4 (Row.lease (κs .1 .1 .0) (qs .1 .1 .0)) 8 Path'.refl,
+                    Syntax.w8)) 2 3 (Row.lease (κs .1 .1 .0) (qs .1 .1 .0)) 8 Path'.refl,
                 Path'.refl,
-              ) Path'.refl Path'.refl λ b o k. tt) d18
+              ) Path'.refl Path'.refl λ b o k. tt) d19
 
-          d20 : Typed.Typed 𝓤 H A 𝓣 E G32 b22 Δ0 (at20 bs)
-          d20 = Typed.s-seq 𝓤 H A W 𝓣 E G32 G33 b14 b21 Δ0 (Typed.give (s30 bs)) (at19 bs) (Relend.t-sl-relend 𝓤 H A W E (Referent.rtF (Referent.fInt Syntax.w8)) 𝓣 G32 3 14 2 4
+          d21 : Typed.Typed 𝓤 H A 𝓣 E G30 b21 Δ2 (at21 bs)
+          d21 = Typed.s-seq 𝓤 H A W 𝓣 E G30 G31 b13 b20 Δ2 (Typed.give (s27 bs)) (at20 bs) (Relend.t-sl-relend 𝓤 H A W E (Referent.rtF (Referent.fInt Syntax.w8)) 𝓣 G30 3 14 2 3
               (Syntax.tyRef (Syntax.named 2) Syntax.mut (Syntax.tyInt Syntax.w8)) (Syntax.tyRef Syntax.erased Syntax.mut (Syntax.tyInt Syntax.w8)) (Row.lease (κs .1 .1 .0) (qs .1
-              .1 .0)) 0 (λ x. x) (Reads.as-is 𝓤 H A (Mut.mslice (Referent.rtF (Referent.fInt Syntax.w8)) (Syntax.tyRef (Syntax.named 2) Syntax.mut (Syntax.tyInt Syntax.w8)) 2))
-              (Reads.room-gone 𝓤 H A (Syntax.tyRef Syntax.erased Syntax.mut (Syntax.tyInt Syntax.w8))) Path'.refl tt Path'.refl Path'.refl Path'.refl λ b o. tt) d19
+              .1 .0)) 0 (λ x. x) (Reads'.as-is 𝓤 H A (Mut.mslice (Referent.rtF (Referent.fInt Syntax.w8)) (Syntax.tyRef (Syntax.named 2) Syntax.mut (Syntax.tyInt Syntax.w8)) 2))
+              (Reads'.room-gone 𝓤 H A (Syntax.tyRef Syntax.erased Syntax.mut (Syntax.tyInt Syntax.w8))) Path'.refl tt Path'.refl Path'.refl Path'.refl λ b o. tt) d20
 
-          d21 : Typed.Typed 𝓤 H A 𝓣 E G31 b22 Δ0 (at21 bs)
-          d21 = Typed.g-pre 𝓤 H A W 𝓣 E G31 G32 b22 Δ0 (λ Ψ. Ψ) (at20 bs) (Lifetime.g-begin 𝓤 H A W E G31 4 (
+          d22 : Typed.Typed 𝓤 H A 𝓣 E G29 b21 Δ2 (at22 bs)
+          d22 = Typed.g-pre 𝓤 H A W 𝓣 E G29 G30 b21 Δ2 (λ Ψ. Ψ) (at21 bs) (Lifetime.g-begin 𝓤 H A W E G29 3 (
             tt,
             (
               tt,
@@ -3436,7 +3959,7 @@ module _ (claims· : Claims) where
                                     tt,
                                     (
                                       tt,
-                                      (tt, (tt, tt)),
+                                      (tt, (tt, (tt, (tt, (tt, (tt, (tt, tt))))))),
                                     ),
                                   ),
                                 ),
@@ -3450,35 +3973,270 @@ module _ (claims· : Claims) where
                 ),
               ),
             ),
-          )) d20
+          )) d21
 
-          d22 : Typed.Typed 𝓤 H A 𝓣 E G30 b22 Δ0 (at22 bs)
-          d22 = Typed.g-pre 𝓤 H A W 𝓣 E G30 G31 b22 Δ0 (λ Ψ. Ψ) (at21 bs) (Lifetime.g-forget 𝓤 H A W E G30 3 Row.dead Path'.refl) d21
-
-          d23 : Typed.Typed 𝓤 H A 𝓣 E G29 b22 Δ0 (at23 bs)
-          d23 = Typed.g-pre 𝓤 H A W 𝓣 E G29 G30 b22 Δ0 (Typed.both (s27 bs)) (at22 bs) (Relend.g-back-sl 𝓤 H A W E LentTilePartEntry.row G29 13 2 1 3 (Syntax.tyRef (Syntax.named 1)
-              Syntax.mut LentTilePartEntry.pointee) (Syntax.tyRef Syntax.erased Syntax.mut LentTilePartEntry.pointee) (Row.lease (κs .1 .0) (qs .1 .0)) (λ x. x) (λ x. x)
-              (Reads.as-is 𝓤 H A (Mut.msleft LentTilePartEntry.row (Syntax.tyRef Syntax.erased Syntax.mut LentTilePartEntry.pointee))) (Reads.as-is 𝓤 H A (Relend.mslice-owed
-              LentTilePartEntry.row (Syntax.tyRef (Syntax.named 1) Syntax.mut LentTilePartEntry.pointee) 1 3 (Row.lease (κs .1 .0) (qs .1 .0)))) Path'.refl Path'.refl) d22
-
-          d24 : Typed.Typed 𝓤 H A 𝓣 E G28 b22 Δ0 (at24 bs)
-          d24 = Typed.g-pre 𝓤 H A W 𝓣 E G28 G29 b22 Δ0 (λ Ψ. Ψ) (at23 bs) (Lifetime.g-end 𝓤 H A W E G28 3 Path'.refl) d23
-
-          d25 : Typed.Typed 𝓤 H A 𝓣 E G27 b22 Δ0 (at25 bs)
-          d25 = Typed.g-pre 𝓤 H A W 𝓣 E G27 G28 b22 Δ0 (Typed.pass T27 T28 (s25 bs)) (at24 bs) (Scalar.g-room 𝓤 H A W E G27 11 Syntax.tyUnit (Scalar.room-sc 𝓤 H A W Row.sUnit)) d24
-
-          d26 : Typed.Typed 𝓤 H A 𝓣 E G26 b22 Δ0 (at26 bs)
-          d26 = Typed.g-pre 𝓤 H A W 𝓣 E G26 G27 b22 Δ0 (Typed.pass T26 T27 (s24 bs)) (at25 bs) (Scalar.g-room 𝓤 H A W E G26 6 (Syntax.tyStruct (List._∷_ 116 (List._∷_ 121 (List._∷_
+          d23 : Typed.Typed 𝓤 H A 𝓣 E G28 b21 Δ2 (at23 bs)
+          d23 = Typed.g-pre 𝓤 H A W 𝓣 E G28 G29 b21 Δ2 (Typed.pass T28 T29 (s25 bs)) (at22 bs) (Scalar.g-room 𝓤 H A W E G28 6 (Syntax.tyStruct (List._∷_ 116 (List._∷_ 121 (List._∷_
               112 (List._∷_ 101 (List._∷_ 115 (List._∷_ 58 (List._∷_ 58 (List._∷_ 67 (List._∷_ 111 (List._∷_ 100 (List._∷_ 101 (List._∷_ 115 (List._∷_ 116 (List._∷_ 114 (List._∷_
               101 (List._∷_ 97 (List._∷_ 109 (List._∷_ 79 (List._∷_ 102 (List._∷_ 102 (List._∷_ 115 (List._∷_ 101 (List._∷_ 116 List.[]))))))))))))))))))))))) (Syntax.tcons
               (Syntax.tyInt Syntax.w64) Syntax.tnil)) (Local.room-whole 𝓤 H A W (Declared'.row CodestreamOffset.the-type) (Syntax.tyStruct (List._∷_ 116 (List._∷_ 121 (List._∷_ 112
               (List._∷_ 101 (List._∷_ 115 (List._∷_ 58 (List._∷_ 58 (List._∷_ 67 (List._∷_ 111 (List._∷_ 100 (List._∷_ 101 (List._∷_ 115 (List._∷_ 116 (List._∷_ 114 (List._∷_ 101
               (List._∷_ 97 (List._∷_ 109 (List._∷_ 79 (List._∷_ 102 (List._∷_ 102 (List._∷_ 115 (List._∷_ 101 (List._∷_ 116 List.[]))))))))))))))))))))))) (Syntax.tcons
-              (Syntax.tyInt Syntax.w64) Syntax.tnil)) Path'.refl)) d25
+              (Syntax.tyInt Syntax.w64) Syntax.tnil)) Path'.refl)) d22
 
-          d27 : Typed.Typed 𝓤 H A 𝓣 E G25 b23 Δ0 (at27 bs)
-          d27 = Typed.s-seq 𝓤 H A W 𝓣 E G25 G26 b13 b22 Δ0 (Typed.both (s23 bs)) (at26 bs) (Plain.t-call-plain 𝓤 H A W 𝓣 2 ps·1 r·1 (claims· .2) (claims· .3)
-              "records::main_header::fill_table" (known .1) E (λ pos β. β) G25 (
+          d24 : Typed.Typed 𝓤 H A 𝓣 E G27 b22 Δ2 (at24 bs)
+          d24 = Typed.s-seq 𝓤 H A W 𝓣 E G27 G28 b12 b21 Δ2 (Typed.both (s24 bs)) (at23 bs) (Plain.t-call-plain 𝓤 H A W 𝓣 0 ps·1 r·1 (claims· .2) (claims· .3)
+              "types::CodestreamOffset::position" (known .1) E (λ pos β. β) G27 (record { pos = 6; st = List.[]; d = 0; at = λ x. x }, tt) 13 List.[] (Call.sub-id 𝓤 H A W (G27
+              .slots)) (
+                (
+                  Yields.yields-copy 𝓤 H A W (λ ρ. Unit) (Declared'.row CodestreamOffset.the-type) Path'.refl (Copies.cStruct CodestreamOffset.the-type Laws''.the-laws
+                      Laws''.the-copy .copy 𝓤 H A W) (Rows.whole (Declared'.row CodestreamOffset.the-type)) (λ x. x) (λ x. x) (λ ρ told. Local.mem-whole 𝓤 H A W (Declared'.row
+                      CodestreamOffset.the-type) ρ) λ ρ told. Local.whole-mem 𝓤 H A W (Declared'.row CodestreamOffset.the-type) ρ,
+                  Path'.refl,
+                ),
+                tt,
+              ) (Reads'.room-gone 𝓤 H A (Syntax.tyInt
+              Syntax.w64)) tt Path'.refl) d23
+
+          d25 : Typed.Typed 𝓤 H A 𝓣 E G26 b22 Δ2 (at25 bs)
+          d25 = Typed.g-pre 𝓤 H A W 𝓣 E G26 G27 b22 Δ2 (Typed.pass T26 T27 (s23 bs)) (at24 bs) (Scalar.g-room 𝓤 H A W E G26 11 Syntax.tyBool (Scalar.room-sc 𝓤 H A W Row.sBool)) d24
+
+          d26 : Typed.Typed 𝓤 H A 𝓣 E G42 b23 Δ2 (at26 bs)
+          d26 = Typed.t-skip 𝓤 H A W 𝓣 E Δ2 tt
+
+          d27 : Typed.Typed 𝓤 H A 𝓣 E G26 b23 Δ2 (at27 bs)
+          d27 = Typed.g-pre 𝓤 H A W 𝓣 E G26 G42 b23 Δ2 (Typed.pass T26 T42 (s38 bs)) (at26 bs) (Scalar.g-room 𝓤 H A W E G26 11 Syntax.tyBool (Scalar.room-sc 𝓤 H A W Row.sBool)) d26
+
+          d28 : Typed.Typed 𝓤 H A 𝓣 E G26 b24 Δ2 (at28 bs)
+          d28 = Scalar.t-cond 𝓤 H A W E 𝓣 G26 11 (λ x. x) b22 b23 Δ2 (at25 bs) (at27 bs) (Scalar.reads-sc 𝓤 H A W Row.sBool) Path'.refl d25 d27
+
+          d29 : Typed.Typed 𝓤 H A 𝓣 E G24 b24 Δ2 (at29 bs)
+          d29 = Typed.g-pre 𝓤 H A W 𝓣 E G24 G26 b24 Δ2 (Typed.pass T24 T26 (s22 bs)) (at28 bs) (Scalar.g-room 𝓤 H A W E G24 5 (Syntax.tyStruct (List._∷_ 104 (List._∷_ 101 (List._∷_
+              97 (List._∷_ 100 (List._∷_ 101 (List._∷_ 114 (List._∷_ 58 (List._∷_ 58 (List._∷_ 112 (List._∷_ 97 (List._∷_ 114 (List._∷_ 115 (List._∷_ 101 (List._∷_ 58 (List._∷_ 58
+              (List._∷_ 77 (List._∷_ 97 (List._∷_ 105 (List._∷_ 110 (List._∷_ 72 (List._∷_ 101 (List._∷_ 97 (List._∷_ 100 (List._∷_ 101 (List._∷_ 114 (List._∷_ 73 (List._∷_ 110
+              (List._∷_ 102 (List._∷_ 111 List.[]))))))))))))))))))))))))))))) (Syntax.tcons (Syntax.tyStruct (List._∷_ 116 (List._∷_ 121 (List._∷_ 112 (List._∷_ 101 (List._∷_ 115
+              (List._∷_ 58 (List._∷_ 58 (List._∷_ 67 (List._∷_ 111 (List._∷_ 100 (List._∷_ 101 (List._∷_ 115 (List._∷_ 116 (List._∷_ 114 (List._∷_ 101 (List._∷_ 97 (List._∷_ 109
+              (List._∷_ 79 (List._∷_ 102 (List._∷_ 102 (List._∷_ 115 (List._∷_ 101 (List._∷_ 116 List.[]))))))))))))))))))))))) (Syntax.tcons (Syntax.tyInt Syntax.w64)
+              Syntax.tnil)) (Syntax.tcons (Syntax.tyInt Syntax.w64) (Syntax.tcons (Syntax.tyInt Syntax.w64) (Syntax.tcons (Syntax.tyInt Syntax.w64) Syntax.tnil)))))
+              (Local.room-whole 𝓤 H A W (Declared'.row MainHeaderInfo.the-type) (Syntax.tyStruct (List._∷_ 104 (List._∷_ 101 (List._∷_ 97 (List._∷_ 100 (List._∷_ 101 (List._∷_ 114
+              (List._∷_ 58 (List._∷_ 58 (List._∷_ 112 (List._∷_ 97 (List._∷_ 114 (List._∷_ 115 (List._∷_ 101 (List._∷_ 58 (List._∷_ 58 (List._∷_ 77 (List._∷_ 97 (List._∷_ 105
+              (List._∷_ 110 (List._∷_ 72 (List._∷_ 101 (List._∷_ 97 (List._∷_ 100 (List._∷_ 101 (List._∷_ 114 (List._∷_ 73 (List._∷_ 110 (List._∷_ 102 (List._∷_ 111
+              List.[]))))))))))))))))))))))))))))) (Syntax.tcons (Syntax.tyStruct (List._∷_ 116 (List._∷_ 121 (List._∷_ 112 (List._∷_ 101 (List._∷_ 115 (List._∷_ 58 (List._∷_ 58
+              (List._∷_ 67 (List._∷_ 111 (List._∷_ 100 (List._∷_ 101 (List._∷_ 115 (List._∷_ 116 (List._∷_ 114 (List._∷_ 101 (List._∷_ 97 (List._∷_ 109 (List._∷_ 79 (List._∷_ 102
+              (List._∷_ 102 (List._∷_ 115 (List._∷_ 101 (List._∷_ 116 List.[]))))))))))))))))))))))) (Syntax.tcons (Syntax.tyInt Syntax.w64) Syntax.tnil)) (Syntax.tcons
+              (Syntax.tyInt Syntax.w64) (Syntax.tcons (Syntax.tyInt Syntax.w64) (Syntax.tcons (Syntax.tyInt Syntax.w64) Syntax.tnil))))) Path'.refl)) d28
+
+          d30 : Typed.Typed 𝓤 H A 𝓣 E G62 b32 Δ0 (at30 bs)
+          d30 = Typed.t-return 𝓤 H A W 𝓣 E Δ0 tt
+
+          d31 : Typed.Typed 𝓤 H A 𝓣 E G61 b32 Δ0 (at31 bs)
+          d31 = Typed.g-pre 𝓤 H A W 𝓣 E G61 G62 b32 Δ0 (Typed.pass T61 T62 (s58 bs)) (at30 bs) (Scalar.g-room 𝓤 H A W E G61 4 (Syntax.tyEnum (List._∷_ 104 (List._∷_ 101 (List._∷_
+              97 (List._∷_ 100 (List._∷_ 101 (List._∷_ 114 (List._∷_ 58 (List._∷_ 58 (List._∷_ 112 (List._∷_ 97 (List._∷_ 114 (List._∷_ 115 (List._∷_ 101 (List._∷_ 58 (List._∷_ 58
+              (List._∷_ 77 (List._∷_ 97 (List._∷_ 105 (List._∷_ 110 (List._∷_ 72 (List._∷_ 101 (List._∷_ 97 (List._∷_ 100 (List._∷_ 101 (List._∷_ 114
+              List.[]))))))))))))))))))))))))) (Syntax.ttcons (Syntax.tcons (Syntax.tyStruct (List._∷_ 104 (List._∷_ 101 (List._∷_ 97 (List._∷_ 100 (List._∷_ 101 (List._∷_ 114
+              (List._∷_ 58 (List._∷_ 58 (List._∷_ 112 (List._∷_ 97 (List._∷_ 114 (List._∷_ 115 (List._∷_ 101 (List._∷_ 58 (List._∷_ 58 (List._∷_ 77 (List._∷_ 97 (List._∷_ 105
+              (List._∷_ 110 (List._∷_ 72 (List._∷_ 101 (List._∷_ 97 (List._∷_ 100 (List._∷_ 101 (List._∷_ 114 (List._∷_ 73 (List._∷_ 110 (List._∷_ 102 (List._∷_ 111
+              List.[]))))))))))))))))))))))))))))) (Syntax.tcons (Syntax.tyStruct (List._∷_ 116 (List._∷_ 121 (List._∷_ 112 (List._∷_ 101 (List._∷_ 115 (List._∷_ 58 (List._∷_ 58
+              (List._∷_ 67 (List._∷_ 111 (List._∷_ 100 (List._∷_ 101 (List._∷_ 115 (List._∷_ 116 (List._∷_ 114 (List._∷_ 101 (List._∷_ 97 (List._∷_ 109 (List._∷_ 79 (List._∷_ 102
+              (List._∷_ 102 (List._∷_ 115 (List._∷_ 101 (List._∷_ 116 List.[]))))))))))))))))))))))) (Syntax.tcons (Syntax.tyInt Syntax.w64) Syntax.tnil)) (Syntax.tcons
+              (Syntax.tyInt Syntax.w64) (Syntax.tcons (Syntax.tyInt Syntax.w64) (Syntax.tcons (Syntax.tyInt Syntax.w64) Syntax.tnil))))) Syntax.tnil) (Syntax.ttcons (Syntax.tcons
+              (Syntax.tyStruct (List._∷_ 116 (List._∷_ 121 (List._∷_ 112 (List._∷_ 101 (List._∷_ 115 (List._∷_ 58 (List._∷_ 58 (List._∷_ 82 (List._∷_ 101 (List._∷_ 102 (List._∷_
+              117 (List._∷_ 115 (List._∷_ 97 (List._∷_ 108 List.[])))))))))))))) (Syntax.tcons (Syntax.tyInt Syntax.w32) (Syntax.tcons (Syntax.tyInt Syntax.w64) Syntax.tnil)))
+              Syntax.tnil) Syntax.ttnil))) (Local.room-whole 𝓤 H A W (Declared.row MainHeader.the-type) (Syntax.tyEnum (List._∷_ 104 (List._∷_ 101 (List._∷_ 97 (List._∷_ 100
+              (List._∷_ 101 (List._∷_ 114 (List._∷_ 58 (List._∷_ 58 (List._∷_ 112 (List._∷_ 97 (List._∷_ 114 (List._∷_ 115 (List._∷_ 101 (List._∷_ 58 (List._∷_ 58 (List._∷_ 77
+              (List._∷_ 97 (List._∷_ 105 (List._∷_ 110 (List._∷_ 72 (List._∷_ 101 (List._∷_ 97 (List._∷_ 100 (List._∷_ 101 (List._∷_ 114 List.[])))))))))))))))))))))))))
+              (Syntax.ttcons (Syntax.tcons (Syntax.tyStruct (List._∷_ 104 (List._∷_ 101 (List._∷_ 97 (List._∷_ 100 (List._∷_ 101 (List._∷_ 114 (List._∷_ 58 (List._∷_ 58 (List._∷_
+              112 (List._∷_ 97 (List._∷_ 114 (List._∷_ 115 (List._∷_ 101 (List._∷_ 58 (List._∷_ 58 (List._∷_ 77 (List._∷_ 97 (List._∷_ 105 (List._∷_ 110 (List._∷_ 72 (List._∷_ 101
+              (List._∷_ 97 (List._∷_ 100 (List._∷_ 101 (List._∷_ 114 (List._∷_ 73 (List._∷_ 110 (List._∷_ 102 (List._∷_ 111 List.[]))))))))))))))))))))))))))))) (Syntax.tcons
+              (Syntax.tyStruct (List._∷_ 116 (List._∷_ 121 (List._∷_ 112 (List._∷_ 101 (List._∷_ 115 (List._∷_ 58 (List._∷_ 58 (List._∷_ 67 (List._∷_ 111 (List._∷_ 100 (List._∷_
+              101 (List._∷_ 115 (List._∷_ 116 (List._∷_ 114 (List._∷_ 101 (List._∷_ 97 (List._∷_ 109 (List._∷_ 79 (List._∷_ 102 (List._∷_ 102 (List._∷_ 115 (List._∷_ 101 (List._∷_
+              116 List.[]))))))))))))))))))))))) (Syntax.tcons (Syntax.tyInt Syntax.w64) Syntax.tnil)) (Syntax.tcons (Syntax.tyInt Syntax.w64) (Syntax.tcons (Syntax.tyInt
+              Syntax.w64) (Syntax.tcons (Syntax.tyInt Syntax.w64) Syntax.tnil))))) Syntax.tnil) (Syntax.ttcons (Syntax.tcons (Syntax.tyStruct (List._∷_ 116 (List._∷_ 121 (List._∷_
+              112 (List._∷_ 101 (List._∷_ 115 (List._∷_ 58 (List._∷_ 58 (List._∷_ 82 (List._∷_ 101 (List._∷_ 102 (List._∷_ 117 (List._∷_ 115 (List._∷_ 97 (List._∷_ 108
+              List.[])))))))))))))) (Syntax.tcons (Syntax.tyInt Syntax.w32) (Syntax.tcons (Syntax.tyInt Syntax.w64) Syntax.tnil))) Syntax.tnil) Syntax.ttnil))) Path'.refl)) d30
+
+          d32 : Typed.Typed 𝓤 H A 𝓣 E G60 b33 Δ0 (at32 bs)
+          d32 = Typed.s-seq 𝓤 H A W 𝓣 E G60 G61 b31 b32 Δ0 (Typed.pass T59 T61 (s57 bs)) (at31 bs) (LocalCopy.t-val-copy 𝓤 H A W E 𝓣 (λ ρ. Unit) G60 4 0 (Declared.row
+              MainHeader.the-type) (Syntax.tyEnum (List._∷_ 104 (List._∷_ 101 (List._∷_ 97 (List._∷_ 100 (List._∷_ 101 (List._∷_ 114 (List._∷_ 58 (List._∷_ 58 (List._∷_ 112
+              (List._∷_ 97 (List._∷_ 114 (List._∷_ 115 (List._∷_ 101 (List._∷_ 58 (List._∷_ 58 (List._∷_ 77 (List._∷_ 97 (List._∷_ 105 (List._∷_ 110 (List._∷_ 72 (List._∷_ 101
+              (List._∷_ 97 (List._∷_ 100 (List._∷_ 101 (List._∷_ 114 List.[]))))))))))))))))))))))))) (Syntax.ttcons (Syntax.tcons (Syntax.tyStruct (List._∷_ 104 (List._∷_ 101
+              (List._∷_ 97 (List._∷_ 100 (List._∷_ 101 (List._∷_ 114 (List._∷_ 58 (List._∷_ 58 (List._∷_ 112 (List._∷_ 97 (List._∷_ 114 (List._∷_ 115 (List._∷_ 101 (List._∷_ 58
+              (List._∷_ 58 (List._∷_ 77 (List._∷_ 97 (List._∷_ 105 (List._∷_ 110 (List._∷_ 72 (List._∷_ 101 (List._∷_ 97 (List._∷_ 100 (List._∷_ 101 (List._∷_ 114 (List._∷_ 73
+              (List._∷_ 110 (List._∷_ 102 (List._∷_ 111 List.[]))))))))))))))))))))))))))))) (Syntax.tcons (Syntax.tyStruct (List._∷_ 116 (List._∷_ 121 (List._∷_ 112 (List._∷_ 101
+              (List._∷_ 115 (List._∷_ 58 (List._∷_ 58 (List._∷_ 67 (List._∷_ 111 (List._∷_ 100 (List._∷_ 101 (List._∷_ 115 (List._∷_ 116 (List._∷_ 114 (List._∷_ 101 (List._∷_ 97
+              (List._∷_ 109 (List._∷_ 79 (List._∷_ 102 (List._∷_ 102 (List._∷_ 115 (List._∷_ 101 (List._∷_ 116 List.[]))))))))))))))))))))))) (Syntax.tcons (Syntax.tyInt
+              Syntax.w64) Syntax.tnil)) (Syntax.tcons (Syntax.tyInt Syntax.w64) (Syntax.tcons (Syntax.tyInt Syntax.w64) (Syntax.tcons (Syntax.tyInt Syntax.w64) Syntax.tnil)))))
+              Syntax.tnil) (Syntax.ttcons (Syntax.tcons (Syntax.tyStruct (List._∷_ 116 (List._∷_ 121 (List._∷_ 112 (List._∷_ 101 (List._∷_ 115 (List._∷_ 58 (List._∷_ 58 (List._∷_
+              82 (List._∷_ 101 (List._∷_ 102 (List._∷_ 117 (List._∷_ 115 (List._∷_ 97 (List._∷_ 108 List.[])))))))))))))) (Syntax.tcons (Syntax.tyInt Syntax.w32) (Syntax.tcons
+              (Syntax.tyInt Syntax.w64) Syntax.tnil))) Syntax.tnil) Syntax.ttnil))) (Syntax.tyEnum (List._∷_ 104 (List._∷_ 101 (List._∷_ 97 (List._∷_ 100 (List._∷_ 101 (List._∷_
+              114 (List._∷_ 58 (List._∷_ 58 (List._∷_ 112 (List._∷_ 97 (List._∷_ 114 (List._∷_ 115 (List._∷_ 101 (List._∷_ 58 (List._∷_ 58 (List._∷_ 77 (List._∷_ 97 (List._∷_ 105
+              (List._∷_ 110 (List._∷_ 72 (List._∷_ 101 (List._∷_ 97 (List._∷_ 100 (List._∷_ 101 (List._∷_ 114 List.[]))))))))))))))))))))))))) (Syntax.ttcons (Syntax.tcons
+              (Syntax.tyStruct (List._∷_ 104 (List._∷_ 101 (List._∷_ 97 (List._∷_ 100 (List._∷_ 101 (List._∷_ 114 (List._∷_ 58 (List._∷_ 58 (List._∷_ 112 (List._∷_ 97 (List._∷_ 114
+              (List._∷_ 115 (List._∷_ 101 (List._∷_ 58 (List._∷_ 58 (List._∷_ 77 (List._∷_ 97 (List._∷_ 105 (List._∷_ 110 (List._∷_ 72 (List._∷_ 101 (List._∷_ 97 (List._∷_ 100
+              (List._∷_ 101 (List._∷_ 114 (List._∷_ 73 (List._∷_ 110 (List._∷_ 102 (List._∷_ 111 List.[]))))))))))))))))))))))))))))) (Syntax.tcons (Syntax.tyStruct (List._∷_ 116
+              (List._∷_ 121 (List._∷_ 112 (List._∷_ 101 (List._∷_ 115 (List._∷_ 58 (List._∷_ 58 (List._∷_ 67 (List._∷_ 111 (List._∷_ 100 (List._∷_ 101 (List._∷_ 115 (List._∷_ 116
+              (List._∷_ 114 (List._∷_ 101 (List._∷_ 97 (List._∷_ 109 (List._∷_ 79 (List._∷_ 102 (List._∷_ 102 (List._∷_ 115 (List._∷_ 101 (List._∷_ 116
+              List.[]))))))))))))))))))))))) (Syntax.tcons (Syntax.tyInt Syntax.w64) Syntax.tnil)) (Syntax.tcons (Syntax.tyInt Syntax.w64) (Syntax.tcons (Syntax.tyInt Syntax.w64)
+              (Syntax.tcons (Syntax.tyInt Syntax.w64) Syntax.tnil))))) Syntax.tnil) (Syntax.ttcons (Syntax.tcons (Syntax.tyStruct (List._∷_ 116 (List._∷_ 121 (List._∷_ 112
+              (List._∷_ 101 (List._∷_ 115 (List._∷_ 58 (List._∷_ 58 (List._∷_ 82 (List._∷_ 101 (List._∷_ 102 (List._∷_ 117 (List._∷_ 115 (List._∷_ 97 (List._∷_ 108
+              List.[])))))))))))))) (Syntax.tcons (Syntax.tyInt Syntax.w32) (Syntax.tcons (Syntax.tyInt Syntax.w64) Syntax.tnil))) Syntax.tnil) Syntax.ttnil))) (Rows.whole
+              (Declared.row MainHeader.the-type)) (Rows.whole (Declared.row MainHeader.the-type)) (λ x. x) (λ x. x) (λ x. x) Path'.refl (Own.told-none 𝓤 H A (G60 .slots))
+              (Yields.yields-copy 𝓤 H A W (λ ρ. Unit) (Declared.row MainHeader.the-type) Path'.refl (Copies.cEnum MainHeader.the-type Laws.the-laws Laws.the-copy .copy 𝓤 H A W)
+              (Rows.whole (Declared.row MainHeader.the-type)) (λ x. x) (λ x. x) (λ ρ told. Local.mem-whole 𝓤 H A W (Declared.row MainHeader.the-type) ρ) λ ρ told. Local.whole-mem 𝓤
+              H A W (Declared.row MainHeader.the-type) ρ) (Reads'.room-gone 𝓤 H A (Syntax.tyEnum (List._∷_ 104 (List._∷_ 101 (List._∷_ 97 (List._∷_ 100 (List._∷_ 101 (List._∷_ 114
+              (List._∷_ 58 (List._∷_ 58 (List._∷_ 112 (List._∷_ 97 (List._∷_ 114 (List._∷_ 115 (List._∷_ 101 (List._∷_ 58 (List._∷_ 58 (List._∷_ 77 (List._∷_ 97 (List._∷_ 105
+              (List._∷_ 110 (List._∷_ 72 (List._∷_ 101 (List._∷_ 97 (List._∷_ 100 (List._∷_ 101 (List._∷_ 114 List.[]))))))))))))))))))))))))) (Syntax.ttcons (Syntax.tcons
+              (Syntax.tyStruct (List._∷_ 104 (List._∷_ 101 (List._∷_ 97 (List._∷_ 100 (List._∷_ 101 (List._∷_ 114 (List._∷_ 58 (List._∷_ 58 (List._∷_ 112 (List._∷_ 97 (List._∷_ 114
+              (List._∷_ 115 (List._∷_ 101 (List._∷_ 58 (List._∷_ 58 (List._∷_ 77 (List._∷_ 97 (List._∷_ 105 (List._∷_ 110 (List._∷_ 72 (List._∷_ 101 (List._∷_ 97 (List._∷_ 100
+              (List._∷_ 101 (List._∷_ 114 (List._∷_ 73 (List._∷_ 110 (List._∷_ 102 (List._∷_ 111 List.[]))))))))))))))))))))))))))))) (Syntax.tcons (Syntax.tyStruct (List._∷_ 116
+              (List._∷_ 121 (List._∷_ 112 (List._∷_ 101 (List._∷_ 115 (List._∷_ 58 (List._∷_ 58 (List._∷_ 67 (List._∷_ 111 (List._∷_ 100 (List._∷_ 101 (List._∷_ 115 (List._∷_ 116
+              (List._∷_ 114 (List._∷_ 101 (List._∷_ 97 (List._∷_ 109 (List._∷_ 79 (List._∷_ 102 (List._∷_ 102 (List._∷_ 115 (List._∷_ 101 (List._∷_ 116
+              List.[]))))))))))))))))))))))) (Syntax.tcons (Syntax.tyInt Syntax.w64) Syntax.tnil)) (Syntax.tcons (Syntax.tyInt Syntax.w64) (Syntax.tcons (Syntax.tyInt Syntax.w64)
+              (Syntax.tcons (Syntax.tyInt Syntax.w64) Syntax.tnil))))) Syntax.tnil) (Syntax.ttcons (Syntax.tcons (Syntax.tyStruct (List._∷_ 116 (List._∷_ 121 (List._∷_ 112
+              (List._∷_ 101 (List._∷_ 115 (List._∷_ 58 (List._∷_ 58 (List._∷_ 82 (List._∷_ 101 (List._∷_ 102 (List._∷_ 117 (List._∷_ 115 (List._∷_ 97 (List._∷_ 108
+              List.[])))))))))))))) (Syntax.tcons (Syntax.tyInt Syntax.w32) (Syntax.tcons (Syntax.tyInt Syntax.w64) Syntax.tnil))) Syntax.tnil) Syntax.ttnil)))) (Yields.makes-mem 𝓤
+              H A W (λ ρ. Unit) (Declared.row MainHeader.the-type) Path'.refl (Rows.whole (Declared.row MainHeader.the-type)) (λ x. x) λ ρ told. Local.whole-mem 𝓤 H A W
+              (Declared.row MainHeader.the-type) ρ) Path'.refl Path'.refl) d31
+
+          d33 : Typed.Typed 𝓤 H A 𝓣 E G59 b33 Δ0 (at33 bs)
+          d33 = Typed.g-pre 𝓤 H A W 𝓣 E G59 G60 b33 Δ0 (λ Ψ. Ψ) (at32 bs) (Lifetime.g-forget 𝓤 H A W E G59 5 Row.dead Path'.refl) d32
+
+          d34 : Typed.Typed 𝓤 H A 𝓣 E G58 b33 Δ0 (at34 bs)
+          d34 = Typed.g-pre 𝓤 H A W 𝓣 E G58 G59 b33 Δ0 (Typed.give (s55 bs)) (at33 bs) (Know.g-sl-known 𝓤 H A W (Referent.fInt Syntax.w8) E G58 3 2 (Syntax.tyRef (Syntax.named 2)
+              Syntax.mut (Syntax.tyInt Syntax.w8)) (Row.lease (κs .1 .1 .0) (qs .1 .1 .0)) 0 (λ x. x) record { fits = Dec'.lit< tt } (Reads'.as-is 𝓤 H A (Mut.mslice (Referent.rtF
+              (Referent.fInt Syntax.w8)) (Syntax.tyRef (Syntax.named 2) Syntax.mut (Syntax.tyInt Syntax.w8)) 2)) Path'.refl tt) d33
+
+          d35 : Typed.Typed 𝓤 H A 𝓣 E G57 b33 Δ0 (at35 bs)
+          d35 = Typed.g-pre 𝓤 H A W 𝓣 E G57 G58 b33 Δ0 (Typed.both (s54 bs)) (at34 bs) (Relend.g-back-sl 𝓤 H A W E (Referent.rtF (Referent.fInt Syntax.w8)) G57 20 3 2 5
+              (Syntax.tyRef (Syntax.named 2) Syntax.mut (Syntax.tyInt Syntax.w8)) (Syntax.tyRef Syntax.erased Syntax.mut (Syntax.tyInt Syntax.w8)) (Row.lease (κs .1 .1 .0) (qs .1
+              .1 .0)) (λ x. x) (λ x. x) (Reads'.as-is 𝓤 H A (Mut.msleft (Referent.rtF (Referent.fInt Syntax.w8)) (Syntax.tyRef Syntax.erased Syntax.mut (Syntax.tyInt Syntax.w8))))
+              (Reads'.as-is 𝓤 H A (Relend.mslice-owed (Referent.rtF (Referent.fInt Syntax.w8)) (Syntax.tyRef (Syntax.named 2) Syntax.mut (Syntax.tyInt Syntax.w8)) 2 5 (Row.lease
+              (κs .1 .1 .0) (qs .1 .1 .0)))) Path'.refl Path'.refl) d34
+
+          d36 : Typed.Typed 𝓤 H A 𝓣 E G56 b33 Δ0 (at36 bs)
+          d36 = Typed.g-pre 𝓤 H A W 𝓣 E G56 G57 b33 Δ0 (λ Ψ. Ψ) (at35 bs) (Lifetime.g-end 𝓤 H A W E G56 5 Path'.refl) d35
+
+          d37 : Typed.Typed 𝓤 H A 𝓣 E G55 b33 Δ0 (at37 bs)
+          d37 = Typed.g-pre 𝓤 H A W 𝓣 E G55 G56 b33 Δ0 (Typed.pass T55 T56 (s52 bs)) (at36 bs) (Scalar.g-room 𝓤 H A W E G55 16 Syntax.tyUnit (Scalar.room-sc 𝓤 H A W Row.sUnit)) d36
+
+          d38 : Typed.Typed 𝓤 H A 𝓣 E G54 b34 Δ0 (at38 bs)
+          d38 = Typed.s-seq 𝓤 H A W 𝓣 E G54 G55 b30 b33 Δ0 (Typed.both (s51 bs)) (at37 bs) (Plain.t-call-plain 𝓤 H A W 𝓣 2 ps·4 r·4 (claims· .8) (claims· .9) "header::strip::strip"
+              (known .4) E (λ pos β. β) G54 (
+                record { pos = 1; ty = Syntax.tyRef (Syntax.named 0) Syntax.imm (Syntax.tyInt Syntax.w8); ref = λ x. x },
+                (
+                  record {
+                    pos = 20;
+                    ty =
+                        Syntax.tyRef Syntax.erased Syntax.mut (Syntax.tyInt Syntax.w8);
+                    ref = λ x. x;
+                  },
+                  tt,
+                ),
+              ) 16 (List._∷_ 0 (List._∷_ 5 List.[])) (Call.sub-id 𝓤 H A W (G54 .slots)) (
+                ShrSlice.spares-sslice 𝓤 H A W (Referent.rtF (Referent.fInt Syntax.w8)) (Syntax.tyRef (Syntax.named 0) Syntax.imm (Syntax.tyInt Syntax.w8)) 0,
+                Shared.reads-sslice 𝓤
+                    H A W (Referent.rtF (Referent.fInt Syntax.w8)) (Syntax.tyRef (Syntax.named 0) Syntax.imm (Syntax.tyInt Syntax.w8)) 0,
+                Path'.refl,
+                (
+                  Reads'.as-is 𝓤 H A (Mut.mslice
+                      (Referent.rtF (Referent.fInt Syntax.w8)) (Syntax.tyRef Syntax.erased Syntax.mut (Syntax.tyInt Syntax.w8)) 5),
+                  Mut.reads-mslice 𝓤 H A W (Referent.rtF (Referent.fInt
+                      Syntax.w8)) (Syntax.tyRef Syntax.erased Syntax.mut (Syntax.tyInt Syntax.w8)) 5,
+                  Path'.refl,
+                  tt,
+                ),
+              ) (Reads'.room-gone 𝓤 H A Syntax.tyUnit) (tt, (tt, tt)) Path'.refl) d37
+
+          d39 : Typed.Typed 𝓤 H A 𝓣 E G53 b35 Δ0 (at39 bs)
+          d39 = Typed.s-seq 𝓤 H A W 𝓣 E G53 G54 b29 b34 Δ0 (Typed.ask (s50 bs)) (at38 bs) (Relend.t-sl-aggregate 𝓤 H A W E (Referent.rtF (Referent.fInt Syntax.w8)) 𝓣 (Relend.asMut
+              (Referent.rtF (Referent.fInt Syntax.w8))) G53 19 20 5 (Syntax.tyRef Syntax.erased Syntax.mut (Syntax.tyInt Syntax.w8)) (Syntax.tyRef Syntax.erased Syntax.mut
+              (Syntax.tyInt Syntax.w8)) (λ x. x) (Scalar.oFld 3 (List._∷_ (Syntax.field 1) List.[]) (Syntax.tyInt Syntax.w64) 8 λ v. Shared.lenV (v .0)) (Reads'.as-is 𝓤 H A
+              (Relend.msptr (Referent.rtF (Referent.fInt Syntax.w8)) (Syntax.tyRef Syntax.erased Syntax.mut (Syntax.tyInt Syntax.w8)) 5)) (Reads'.room-gone 𝓤 H A (Syntax.tyStruct
+              (List._∷_ 38 (List._∷_ 91 (List._∷_ 93 List.[]))) (Syntax.tcons (Syntax.tyRef Syntax.erased Syntax.mut (Syntax.tyInt Syntax.w8)) (Syntax.tcons (Syntax.tyInt
+              Syntax.w64) Syntax.tnil)))) (
+                Relend.reads-owed-len 𝓤 H A W (Referent.rtF (Referent.fInt Syntax.w8)) (Syntax.tyRef (Syntax.named 2) Syntax.mut (Syntax.tyInt
+                    Syntax.w8)) 2 5 (Row.lease (κs .1 .1 .0) (qs .1 .1 .0)) 8 Path'.refl,
+                Path'.refl,
+              ) Path'.refl Path'.refl λ b o k. tt) d38
+
+          d40 : Typed.Typed 𝓤 H A 𝓣 E G52 b36 Δ0 (at40 bs)
+          d40 = Typed.s-seq 𝓤 H A W 𝓣 E G52 G53 b28 b35 Δ0 (Typed.give (s49 bs)) (at39 bs) (Relend.t-sl-relend 𝓤 H A W E (Referent.rtF (Referent.fInt Syntax.w8)) 𝓣 G52 3 19 2 5
+              (Syntax.tyRef (Syntax.named 2) Syntax.mut (Syntax.tyInt Syntax.w8)) (Syntax.tyRef Syntax.erased Syntax.mut (Syntax.tyInt Syntax.w8)) (Row.lease (κs .1 .1 .0) (qs .1
+              .1 .0)) 0 (λ x. x) (Reads'.as-is 𝓤 H A (Mut.mslice (Referent.rtF (Referent.fInt Syntax.w8)) (Syntax.tyRef (Syntax.named 2) Syntax.mut (Syntax.tyInt Syntax.w8)) 2))
+              (Reads'.room-gone 𝓤 H A (Syntax.tyRef Syntax.erased Syntax.mut (Syntax.tyInt Syntax.w8))) Path'.refl tt Path'.refl Path'.refl Path'.refl λ b o. tt) d39
+
+          d41 : Typed.Typed 𝓤 H A 𝓣 E G51 b36 Δ0 (at41 bs)
+          d41 = Typed.g-pre 𝓤 H A W 𝓣 E G51 G52 b36 Δ0 (λ Ψ. Ψ) (at40 bs) (Lifetime.g-begin 𝓤 H A W E G51 5 (
+            tt,
+            (
+              tt,
+              (
+                tt,
+                (
+                  tt,
+                  (
+                    tt,
+                    (
+                      tt,
+                      (
+                        tt,
+                        (
+                          tt,
+                          (
+                            tt,
+                            (
+                              tt,
+                              (
+                                tt,
+                                (
+                                  tt,
+                                  (
+                                    tt,
+                                    (
+                                      tt,
+                                      (tt, (tt, (tt, (tt, (tt, (tt, (tt, tt))))))),
+                                    ),
+                                  ),
+                                ),
+                              ),
+                            ),
+                          ),
+                        ),
+                      ),
+                    ),
+                  ),
+                ),
+              ),
+            ),
+          )) d40
+
+          d42 : Typed.Typed 𝓤 H A 𝓣 E G50 b36 Δ0 (at42 bs)
+          d42 = Typed.g-pre 𝓤 H A W 𝓣 E G50 G51 b36 Δ0 (λ Ψ. Ψ) (at41 bs) (Lifetime.g-forget 𝓤 H A W E G50 4 Row.dead Path'.refl) d41
+
+          d43 : Typed.Typed 𝓤 H A 𝓣 E G49 b36 Δ0 (at43 bs)
+          d43 = Typed.g-pre 𝓤 H A W 𝓣 E G49 G50 b36 Δ0 (Typed.both (s46 bs)) (at42 bs) (Relend.g-back-sl 𝓤 H A W E LentTilePartEntry.row G49 18 2 1 4 (Syntax.tyRef (Syntax.named 1)
+              Syntax.mut LentTilePartEntry.pointee) (Syntax.tyRef Syntax.erased Syntax.mut LentTilePartEntry.pointee) (Row.lease (κs .1 .0) (qs .1 .0)) (λ x. x) (λ x. x)
+              (Reads'.as-is 𝓤 H A (Mut.msleft LentTilePartEntry.row (Syntax.tyRef Syntax.erased Syntax.mut LentTilePartEntry.pointee))) (Reads'.as-is 𝓤 H A (Relend.mslice-owed
+              LentTilePartEntry.row (Syntax.tyRef (Syntax.named 1) Syntax.mut LentTilePartEntry.pointee) 1 4 (Row.lease (κs .1 .0) (qs .1 .0)))) Path'.refl Path'.refl) d42
+
+          d44 : Typed.Typed 𝓤 H A 𝓣 E G48 b36 Δ0 (at44 bs)
+          d44 = Typed.g-pre 𝓤 H A W 𝓣 E G48 G49 b36 Δ0 (λ Ψ. Ψ) (at43 bs) (Lifetime.g-end 𝓤 H A W E G48 4 Path'.refl) d43
+
+          d45 : Typed.Typed 𝓤 H A 𝓣 E G47 b36 Δ0 (at45 bs)
+          d45 = Typed.g-pre 𝓤 H A W 𝓣 E G47 G48 b36 Δ0 (Typed.pass T47 T48 (s44 bs)) (at44 bs) (Scalar.g-room 𝓤 H A W E G47 16 Syntax.tyUnit (Scalar.room-sc 𝓤 H A W Row.sUnit)) d44
+
+          d46 : Typed.Typed 𝓤 H A 𝓣 E G46 b36 Δ0 (at46 bs)
+          d46 = Typed.g-pre 𝓤 H A W 𝓣 E G46 G47 b36 Δ0 (Typed.pass T46 T47 (s43 bs)) (at45 bs) (Scalar.g-room 𝓤 H A W E G46 6 (Syntax.tyStruct (List._∷_ 116 (List._∷_ 121 (List._∷_
+              112 (List._∷_ 101 (List._∷_ 115 (List._∷_ 58 (List._∷_ 58 (List._∷_ 67 (List._∷_ 111 (List._∷_ 100 (List._∷_ 101 (List._∷_ 115 (List._∷_ 116 (List._∷_ 114 (List._∷_
+              101 (List._∷_ 97 (List._∷_ 109 (List._∷_ 79 (List._∷_ 102 (List._∷_ 102 (List._∷_ 115 (List._∷_ 101 (List._∷_ 116 List.[]))))))))))))))))))))))) (Syntax.tcons
+              (Syntax.tyInt Syntax.w64) Syntax.tnil)) (Local.room-whole 𝓤 H A W (Declared'.row CodestreamOffset.the-type) (Syntax.tyStruct (List._∷_ 116 (List._∷_ 121 (List._∷_ 112
+              (List._∷_ 101 (List._∷_ 115 (List._∷_ 58 (List._∷_ 58 (List._∷_ 67 (List._∷_ 111 (List._∷_ 100 (List._∷_ 101 (List._∷_ 115 (List._∷_ 116 (List._∷_ 114 (List._∷_ 101
+              (List._∷_ 97 (List._∷_ 109 (List._∷_ 79 (List._∷_ 102 (List._∷_ 102 (List._∷_ 115 (List._∷_ 101 (List._∷_ 116 List.[]))))))))))))))))))))))) (Syntax.tcons
+              (Syntax.tyInt Syntax.w64) Syntax.tnil)) Path'.refl)) d45
+
+          d47 : Typed.Typed 𝓤 H A 𝓣 E G45 b37 Δ0 (at47 bs)
+          d47 = Typed.s-seq 𝓤 H A W 𝓣 E G45 G46 b27 b36 Δ0 (Typed.both (s42 bs)) (at46 bs) (Plain.t-call-plain 𝓤 H A W 𝓣 2 ps·3 r·3 (claims· .6) (claims· .7)
+              "records::main_header::fill_table" (known .3) E (λ pos β. β) G45 (
                 record {
                   pos = 1;
                   ty = Syntax.tyRef (Syntax.named 0) Syntax.imm (Syntax.tyInt Syntax.w8);
@@ -3489,14 +4247,14 @@ module _ (claims· : Claims) where
                   record { pos = 6; st = List.[]; d = 0; at = λ x. x },
                   (
                     record {
-                      pos = 13;
+                      pos = 18;
                       ty = Syntax.tyRef Syntax.erased Syntax.mut LentTilePartEntry.pointee;
                       ref = λ x. x;
                     },
                     tt,
                   ),
                 ),
-              ) 11 (List._∷_ 0 (List._∷_ 3 List.[])) (Call.sub-id 𝓤 H A W (G25 .slots)) (
+              ) 16 (List._∷_ 0 (List._∷_ 4 List.[])) (Call.sub-id 𝓤 H A W (G45 .slots)) (
                 ShrSlice.spares-sslice 𝓤 H A W (Referent.rtF (Referent.fInt Syntax.w8))
                     (Syntax.tyRef (Syntax.named 0) Syntax.imm (Syntax.tyInt Syntax.w8)) 0,
                 Shared.reads-sslice 𝓤 H A W (Referent.rtF (Referent.fInt Syntax.w8)) (Syntax.tyRef
@@ -3510,35 +4268,35 @@ module _ (claims· : Claims) where
                     Path'.refl,
                   ),
                   (
-                    Reads.as-is 𝓤 H A (Mut.mslice LentTilePartEntry.row (Syntax.tyRef Syntax.erased Syntax.mut LentTilePartEntry.pointee) 3),
+                    Reads'.as-is 𝓤 H A (Mut.mslice LentTilePartEntry.row (Syntax.tyRef Syntax.erased Syntax.mut LentTilePartEntry.pointee) 4),
                     Mut.reads-mslice 𝓤 H A W
-                        LentTilePartEntry.row (Syntax.tyRef Syntax.erased Syntax.mut LentTilePartEntry.pointee) 3,
+                        LentTilePartEntry.row (Syntax.tyRef Syntax.erased Syntax.mut LentTilePartEntry.pointee) 4,
                     Path'.refl,
                     tt,
                   ),
                 ),
-              ) (Reads.room-gone 𝓤 H A Syntax.tyUnit) (tt, (tt, tt))
-              Path'.refl) d26
+              ) (Reads'.room-gone 𝓤 H A Syntax.tyUnit) (tt, (tt, tt))
+              Path'.refl) d46
 
-          d28 : Typed.Typed 𝓤 H A 𝓣 E G24 b24 Δ0 (at28 bs)
-          d28 = Typed.s-seq 𝓤 H A W 𝓣 E G24 G25 b12 b23 Δ0 (Typed.ask (s22 bs)) (at27 bs) (Relend.t-sl-aggregate 𝓤 H A W E LentTilePartEntry.row 𝓣 (Relend.asMut
-              LentTilePartEntry.row) G24 12 13 3 (Syntax.tyRef Syntax.erased Syntax.mut LentTilePartEntry.pointee) (Syntax.tyRef Syntax.erased Syntax.mut LentTilePartEntry.pointee)
-              (λ x. x) (Scalar.oFld 2 (List._∷_ (Syntax.field 1) List.[]) (Syntax.tyInt Syntax.w64) 8 λ v. Shared.lenV (v .0)) (Reads.as-is 𝓤 H A (Relend.msptr
-              LentTilePartEntry.row (Syntax.tyRef Syntax.erased Syntax.mut LentTilePartEntry.pointee) 3)) (Reads.room-gone 𝓤 H A (Syntax.tyStruct (List._∷_ 38 (List._∷_ 91
+          d48 : Typed.Typed 𝓤 H A 𝓣 E G44 b38 Δ0 (at48 bs)
+          d48 = Typed.s-seq 𝓤 H A W 𝓣 E G44 G45 b26 b37 Δ0 (Typed.ask (s41 bs)) (at47 bs) (Relend.t-sl-aggregate 𝓤 H A W E LentTilePartEntry.row 𝓣 (Relend.asMut
+              LentTilePartEntry.row) G44 17 18 4 (Syntax.tyRef Syntax.erased Syntax.mut LentTilePartEntry.pointee) (Syntax.tyRef Syntax.erased Syntax.mut LentTilePartEntry.pointee)
+              (λ x. x) (Scalar.oFld 2 (List._∷_ (Syntax.field 1) List.[]) (Syntax.tyInt Syntax.w64) 8 λ v. Shared.lenV (v .0)) (Reads'.as-is 𝓤 H A (Relend.msptr
+              LentTilePartEntry.row (Syntax.tyRef Syntax.erased Syntax.mut LentTilePartEntry.pointee) 4)) (Reads'.room-gone 𝓤 H A (Syntax.tyStruct (List._∷_ 38 (List._∷_ 91
               (List._∷_ 93 List.[]))) (Syntax.tcons (Syntax.tyRef Syntax.erased Syntax.mut LentTilePartEntry.pointee) (Syntax.tcons (Syntax.tyInt Syntax.w64) Syntax.tnil)))) (
-                Relend.reads-owed-len 𝓤 H A W LentTilePartEntry.row (Syntax.tyRef (Syntax.named 1) Syntax.mut LentTilePartEntry.pointee) 1 3 (Row.lease (κs .1 .0) (qs .1 .0)) 8
+                Relend.reads-owed-len 𝓤 H A W LentTilePartEntry.row (Syntax.tyRef (Syntax.named 1) Syntax.mut LentTilePartEntry.pointee) 1 4 (Row.lease (κs .1 .0) (qs .1 .0)) 8
                     Path'.refl,
                 Path'.refl,
-              ) Path'.refl Path'.refl λ b o k. tt) d27
+              ) Path'.refl Path'.refl λ b o k. tt) d47
 
-          d29 : Typed.Typed 𝓤 H A 𝓣 E G23 b25 Δ0 (at29 bs)
-          d29 = Typed.s-seq 𝓤 H A W 𝓣 E G23 G24 b11 b24 Δ0 (Typed.give (s21 bs)) (at28 bs) (Relend.t-sl-relend 𝓤 H A W E LentTilePartEntry.row 𝓣 G23 2 12 1 3 (Syntax.tyRef
+          d49 : Typed.Typed 𝓤 H A 𝓣 E G43 b39 Δ0 (at49 bs)
+          d49 = Typed.s-seq 𝓤 H A W 𝓣 E G43 G44 b25 b38 Δ0 (Typed.give (s40 bs)) (at48 bs) (Relend.t-sl-relend 𝓤 H A W E LentTilePartEntry.row 𝓣 G43 2 17 1 4 (Syntax.tyRef
               (Syntax.named 1) Syntax.mut LentTilePartEntry.pointee) (Syntax.tyRef Syntax.erased Syntax.mut LentTilePartEntry.pointee) (Row.lease (κs .1 .0) (qs .1 .0)) 0 (λ x. x)
-              (Reads.as-is 𝓤 H A (Mut.mslice LentTilePartEntry.row (Syntax.tyRef (Syntax.named 1) Syntax.mut LentTilePartEntry.pointee) 1)) (Reads.room-gone 𝓤 H A (Syntax.tyRef
-              Syntax.erased Syntax.mut LentTilePartEntry.pointee)) Path'.refl tt Path'.refl Path'.refl Path'.refl λ b o. tt) d28
+              (Reads'.as-is 𝓤 H A (Mut.mslice LentTilePartEntry.row (Syntax.tyRef (Syntax.named 1) Syntax.mut LentTilePartEntry.pointee) 1)) (Reads'.room-gone 𝓤 H A (Syntax.tyRef
+              Syntax.erased Syntax.mut LentTilePartEntry.pointee)) Path'.refl tt Path'.refl Path'.refl Path'.refl λ b o. tt) d48
 
-          d30 : Typed.Typed 𝓤 H A 𝓣 E G22 b25 Δ0 (at30 bs)
-          d30 = Typed.g-pre 𝓤 H A W 𝓣 E G22 G23 b25 Δ0 (λ Ψ. Ψ) (at29 bs) (Lifetime.g-begin 𝓤 H A W E G22 3 (
+          d50 : Typed.Typed 𝓤 H A 𝓣 E G25 b39 Δ0 (at50 bs)
+          d50 = Typed.g-pre 𝓤 H A W 𝓣 E G25 G43 b39 Δ0 (λ Ψ. Ψ) (at49 bs) (Lifetime.g-begin 𝓤 H A W E G25 4 (
             tt,
             (
               tt,
@@ -3566,7 +4324,7 @@ module _ (claims· : Claims) where
                                     tt,
                                     (
                                       tt,
-                                      (tt, (tt, tt)),
+                                      (tt, (tt, (tt, (tt, (tt, (tt, (tt, tt))))))),
                                     ),
                                   ),
                                 ),
@@ -3580,26 +4338,35 @@ module _ (claims· : Claims) where
                 ),
               ),
             ),
-          )) d29
+          )) d49
 
-          d31 : Typed.Typed 𝓤 H A 𝓣 E G21 b25 Δ0 (at31 bs)
-          d31 = Typed.g-pre 𝓤 H A W 𝓣 E G21 G22 b25 Δ0 (Typed.pass T21 T22 (s19 bs)) (at30 bs) (Scalar.g-room 𝓤 H A W E G21 5 (Syntax.tyStruct (List._∷_ 104 (List._∷_ 101 (List._∷_
-              97 (List._∷_ 100 (List._∷_ 101 (List._∷_ 114 (List._∷_ 58 (List._∷_ 58 (List._∷_ 112 (List._∷_ 97 (List._∷_ 114 (List._∷_ 115 (List._∷_ 101 (List._∷_ 58 (List._∷_ 58
-              (List._∷_ 77 (List._∷_ 97 (List._∷_ 105 (List._∷_ 110 (List._∷_ 72 (List._∷_ 101 (List._∷_ 97 (List._∷_ 100 (List._∷_ 101 (List._∷_ 114 (List._∷_ 73 (List._∷_ 110
-              (List._∷_ 102 (List._∷_ 111 List.[]))))))))))))))))))))))))))))) (Syntax.tcons (Syntax.tyStruct (List._∷_ 116 (List._∷_ 121 (List._∷_ 112 (List._∷_ 101 (List._∷_ 115
-              (List._∷_ 58 (List._∷_ 58 (List._∷_ 67 (List._∷_ 111 (List._∷_ 100 (List._∷_ 101 (List._∷_ 115 (List._∷_ 116 (List._∷_ 114 (List._∷_ 101 (List._∷_ 97 (List._∷_ 109
-              (List._∷_ 79 (List._∷_ 102 (List._∷_ 102 (List._∷_ 115 (List._∷_ 101 (List._∷_ 116 List.[]))))))))))))))))))))))) (Syntax.tcons (Syntax.tyInt Syntax.w64)
-              Syntax.tnil)) (Syntax.tcons (Syntax.tyInt Syntax.w64) (Syntax.tcons (Syntax.tyInt Syntax.w64) (Syntax.tcons (Syntax.tyInt Syntax.w64) Syntax.tnil)))))
-              (Local.room-whole 𝓤 H A W (Declared'.row MainHeaderInfo.the-type) (Syntax.tyStruct (List._∷_ 104 (List._∷_ 101 (List._∷_ 97 (List._∷_ 100 (List._∷_ 101 (List._∷_ 114
-              (List._∷_ 58 (List._∷_ 58 (List._∷_ 112 (List._∷_ 97 (List._∷_ 114 (List._∷_ 115 (List._∷_ 101 (List._∷_ 58 (List._∷_ 58 (List._∷_ 77 (List._∷_ 97 (List._∷_ 105
-              (List._∷_ 110 (List._∷_ 72 (List._∷_ 101 (List._∷_ 97 (List._∷_ 100 (List._∷_ 101 (List._∷_ 114 (List._∷_ 73 (List._∷_ 110 (List._∷_ 102 (List._∷_ 111
-              List.[]))))))))))))))))))))))))))))) (Syntax.tcons (Syntax.tyStruct (List._∷_ 116 (List._∷_ 121 (List._∷_ 112 (List._∷_ 101 (List._∷_ 115 (List._∷_ 58 (List._∷_ 58
-              (List._∷_ 67 (List._∷_ 111 (List._∷_ 100 (List._∷_ 101 (List._∷_ 115 (List._∷_ 116 (List._∷_ 114 (List._∷_ 101 (List._∷_ 97 (List._∷_ 109 (List._∷_ 79 (List._∷_ 102
-              (List._∷_ 102 (List._∷_ 115 (List._∷_ 101 (List._∷_ 116 List.[]))))))))))))))))))))))) (Syntax.tcons (Syntax.tyInt Syntax.w64) Syntax.tnil)) (Syntax.tcons
-              (Syntax.tyInt Syntax.w64) (Syntax.tcons (Syntax.tyInt Syntax.w64) (Syntax.tcons (Syntax.tyInt Syntax.w64) Syntax.tnil))))) Path'.refl)) d30
+          d51 : Typed.Typed 𝓤 H A 𝓣 E G24 b40 Δ0 (at51 bs)
+          d51 = Typed.t-seq 𝓤 H A W 𝓣 E G24 G25 b24 b39 Δ0 (at29 bs) (at50 bs) d29 d50
 
-          d32 : Typed.Typed 𝓤 H A 𝓣 E G11 b26 Δ0 (at32 bs)
-          d32 = Typed.s-seq 𝓤 H A W 𝓣 E G11 G21 b10 b25 Δ0 (Typed.both (s18 bs)) (at31 bs) (WayStmt.t-way-copy-out 𝓤 H A W E 𝓣 (Declared'.row CodestreamOffset.the-type) Path'.refl
+          d52 : Typed.Typed 𝓤 H A 𝓣 E G23 b41 Δ0 (at52 bs)
+          d52 = Typed.s-seq 𝓤 H A W 𝓣 E G23 G24 b11 b40 Δ0 (Typed.ask (s21 bs)) (at51 bs) (Scalar.t-op2 𝓤 H A W E 𝓣 G23 Syntax.eq (Scalar.oFld 5 (List._∷_ (Syntax.field 1) List.[])
+              (Syntax.tyInt Syntax.w64) 8 (Reads.fieldV MainHeaderInfo.the-type Laws'.the-laws 1)) (Scalar.oFld 6 (List._∷_ (Syntax.field 0) List.[]) (Syntax.tyInt Syntax.w64) 0
+              (Reads.fieldV CodestreamOffset.the-type Laws''.the-laws 0)) 11 (Rows.sc-here Row.sBool) Syntax.tyBool (Row.valS Row.sBool) (Row.sBool .of) (
+                Reads.reads-field 𝓤 H A W
+                    MainHeaderInfo.the-type Laws'.the-laws 1 (Syntax.tyInt Syntax.w64) 8 Path'.refl,
+                Path'.refl,
+              ) (
+                Reads.reads-field 𝓤 H A W CodestreamOffset.the-type Laws''.the-laws 0
+                    (Syntax.tyInt Syntax.w64) 0 Path'.refl,
+                Path'.refl,
+              ) (Reads'.room-gone 𝓤 H A Syntax.tyBool) (Scalar.holds-sc 𝓤 H A W Row.sBool) Path'.refl (λ u. Path'.refl) λ u. tt)
+              d51
+
+          d53 : Typed.Typed 𝓤 H A 𝓣 E G22 b41 Δ0 (at53 bs)
+          d53 = Typed.g-pre 𝓤 H A W 𝓣 E G22 G23 b41 Δ0 (Typed.give (s20 bs)) (at52 bs) (Know'.g-struct-known 𝓤 H A W E CodestreamOffset.the-type Laws''.the-laws G22 6 (λ x. x)
+              (Reads'.as-is 𝓤 H A (Rows.whole (Declared'.row CodestreamOffset.the-type)))) d52
+
+          d54 : Typed.Typed 𝓤 H A 𝓣 E G21 b41 Δ0 (at54 bs)
+          d54 = Typed.g-pre 𝓤 H A W 𝓣 E G21 G22 b41 Δ0 (Typed.give (s19 bs)) (at53 bs) (Know'.g-struct-known 𝓤 H A W E MainHeaderInfo.the-type Laws'.the-laws G21 5 (λ x. x)
+              (Reads'.as-is 𝓤 H A (Rows.whole (Declared'.row MainHeaderInfo.the-type)))) d53
+
+          d55 : Typed.Typed 𝓤 H A 𝓣 E G11 b42 Δ0 (at55 bs)
+          d55 = Typed.s-seq 𝓤 H A W 𝓣 E G11 G21 b10 b41 Δ0 (Typed.both (s18 bs)) (at54 bs) (WayStmt.t-way-copy-out 𝓤 H A W E 𝓣 (Declared'.row CodestreamOffset.the-type) Path'.refl
               (Copies.cStruct CodestreamOffset.the-type Laws''.the-laws Laws''.the-copy .copy 𝓤 H A W) (λ ρ. Unit) G11 (Row.out 5 (G11 .locals)) (λ u. Row.drop 5 (G11 .locals) u)
               (G11 .slots) 5 (λ t. List._∷_ (Syntax.field 0) t) (Syntax.tyStruct (List._∷_ 116 (List._∷_ 121 (List._∷_ 112 (List._∷_ 101 (List._∷_ 115 (List._∷_ 58 (List._∷_ 58
               (List._∷_ 67 (List._∷_ 111 (List._∷_ 100 (List._∷_ 101 (List._∷_ 115 (List._∷_ 116 (List._∷_ 114 (List._∷_ 101 (List._∷_ 97 (List._∷_ 109 (List._∷_ 79 (List._∷_ 102
@@ -3636,17 +4403,17 @@ module _ (claims· : Claims) where
               (At.getAt (MainHeaderInfo.the-type .parts) 0 (MainHeaderInfo.struct .as-values (u .1 .1 .1 .1 .1 .0))) (At.getAt (MainHeaderInfo.the-type .parts) 0
               (MainHeaderInfo.struct .as-values (u .1 .1 .1 .1 .1 .0))) (Row.hd 0 (Row.tl (Row.tl (Row.tl (Row.tl (Row.tl bs))))), 0) (Behind.look-at 𝓤 H A W q
               MainHeaderInfo.the-type Laws'.the-laws 0 0 Path'.refl Path'.refl (Row.hd 0 (Row.tl (Row.tl (Row.tl (Row.tl (Row.tl bs))))), 0) (u .1 .1 .1 .1 .1 .0)
-              (MainHeaderInfo.struct .as-values (u .1 .1 .1 .1 .1 .0)) Path'.refl)) (Reads.room-gone 𝓤 H A (Syntax.tyStruct (List._∷_ 116 (List._∷_ 121 (List._∷_ 112 (List._∷_ 101
+              (MainHeaderInfo.struct .as-values (u .1 .1 .1 .1 .1 .0)) Path'.refl)) (Reads'.room-gone 𝓤 H A (Syntax.tyStruct (List._∷_ 116 (List._∷_ 121 (List._∷_ 112 (List._∷_ 101
               (List._∷_ 115 (List._∷_ 58 (List._∷_ 58 (List._∷_ 67 (List._∷_ 111 (List._∷_ 100 (List._∷_ 101 (List._∷_ 115 (List._∷_ 116 (List._∷_ 114 (List._∷_ 101 (List._∷_ 97
               (List._∷_ 109 (List._∷_ 79 (List._∷_ 102 (List._∷_ 102 (List._∷_ 115 (List._∷_ 101 (List._∷_ 116 List.[]))))))))))))))))))))))) (Syntax.tcons (Syntax.tyInt
               Syntax.w64) Syntax.tnil))) (Yields.makes-mem 𝓤 H A W (λ ρ. Unit) (Declared'.row CodestreamOffset.the-type) Path'.refl (Rows.whole (Declared'.row
-              CodestreamOffset.the-type)) (λ x. x) λ ρ told. Local.whole-mem 𝓤 H A W (Declared'.row CodestreamOffset.the-type) ρ) Path'.refl Path'.refl Path'.refl) d31
+              CodestreamOffset.the-type)) (λ x. x) λ ρ told. Local.whole-mem 𝓤 H A W (Declared'.row CodestreamOffset.the-type) ρ) Path'.refl Path'.refl Path'.refl) d54
 
-          d33 : Typed.Typed 𝓤 H A 𝓣 E G10 b27 Δ0 (at33 bs)
-          d33 = Typed.t-seq 𝓤 H A W 𝓣 E G10 G11 b9 b26 Δ0 (at9 bs) (at32 bs) d9 d32
+          d56 : Typed.Typed 𝓤 H A 𝓣 E G10 b43 Δ0 (at56 bs)
+          d56 = Typed.t-seq 𝓤 H A W 𝓣 E G10 G11 b9 b42 Δ0 (at9 bs) (at55 bs) d9 d55
 
-          d34 : Typed.Typed 𝓤 H A 𝓣 E G9 b28 Δ0 (at34 bs)
-          d34 = Typed.s-seq 𝓤 H A W 𝓣 E G9 G10 b4 b27 Δ0 (Typed.both (s8 bs)) (at33 bs) (Plain.t-call-plain 𝓤 H A W 𝓣 1 ps·0 r·0 (claims· .0) (claims· .1) "header::parse::decide"
+          d57 : Typed.Typed 𝓤 H A 𝓣 E G9 b44 Δ0 (at57 bs)
+          d57 = Typed.s-seq 𝓤 H A W 𝓣 E G9 G10 b4 b43 Δ0 (Typed.both (s8 bs)) (at56 bs) (Plain.t-call-plain 𝓤 H A W 𝓣 1 ps·0 r·0 (claims· .0) (claims· .1) "header::parse::decide"
               (known .0) E (λ pos β. β) G9 (
                 record { pos = 1; ty = Syntax.tyRef (Syntax.named 0) Syntax.imm (Syntax.tyInt Syntax.w8); ref = λ x. x },
                 (
@@ -3673,7 +4440,7 @@ module _ (claims· : Claims) where
                     tt,
                   ),
                 ),
-              ) (Reads.room-gone 𝓤 H A (Syntax.tyEnum (List._∷_ 104 (List._∷_ 101 (List._∷_ 97 (List._∷_ 100 (List._∷_ 101 (List._∷_ 114 (List._∷_ 58 (List._∷_ 58
+              ) (Reads'.room-gone 𝓤 H A (Syntax.tyEnum (List._∷_ 104 (List._∷_ 101 (List._∷_ 97 (List._∷_ 100 (List._∷_ 101 (List._∷_ 114 (List._∷_ 58 (List._∷_ 58
               (List._∷_ 112 (List._∷_ 97 (List._∷_ 114 (List._∷_ 115 (List._∷_ 101 (List._∷_ 58 (List._∷_ 58 (List._∷_ 77 (List._∷_ 97 (List._∷_ 105 (List._∷_ 110 (List._∷_ 72
               (List._∷_ 101 (List._∷_ 97 (List._∷_ 100 (List._∷_ 101 (List._∷_ 114 List.[]))))))))))))))))))))))))) (Syntax.ttcons (Syntax.tcons (Syntax.tyStruct (List._∷_ 104
               (List._∷_ 101 (List._∷_ 97 (List._∷_ 100 (List._∷_ 101 (List._∷_ 114 (List._∷_ 58 (List._∷_ 58 (List._∷_ 112 (List._∷_ 97 (List._∷_ 114 (List._∷_ 115 (List._∷_ 101
@@ -3684,58 +4451,58 @@ module _ (claims· : Claims) where
               (Syntax.tyInt Syntax.w64) Syntax.tnil)) (Syntax.tcons (Syntax.tyInt Syntax.w64) (Syntax.tcons (Syntax.tyInt Syntax.w64) (Syntax.tcons (Syntax.tyInt Syntax.w64)
               Syntax.tnil))))) Syntax.tnil) (Syntax.ttcons (Syntax.tcons (Syntax.tyStruct (List._∷_ 116 (List._∷_ 121 (List._∷_ 112 (List._∷_ 101 (List._∷_ 115 (List._∷_ 58
               (List._∷_ 58 (List._∷_ 82 (List._∷_ 101 (List._∷_ 102 (List._∷_ 117 (List._∷_ 115 (List._∷_ 97 (List._∷_ 108 List.[])))))))))))))) (Syntax.tcons (Syntax.tyInt
-              Syntax.w32) (Syntax.tcons (Syntax.tyInt Syntax.w64) Syntax.tnil))) Syntax.tnil) Syntax.ttnil)))) (tt, tt) Path'.refl) d33
+              Syntax.w32) (Syntax.tcons (Syntax.tyInt Syntax.w64) Syntax.tnil))) Syntax.tnil) Syntax.ttnil)))) (tt, tt) Path'.refl) d56
 
-          d35 : Typed.Typed 𝓤 H A 𝓣 E G8 b28 Δ0 (at35 bs)
-          d35 = Typed.g-pre 𝓤 H A W 𝓣 E G8 G9 b28 Δ0 (Typed.pass T8 T9 (s7 bs)) (at34 bs) (Scalar.g-room 𝓤 H A W E G8 9 (Syntax.tyInt Syntax.w64) (Scalar.room-sc 𝓤 H A W (Row.sInt
-              Syntax.w64))) d34
+          d58 : Typed.Typed 𝓤 H A 𝓣 E G8 b44 Δ0 (at58 bs)
+          d58 = Typed.g-pre 𝓤 H A W 𝓣 E G8 G9 b44 Δ0 (Typed.pass T8 T9 (s7 bs)) (at57 bs) (Scalar.g-room 𝓤 H A W E G8 9 (Syntax.tyInt Syntax.w64) (Scalar.room-sc 𝓤 H A W (Row.sInt
+              Syntax.w64))) d57
 
-          d36 : Typed.Typed 𝓤 H A 𝓣 E G7 b29 Δ0 (at36 bs)
-          d36 = Typed.s-seq 𝓤 H A W 𝓣 E G7 G8 b3 b28 Δ0 (Typed.pass T7 T8 (s6 bs)) (at35 bs) (Scalar.t-use 𝓤 H A W E 𝓣 G7 (Scalar.oAt 9 (Syntax.tyInt Syntax.w64) (Row.valS
+          d59 : Typed.Typed 𝓤 H A 𝓣 E G7 b45 Δ0 (at59 bs)
+          d59 = Typed.s-seq 𝓤 H A W 𝓣 E G7 G8 b3 b44 Δ0 (Typed.pass T7 T8 (s6 bs)) (at58 bs) (Scalar.t-use 𝓤 H A W E 𝓣 G7 (Scalar.oAt 9 (Syntax.tyInt Syntax.w64) (Row.valS
               (Row.sInt Syntax.w64))) 10 (Rows.sc-here (Row.sInt Syntax.w64)) (Syntax.tyInt Syntax.w64) (Row.valS (Row.sInt Syntax.w64)) (Row.sInt Syntax.w64 .of) (
                 Scalar.reads-sc
                     𝓤 H A W (Row.sInt Syntax.w64),
                 Path'.refl,
-              ) (Reads.room-gone 𝓤 H A (Syntax.tyInt Syntax.w64)) (Scalar.holds-sc 𝓤 H A W (Row.sInt Syntax.w64)) Path'.refl (λ u.
-              Path'.refl) λ u. tt) d35
+              ) (Reads'.room-gone 𝓤 H A (Syntax.tyInt Syntax.w64)) (Scalar.holds-sc 𝓤 H A W (Row.sInt Syntax.w64)) Path'.refl (λ u.
+              Path'.refl) λ u. tt) d58
 
-          d37 : Typed.Typed 𝓤 H A 𝓣 E G6 b30 Δ0 (at37 bs)
-          d37 = Typed.s-seq 𝓤 H A W 𝓣 E G6 G7 b2 b29 Δ0 (Typed.pass T6 T7 (s5 bs)) (at36 bs) (Scalar.t-use 𝓤 H A W E 𝓣 G6 (Scalar.oFld 3 (List._∷_ (Syntax.field 1) List.[])
+          d60 : Typed.Typed 𝓤 H A 𝓣 E G6 b46 Δ0 (at60 bs)
+          d60 = Typed.s-seq 𝓤 H A W 𝓣 E G6 G7 b2 b45 Δ0 (Typed.pass T6 T7 (s5 bs)) (at59 bs) (Scalar.t-use 𝓤 H A W E 𝓣 G6 (Scalar.oFld 3 (List._∷_ (Syntax.field 1) List.[])
               (Syntax.tyInt Syntax.w64) 8 Shared.lenV) 9 (Rows.sc-here (Row.sInt Syntax.w64)) (Syntax.tyInt Syntax.w64) (Row.valS (Row.sInt Syntax.w64)) (Row.sInt Syntax.w64 .of)
               (Mut.reads-mslice-len 𝓤 H A W (Referent.rtF (Referent.fInt Syntax.w8)) (Syntax.tyRef (Syntax.named 2) Syntax.mut (Syntax.tyInt Syntax.w8)) 2 8 Path'.refl, Path'.refl)
-              (Reads.room-gone 𝓤 H A (Syntax.tyInt Syntax.w64)) (Scalar.holds-sc 𝓤 H A W (Row.sInt Syntax.w64)) Path'.refl (λ u. Path'.refl) λ u. tt) d36
+              (Reads'.room-gone 𝓤 H A (Syntax.tyInt Syntax.w64)) (Scalar.holds-sc 𝓤 H A W (Row.sInt Syntax.w64)) Path'.refl (λ u. Path'.refl) λ u. tt) d59
 
-          d38 : Typed.Typed 𝓤 H A 𝓣 E G5 b30 Δ0 (at38 bs)
-          d38 = Typed.g-pre 𝓤 H A W 𝓣 E G5 G6 b30 Δ0 (Typed.pass T5 T6 (s4 bs)) (at37 bs) (Scalar.g-room 𝓤 H A W E G5 7 (Syntax.tyInt Syntax.w64) (Scalar.room-sc 𝓤 H A W (Row.sInt
-              Syntax.w64))) d37
+          d61 : Typed.Typed 𝓤 H A 𝓣 E G5 b46 Δ0 (at61 bs)
+          d61 = Typed.g-pre 𝓤 H A W 𝓣 E G5 G6 b46 Δ0 (Typed.pass T5 T6 (s4 bs)) (at60 bs) (Scalar.g-room 𝓤 H A W E G5 7 (Syntax.tyInt Syntax.w64) (Scalar.room-sc 𝓤 H A W (Row.sInt
+              Syntax.w64))) d60
 
-          d39 : Typed.Typed 𝓤 H A 𝓣 E G4 b31 Δ0 (at39 bs)
-          d39 = Typed.s-seq 𝓤 H A W 𝓣 E G4 G5 b1 b30 Δ0 (Typed.pass T4 T5 (s3 bs)) (at38 bs) (Scalar.t-use 𝓤 H A W E 𝓣 G4 (Scalar.oAt 7 (Syntax.tyInt Syntax.w64) (Row.valS
+          d62 : Typed.Typed 𝓤 H A 𝓣 E G4 b47 Δ0 (at62 bs)
+          d62 = Typed.s-seq 𝓤 H A W 𝓣 E G4 G5 b1 b46 Δ0 (Typed.pass T4 T5 (s3 bs)) (at61 bs) (Scalar.t-use 𝓤 H A W E 𝓣 G4 (Scalar.oAt 7 (Syntax.tyInt Syntax.w64) (Row.valS
               (Row.sInt Syntax.w64))) 8 (Rows.sc-here (Row.sInt Syntax.w64)) (Syntax.tyInt Syntax.w64) (Row.valS (Row.sInt Syntax.w64)) (Row.sInt Syntax.w64 .of) (
                 Scalar.reads-sc 𝓤
                     H A W (Row.sInt Syntax.w64),
                 Path'.refl,
-              ) (Reads.room-gone 𝓤 H A (Syntax.tyInt Syntax.w64)) (Scalar.holds-sc 𝓤 H A W (Row.sInt Syntax.w64)) Path'.refl (λ u.
-              Path'.refl) λ u. tt) d38
+              ) (Reads'.room-gone 𝓤 H A (Syntax.tyInt Syntax.w64)) (Scalar.holds-sc 𝓤 H A W (Row.sInt Syntax.w64)) Path'.refl (λ u.
+              Path'.refl) λ u. tt) d61
 
-          d40 : Typed.Typed 𝓤 H A 𝓣 E G3 b32 Δ0 (at40 bs)
-          d40 = Typed.s-seq 𝓤 H A W 𝓣 E G3 G4 b0 b31 Δ0 (Typed.pass T3 T4 (s2 bs)) (at39 bs) (Scalar.t-use 𝓤 H A W E 𝓣 G3 (Scalar.oFld 2 (List._∷_ (Syntax.field 1) List.[])
+          d63 : Typed.Typed 𝓤 H A 𝓣 E G3 b48 Δ0 (at63 bs)
+          d63 = Typed.s-seq 𝓤 H A W 𝓣 E G3 G4 b0 b47 Δ0 (Typed.pass T3 T4 (s2 bs)) (at62 bs) (Scalar.t-use 𝓤 H A W E 𝓣 G3 (Scalar.oFld 2 (List._∷_ (Syntax.field 1) List.[])
               (Syntax.tyInt Syntax.w64) 8 Shared.lenV) 7 (Rows.sc-here (Row.sInt Syntax.w64)) (Syntax.tyInt Syntax.w64) (Row.valS (Row.sInt Syntax.w64)) (Row.sInt Syntax.w64 .of)
-              (Mut.reads-mslice-len 𝓤 H A W LentTilePartEntry.row (Syntax.tyRef (Syntax.named 1) Syntax.mut LentTilePartEntry.pointee) 1 8 Path'.refl, Path'.refl) (Reads.room-gone
-              𝓤 H A (Syntax.tyInt Syntax.w64)) (Scalar.holds-sc 𝓤 H A W (Row.sInt Syntax.w64)) Path'.refl (λ u. Path'.refl) λ u. tt) d39
+              (Mut.reads-mslice-len 𝓤 H A W LentTilePartEntry.row (Syntax.tyRef (Syntax.named 1) Syntax.mut LentTilePartEntry.pointee) 1 8 Path'.refl, Path'.refl) (Reads'.room-gone
+              𝓤 H A (Syntax.tyInt Syntax.w64)) (Scalar.holds-sc 𝓤 H A W (Row.sInt Syntax.w64)) Path'.refl (λ u. Path'.refl) λ u. tt) d62
 
-          d41 : Typed.Typed 𝓤 H A 𝓣 E G2 b32 Δ0 (at41 bs)
-          d41 = Typed.g-pre 𝓤 H A W 𝓣 E G2 G3 b32 Δ0 (Typed.give (s1 bs)) (at40 bs) (Know.g-sl-known 𝓤 H A W (Referent.fInt Syntax.w8) E G2 3 2 (Syntax.tyRef (Syntax.named 2)
-              Syntax.mut (Syntax.tyInt Syntax.w8)) (Row.lease (κs .1 .1 .0) (qs .1 .1 .0)) 0 (λ x. x) record { fits = Dec'.lit< tt } (Reads.as-is 𝓤 H A (Mut.mslice (Referent.rtF
-              (Referent.fInt Syntax.w8)) (Syntax.tyRef (Syntax.named 2) Syntax.mut (Syntax.tyInt Syntax.w8)) 2)) Path'.refl tt) d40
+          d64 : Typed.Typed 𝓤 H A 𝓣 E G2 b48 Δ0 (at64 bs)
+          d64 = Typed.g-pre 𝓤 H A W 𝓣 E G2 G3 b48 Δ0 (Typed.give (s1 bs)) (at63 bs) (Know.g-sl-known 𝓤 H A W (Referent.fInt Syntax.w8) E G2 3 2 (Syntax.tyRef (Syntax.named 2)
+              Syntax.mut (Syntax.tyInt Syntax.w8)) (Row.lease (κs .1 .1 .0) (qs .1 .1 .0)) 0 (λ x. x) record { fits = Dec'.lit< tt } (Reads'.as-is 𝓤 H A (Mut.mslice (Referent.rtF
+              (Referent.fInt Syntax.w8)) (Syntax.tyRef (Syntax.named 2) Syntax.mut (Syntax.tyInt Syntax.w8)) 2)) Path'.refl tt) d63
 
-          d42 : Typed.Typed 𝓤 H A 𝓣 E G0 b32 Δ0 (at42 bs)
-          d42 = Typed.g-pre 𝓤 H A W 𝓣 E G0 G2 b32 Δ0 (Typed.give (s0 bs)) (at41 bs) (Know.g-shs-known 𝓤 H A W (Referent.fInt Syntax.w8) E G0 1 0 (Syntax.tyRef (Syntax.named 0)
-              Syntax.imm (Syntax.tyInt Syntax.w8)) (Row.lease (κs .0) (qs .0)) 0 (λ x. x) record { fits = Dec'.lit< tt } (Reads.as-is 𝓤 H A (Rows.sslice (Referent.rtF
-              (Referent.fInt Syntax.w8)) (Syntax.tyRef (Syntax.named 0) Syntax.imm (Syntax.tyInt Syntax.w8)) 0)) Path'.refl tt) d41
+          d65 : Typed.Typed 𝓤 H A 𝓣 E G0 b48 Δ0 (at65 bs)
+          d65 = Typed.g-pre 𝓤 H A W 𝓣 E G0 G2 b48 Δ0 (Typed.give (s0 bs)) (at64 bs) (Know.g-shs-known 𝓤 H A W (Referent.fInt Syntax.w8) E G0 1 0 (Syntax.tyRef (Syntax.named 0)
+              Syntax.imm (Syntax.tyInt Syntax.w8)) (Row.lease (κs .0) (qs .0)) 0 (λ x. x) record { fits = Dec'.lit< tt } (Reads'.as-is 𝓤 H A (Rows.sslice (Referent.rtF
+              (Referent.fInt Syntax.w8)) (Syntax.tyRef (Syntax.named 0) Syntax.imm (Syntax.tyInt Syntax.w8)) 0)) Path'.refl tt) d64
 
-          pub typed : Typed.Typed 𝓤 H A 𝓣 E (Function.Γin 3 ps r xs m κs qs) b32 (Function.Δret 3 ps r xs m κs qs) (Φ bs)
-          typed = d42
+          pub typed : Typed.Typed 𝓤 H A 𝓣 E (Function.Γin 3 ps r xs m κs qs) b48 (Function.Δret 3 ps r xs m κs qs) (Φ bs)
+          typed = d65
 
       module _ (κs : Lifetimes.Lfts 3) where
         pub record Args : Type 0 where
@@ -3828,7 +4595,7 @@ module _ (claims· : Claims) where
       ) (m8 (c .before .before) (c .before .slice-known .given)) (c .decide)
 
       abbrev W1 : (before : After-slice-known) → (given : s8 (before .before .before .blocks) .gives (m8 (before .before) (before .slice-known .given))) → Typed.Want O1
-      W1 = λ before given. Typed.wantNext T11 O0 (at32 (before .before .before .blocks) (W0 (before .before .before .κs) (before .before .before .args) (before .before .before
+      W1 = λ before given. Typed.wantNext T11 O0 (at55 (before .before .before .blocks) (W0 (before .before .before .κs) (before .before .before .args) (before .before .before
           .blocks))) (W0 (before .before .before .κs) (before .before .before .args) (before .before .before .blocks))
 
       abbrev pub m10 : (before : After-slice-known) → (given : s8 (before .before .before .blocks) .gives (m8 (before .before) (before .slice-known .given))) → Typed.Mo T12
@@ -3922,10 +4689,6 @@ module _ (claims· : Claims) where
           .given))) → Typed.Mo T21
       m19 = λ before given. s18 (before .before .before .before .before .before .before .blocks) .next (m15 (before .before) (before .known-told .given)) given
 
-      abbrev pub m20 : (before : After-known-told) → (given : s18 (before .before .before .before .before .before .before .blocks) .gives (m15 (before .before) (before .known-told
-          .given))) → Typed.Mo T22
-      m20 = λ before given. s19 (before .before .before .before .before .before .before .blocks) (m19 before given)
-
       module _ (before· : After-known-told) where
         pub record After-first-sot·own : Type 0 where
           pub given : s18 (before· .before .before .before .before .before .before .blocks) .gives (m15 (before· .before) (before· .known-told .given))
@@ -3934,384 +4697,770 @@ module _ (claims· : Claims) where
         pub before : After-known-told
         pub first-sot : After-first-sot·own before
 
-      abbrev pub m21 : (before : After-first-sot) → (given : s21 (before .before .before .before .before .before .before .before .blocks) .gives (m20 (before .before) (before
-          .first-sot .given))) → Typed.Mo T24
-      m21 = λ before given. s21 (before .before .before .before .before .before .before .before .blocks) .next (m20 (before .before) (before .first-sot .given)) given
-
-      abbrev pub m22 : (before : After-first-sot) → (given : s21 (before .before .before .before .before .before .before .before .blocks) .gives (m20 (before .before) (before
-          .first-sot .given))) → Typed.Mo T25
-      m22 = λ before given. s22 (before .before .before .before .before .before .before .before .blocks) .next (m21 before given)
+      abbrev pub m20 : (before : After-first-sot) → (given : s19 (before .before .before .before .before .before .before .before .blocks) .gives (m19 (before .before) (before
+          .first-sot .given))) → Typed.Mo T22
+      m20 = λ before given. s19 (before .before .before .before .before .before .before .before .blocks) .next (m19 (before .before) (before .first-sot .given)) given
 
       module _ (before· : After-first-sot) where
-        pub record After-fill-table-arg·own : Type 0 where
-          pub given : s21 (before· .before .before .before .before .before .before .before .blocks) .gives (m20 (before· .before) (before· .first-sot .given))
+        pub record After-struct-known·own : Type 0 where
+          pub given : s19 (before· .before .before .before .before .before .before .before .blocks) .gives (m19 (before· .before) (before· .first-sot .given))
 
-      pub record After-fill-table-arg : Type 0 where
+      pub record After-struct-known : Type 0 where
         pub before : After-first-sot
-        pub fill-table-arg : After-fill-table-arg·own before
+        pub struct-known : After-struct-known·own before
 
-      abbrev pub Need-fill-table-requires : Type 0
-      Need-fill-table-requires = (c : After-fill-table-arg) → s23 (c .before .before .before .before .before .before .before .before .blocks) .asks (m22 (c .before) (c
-          .fill-table-arg .given))
+      abbrev pub m21 : (before : After-struct-known) → (given : s20 (before .before .before .before .before .before .before .before .before .blocks) .gives (m20 (before .before)
+          (before .struct-known .given))) → Typed.Mo T23
+      m21 = λ before given. s20 (before .before .before .before .before .before .before .before .before .blocks) .next (m20 (before .before) (before .struct-known .given)) given
 
-      abbrev pub m23 : (before : After-fill-table-arg) → (given : s23 (before .before .before .before .before .before .before .before .before .blocks) .gives (m22 (before .before)
-          (before .fill-table-arg .given))) → Typed.Mo T26
-      m23 = λ before given. s23 (before .before .before .before .before .before .before .before .before .blocks) .next (m22 (before .before) (before .fill-table-arg .given)) given
+      abbrev pub m22 : (before : After-struct-known) → (given : s20 (before .before .before .before .before .before .before .before .before .blocks) .gives (m20 (before .before)
+          (before .struct-known .given))) → Typed.Mo T24
+      m22 = λ before given. s21 (before .before .before .before .before .before .before .before .before .blocks) .next (m21 before given)
 
-      module _ (before· : After-fill-table-arg) where
-        abbrev pub After-fill-table·own : Type 0
-        After-fill-table·own = Called.Called ps·1 r·1 (claims· .3) T25 (
+      abbrev W2 : (before : After-struct-known) → (given : s20 (before .before .before .before .before .before .before .before .before .blocks) .gives (m20 (before .before) (before
+          .struct-known .given))) → Typed.Want O2
+      W2 = λ before given. Typed.wantNext T25 O0 (at50 (before .before .before .before .before .before .before .before .before .blocks) (W0 (before .before .before .before .before
+          .before .before .before .before .κs) (before .before .before .before .before .before .before .before .before .args) (before .before .before .before .before .before
+          .before .before .before .blocks))) (W0 (before .before .before .before .before .before .before .before .before .κs) (before .before .before .before .before .before
+          .before .before .before .args) (before .before .before .before .before .before .before .before .before .blocks))
+
+      abbrev pub m23 : (before : After-struct-known) → (given : s20 (before .before .before .before .before .before .before .before .before .blocks) .gives (m20 (before .before)
+          (before .struct-known .given))) → Typed.Mo T26
+      m23 = λ before given. s22 (before .before .before .before .before .before .before .before .before .blocks) (m22 before given)
+
+      module _ (before· : After-struct-known) where
+        pub record After-struct-known2·own : Type 0 where
+          pub given : s20 (before· .before .before .before .before .before .before .before .before .blocks) .gives (m20 (before· .before) (before· .struct-known .given))
+
+      pub record After-struct-known2 : Type 0 where
+        pub before : After-struct-known
+        pub struct-known2 : After-struct-known2·own before
+
+      module _ (before· : After-struct-known2) where
+        pub record Then1·own : Type 0 where
+          pub taken : Path'._≡_ {A = Nat.ℕ} (MainHeaderInfo.struct .as-values (Row.get 5 (T23 .locals) (m21 (before· .before) (before· .struct-known2 .given))) .1 .0)
+              (CodestreamOffset.struct .as-values (Row.get 6 (T23 .locals) (m21 (before· .before) (before· .struct-known2 .given))) .0)
+
+      pub record Then1 : Type 0 where
+        pub before : After-struct-known2
+        pub if1 : Then1·own before
+
+      abbrev pub m24 : (before : After-struct-known2) → Typed.Mo T27
+      m24 = λ before. s23 (before .before .before .before .before .before .before .before .before .before .blocks) (m23 (before .before) (before .struct-known2 .given))
+
+      abbrev pub Need-position-requires : Type 0
+      Need-position-requires = (c : Then1) → s24 (c .before .before .before .before .before .before .before .before .before .before .blocks) .asks (m24 (c .before))
+
+      abbrev pub m25 : (before : Then1) → (given : s24 (before .before .before .before .before .before .before .before .before .before .before .blocks) .gives (m24 (before
+          .before))) → Typed.Mo T28
+      m25 = λ before given. s24 (before .before .before .before .before .before .before .before .before .before .before .blocks) .next (m24 (before .before)) given
+
+      module _ (before· : Then1) where
+        abbrev pub After-position·own : Type 0
+        After-position·own = Called.Called ps·1 r·1 (claims· .3) T27 (record { pos = 6; st = List.[]; d = 0; at = λ x. x }, tt) (m24 (before· .before))
+
+      pub record After-position : Type 0 where
+        pub before : Then1
+        pub position : After-position·own before
+
+      abbrev pub After-position·gave : (c : After-position) → s24 (c .before .before .before .before .before .before .before .before .before .before .before .blocks) .gives (m24 (c
+          .before .before))
+      After-position·gave = λ c. Called.given ps·1 r·1 (claims· .3) T27 (record { pos = 6; st = List.[]; d = 0; at = λ x. x }, tt) (m24 (c .before .before)) (c .position)
+
+      abbrev pub m26 : (before : Then1) → (given : s24 (before .before .before .before .before .before .before .before .before .before .before .blocks) .gives (m24 (before
+          .before))) → Typed.Mo T29
+      m26 = λ before given. s25 (before .before .before .before .before .before .before .before .before .before .before .blocks) (m25 before given)
+
+      abbrev pub m27 : (before : After-position) → (given : s27 (before .before .before .before .before .before .before .before .before .before .before .before .blocks) .gives (m26
+          (before .before) (After-position·gave before))) → Typed.Mo T31
+      m27 = λ before given. s27 (before .before .before .before .before .before .before .before .before .before .before .before .blocks) .next (m26 (before .before)
+          (After-position·gave before)) given
+
+      abbrev pub m28 : (before : After-position) → (given : s27 (before .before .before .before .before .before .before .before .before .before .before .before .blocks) .gives (m26
+          (before .before) (After-position·gave before))) → Typed.Mo T32
+      m28 = λ before given. s28 (before .before .before .before .before .before .before .before .before .before .before .before .blocks) .next (m27 before given)
+
+      module _ (before· : After-position) where
+        pub record After-append-arg·own : Type 0 where
+          pub given : s27 (before· .before .before .before .before .before .before .before .before .before .before .before .blocks) .gives (m26 (before· .before)
+              (After-position·gave before·))
+
+      pub record After-append-arg : Type 0 where
+        pub before : After-position
+        pub append-arg : After-append-arg·own before
+
+      abbrev pub Need-append-requires : Type 0
+      Need-append-requires = (c : After-append-arg) → s29 (c .before .before .before .before .before .before .before .before .before .before .before .before .blocks) .asks (m28 (c
+          .before) (c .append-arg .given))
+
+      abbrev pub m29 : (before : After-append-arg) → (given : s29 (before .before .before .before .before .before .before .before .before .before .before .before .before .blocks)
+          .gives (m28 (before .before) (before .append-arg .given))) → Typed.Mo T33
+      m29 = λ before given. s29 (before .before .before .before .before .before .before .before .before .before .before .before .before .blocks) .next (m28 (before .before) (before
+          .append-arg .given)) given
+
+      module _ (before· : After-append-arg) where
+        abbrev pub After-append·own : Type 0
+        After-append·own = Called.Called ps·2 r·2 (claims· .5) T32 (
           record { pos = 1; ty = Syntax.tyRef (Syntax.named 0) Syntax.imm (Syntax.tyInt Syntax.w8); ref = λ x. x },
-          (record { pos = 6; st = List.[]; d = 0; at = λ x. x }, (record { pos = 13; ty = Syntax.tyRef Syntax.erased Syntax.mut LentTilePartEntry.pointee; ref = λ x. x }, tt)),
-        )
-            (m22 (before· .before) (before· .fill-table-arg .given))
+          (Num.vLit 0, (Num.vAt 13 λ x. x, (record { pos = 15; ty = Syntax.tyRef Syntax.erased Syntax.mut (Syntax.tyInt Syntax.w8); ref = λ x. x }, (Num.vLit 0, tt)))),
+        ) (m28
+            (before· .before) (before· .append-arg .given))
 
-      pub record After-fill-table : Type 0 where
-        pub before : After-fill-table-arg
-        pub fill-table : After-fill-table·own before
+      pub record After-append : Type 0 where
+        pub before : After-append-arg
+        pub append : After-append·own before
 
-      abbrev pub After-fill-table·gave : (c : After-fill-table) → s23 (c .before .before .before .before .before .before .before .before .before .blocks) .gives (m22 (c .before
-          .before) (c .before .fill-table-arg .given))
-      After-fill-table·gave = λ c. Called.given ps·1 r·1 (claims· .3) T25 (
-        record {
-          pos = 1;
-          ty = Syntax.tyRef (Syntax.named 0) Syntax.imm (Syntax.tyInt Syntax.w8);
-          ref = λ x. x;
-        },
-        (record { pos = 6; st = List.[]; d = 0; at = λ x. x }, (record { pos = 13; ty = Syntax.tyRef Syntax.erased Syntax.mut LentTilePartEntry.pointee; ref = λ x. x }, tt)),
-      )
-          (m22 (c .before .before) (c .before .fill-table-arg .given)) (c .fill-table)
-
-      abbrev pub m24 : (before : After-fill-table-arg) → (given : s23 (before .before .before .before .before .before .before .before .before .blocks) .gives (m22 (before .before)
-          (before .fill-table-arg .given))) → Typed.Mo T27
-      m24 = λ before given. s24 (before .before .before .before .before .before .before .before .before .blocks) (m23 before given)
-
-      abbrev pub m25 : (before : After-fill-table-arg) → (given : s23 (before .before .before .before .before .before .before .before .before .blocks) .gives (m22 (before .before)
-          (before .fill-table-arg .given))) → Typed.Mo T28
-      m25 = λ before given. s25 (before .before .before .before .before .before .before .before .before .blocks) (m24 before given)
-
-      abbrev pub m26 : (before : After-fill-table) → (given : s27 (before .before .before .before .before .before .before .before .before .before .blocks) .gives (m25 (before
-          .before) (After-fill-table·gave before))) → Typed.Mo T30
-      m26 = λ before given. s27 (before .before .before .before .before .before .before .before .before .before .blocks) .next (m25 (before .before) (After-fill-table·gave before))
-          given
-
-      module _ (before· : After-fill-table) where
-        pub record After-table·own : Type 0 where
-          pub given : s27 (before· .before .before .before .before .before .before .before .before .before .blocks) .gives (m25 (before· .before) (After-fill-table·gave before·))
-
-      pub record After-table : Type 0 where
-        pub before : After-fill-table
-        pub table : After-table·own before
-
-      abbrev pub m27 : (before : After-table) → (given : s30 (before .before .before .before .before .before .before .before .before .before .before .blocks) .gives (m26 (before
-          .before) (before .table .given))) → Typed.Mo T33
-      m27 = λ before given. s30 (before .before .before .before .before .before .before .before .before .before .before .blocks) .next (m26 (before .before) (before .table .given))
-          given
-
-      abbrev pub m28 : (before : After-table) → (given : s30 (before .before .before .before .before .before .before .before .before .before .before .blocks) .gives (m26 (before
-          .before) (before .table .given))) → Typed.Mo T34
-      m28 = λ before given. s31 (before .before .before .before .before .before .before .before .before .before .before .blocks) .next (m27 before given)
-
-      module _ (before· : After-table) where
-        pub record After-strip-arg·own : Type 0 where
-          pub given : s30 (before· .before .before .before .before .before .before .before .before .before .before .blocks) .gives (m26 (before· .before) (before· .table .given))
-
-      pub record After-strip-arg : Type 0 where
-        pub before : After-table
-        pub strip-arg : After-strip-arg·own before
-
-      abbrev pub Need-strip-requires : Type 0
-      Need-strip-requires = (c : After-strip-arg) → s32 (c .before .before .before .before .before .before .before .before .before .before .before .blocks) .asks (m28 (c .before)
-          (c .strip-arg .given))
-
-      abbrev pub m29 : (before : After-strip-arg) → (given : s32 (before .before .before .before .before .before .before .before .before .before .before .before .blocks) .gives
-          (m28 (before .before) (before .strip-arg .given))) → Typed.Mo T35
-      m29 = λ before given. s32 (before .before .before .before .before .before .before .before .before .before .before .before .blocks) .next (m28 (before .before) (before
-          .strip-arg .given)) given
-
-      module _ (before· : After-strip-arg) where
-        abbrev pub After-strip·own : Type 0
-        After-strip·own = Called.Called ps·2 r·2 (claims· .5) T34 (
-          record { pos = 1; ty = Syntax.tyRef (Syntax.named 0) Syntax.imm (Syntax.tyInt Syntax.w8); ref = λ x. x },
-          (record { pos = 15; ty = Syntax.tyRef Syntax.erased Syntax.mut (Syntax.tyInt Syntax.w8); ref = λ x. x }, tt),
-        ) (m28 (before· .before) (before· .strip-arg .given))
-
-      pub record After-strip : Type 0 where
-        pub before : After-strip-arg
-        pub strip : After-strip·own before
-
-      abbrev pub After-strip·gave : (c : After-strip) → s32 (c .before .before .before .before .before .before .before .before .before .before .before .before .blocks) .gives (m28
-          (c .before .before) (c .before .strip-arg .given))
-      After-strip·gave = λ c. Called.given ps·2 r·2 (claims· .5) T34 (
+      abbrev pub After-append·gave : (c : After-append) → s29 (c .before .before .before .before .before .before .before .before .before .before .before .before .before .blocks)
+          .gives (m28 (c .before .before) (c .before .append-arg .given))
+      After-append·gave = λ c. Called.given ps·2 r·2 (claims· .5) T32 (
         record { pos = 1; ty = Syntax.tyRef (Syntax.named 0) Syntax.imm (Syntax.tyInt Syntax.w8); ref = λ x. x },
-        (record { pos = 15; ty = Syntax.tyRef Syntax.erased Syntax.mut (Syntax.tyInt Syntax.w8); ref = λ x. x }, tt),
-      ) (m28 (c .before .before) (c .before .strip-arg .given)) (c
-          .strip)
+        (Num.vLit 0, (Num.vAt 13 λ x. x, (record { pos = 15; ty = Syntax.tyRef Syntax.erased Syntax.mut (Syntax.tyInt Syntax.w8); ref = λ x. x }, (Num.vLit 0, tt)))),
+      ) (m28 (c
+          .before .before) (c .before .append-arg .given)) (c .append)
 
-      abbrev pub m30 : (before : After-strip-arg) → (given : s32 (before .before .before .before .before .before .before .before .before .before .before .before .blocks) .gives
-          (m28 (before .before) (before .strip-arg .given))) → Typed.Mo T36
-      m30 = λ before given. s33 (before .before .before .before .before .before .before .before .before .before .before .before .blocks) (m29 before given)
+      abbrev pub m30 : (before : After-append-arg) → (given : s29 (before .before .before .before .before .before .before .before .before .before .before .before .before .blocks)
+          .gives (m28 (before .before) (before .append-arg .given))) → Typed.Mo T34
+      m30 = λ before given. s30 (before .before .before .before .before .before .before .before .before .before .before .before .before .blocks) (m29 before given)
 
-      abbrev pub m31 : (before : After-strip) → (given : s35 (before .before .before .before .before .before .before .before .before .before .before .before .before .blocks) .gives
-          (m30 (before .before) (After-strip·gave before))) → Typed.Mo T38
-      m31 = λ before given. s35 (before .before .before .before .before .before .before .before .before .before .before .before .before .blocks) .next (m30 (before .before)
-          (After-strip·gave before)) given
+      abbrev pub m31 : (before : After-append-arg) → (given : s29 (before .before .before .before .before .before .before .before .before .before .before .before .before .blocks)
+          .gives (m28 (before .before) (before .append-arg .given))) → Typed.Mo T35
+      m31 = λ before given. s31 (before .before .before .before .before .before .before .before .before .before .before .before .before .blocks) (m30 before given)
 
-      module _ (before· : After-strip) where
+      abbrev pub m32 : (before : After-append) → (given : s33 (before .before .before .before .before .before .before .before .before .before .before .before .before .before
+          .blocks) .gives (m31 (before .before) (After-append·gave before))) → Typed.Mo T37
+      m32 = λ before given. s33 (before .before .before .before .before .before .before .before .before .before .before .before .before .before .blocks) .next (m31 (before .before)
+          (After-append·gave before)) given
+
+      module _ (before· : After-append) where
         pub record After-out·own : Type 0 where
-          pub given : s35 (before· .before .before .before .before .before .before .before .before .before .before .before .before .blocks) .gives (m30 (before· .before)
-              (After-strip·gave before·))
+          pub given : s33 (before· .before .before .before .before .before .before .before .before .before .before .before .before .before .blocks) .gives (m31 (before· .before)
+              (After-append·gave before·))
 
       pub record After-out : Type 0 where
-        pub before : After-strip
+        pub before : After-append
         pub out : After-out·own before
 
-      abbrev pub m32 : (before : After-out) → (given : s36 (before .before .before .before .before .before .before .before .before .before .before .before .before .before .blocks)
-          .gives (m31 (before .before) (before .out .given))) → Typed.Mo T39
-      m32 = λ before given. s36 (before .before .before .before .before .before .before .before .before .before .before .before .before .before .blocks) .next (m31 (before .before)
-          (before .out .given)) given
+      abbrev pub m33 : (before : After-out) → (given : s34 (before .before .before .before .before .before .before .before .before .before .before .before .before .before .before
+          .blocks) .gives (m32 (before .before) (before .out .given))) → Typed.Mo T38
+      m33 = λ before given. s34 (before .before .before .before .before .before .before .before .before .before .before .before .before .before .before .blocks) .next (m32 (before
+          .before) (before .out .given)) given
 
-      abbrev pub m33 : (before : After-out) → (given : s36 (before .before .before .before .before .before .before .before .before .before .before .before .before .before .blocks)
-          .gives (m31 (before .before) (before .out .given))) → Typed.Mo T41
-      m33 = λ before given. s38 (before .before .before .before .before .before .before .before .before .before .before .before .before .before .blocks) (m32 before given)
+      abbrev pub m34 : (before : After-out) → (given : s34 (before .before .before .before .before .before .before .before .before .before .before .before .before .before .before
+          .blocks) .gives (m32 (before .before) (before .out .given))) → Typed.Mo T40
+      m34 = λ before given. s36 (before .before .before .before .before .before .before .before .before .before .before .before .before .before .before .blocks) (m33 before given)
 
-      abbrev pub m34 : (before : After-out) → (given : s36 (before .before .before .before .before .before .before .before .before .before .before .before .before .before .blocks)
-          .gives (m31 (before .before) (before .out .given))) → Typed.Mo T42
-      m34 = λ before given. s39 (before .before .before .before .before .before .before .before .before .before .before .before .before .before .blocks) (m33 before given)
+      abbrev pub m35 : (before : After-out) → (given : s34 (before .before .before .before .before .before .before .before .before .before .before .before .before .before .before
+          .blocks) .gives (m32 (before .before) (before .out .given))) → Typed.Mo T41
+      m35 = λ before given. s37 (before .before .before .before .before .before .before .before .before .before .before .before .before .before .before .blocks) (m34 before given)
 
       module _ (before· : After-out) where
         pub record After-slice-known2·own : Type 0 where
-          pub given : s36 (before· .before .before .before .before .before .before .before .before .before .before .before .before .before .blocks) .gives (m31 (before· .before)
-              (before· .out .given))
+          pub given : s34 (before· .before .before .before .before .before .before .before .before .before .before .before .before .before .before .blocks) .gives (m32 (before·
+              .before) (before· .out .given))
 
       pub record After-slice-known2 : Type 0 where
         pub before : After-out
         pub slice-known2 : After-slice-known2·own before
 
       abbrev pub Need-same-length : Type 0
-      Need-same-length = (c : After-slice-known2) → MutSlice.SameLen (Row.get 2 (T42 .locals) (m34 (c .before) (c .slice-known2 .given))) (dens (c .before .before .before .before
-          .before .before .before .before .before .before .before .before .before .before .κs) (c .before .before .before .before .before .before .before .before .before .before
-          .before .before .before .before .args) .1 .0)
-
-      abbrev pub Need-same-length-2 : Type 0
-      Need-same-length-2 = (c : After-slice-known2) → MutSlice.SameLen (Row.get 3 (T42 .locals) (m34 (c .before) (c .slice-known2 .given))) (dens (c .before .before .before .before
-          .before .before .before .before .before .before .before .before .before .before .κs) (c .before .before .before .before .before .before .before .before .before .before
-          .before .before .before .before .args) .1 .1 .0)
+      Need-same-length = (c : After-slice-known2) → MutSlice.SameLen (Row.get 3 (T41 .locals) (m35 (c .before) (c .slice-known2 .given))) (dens (c .before .before .before .before
+          .before .before .before .before .before .before .before .before .before .before .before .κs) (c .before .before .before .before .before .before .before .before .before
+          .before .before .before .before .before .before .args) .1 .1 .0)
 
       abbrev pub Need-returns-2 : Type 0
-      Need-returns-2 = (c : After-slice-known2) → Post· (c .before .before .before .before .before .before .before .before .before .before .before .before .before .before .κs)
-          (dens (c .before .before .before .before .before .before .before .before .before .before .before .before .before .before .κs) (c .before .before .before .before .before
-          .before .before .before .before .before .before .before .before .before .args)) (Function.resV r (c .before .before .before .before .before .before .before .before
-          .before .before .before .before .before .before .κs) (m34 (c .before) (c .slice-known2 .given) .0)) (Clauses.atExit (Kinds.endedOf 3 ps r) (c .before .before .before
-          .before .before .before .before .before .before .before .before .before .before .before .κs) (dens (c .before .before .before .before .before .before .before .before
-          .before .before .before .before .before .before .κs) (c .before .before .before .before .before .before .before .before .before .before .before .before .before .before
-          .args)) (Enter.lastsP (c .before .before .before .before .before .before .before .before .before .before .before .before .before .before .κs) 1 ps xs (dens (c .before
-          .before .before .before .before .before .before .before .before .before .before .before .before .before .κs) (c .before .before .before .before .before .before .before
-          .before .before .before .before .before .before .before .args)) (m34 (c .before) (c .slice-known2 .given) .1)))
+      Need-returns-2 = (c : After-slice-known2) → Post· (c .before .before .before .before .before .before .before .before .before .before .before .before .before .before .before
+          .κs) (dens (c .before .before .before .before .before .before .before .before .before .before .before .before .before .before .before .κs) (c .before .before .before
+          .before .before .before .before .before .before .before .before .before .before .before .before .args)) (Function.resV r (c .before .before .before .before .before
+          .before .before .before .before .before .before .before .before .before .before .κs) (m35 (c .before) (c .slice-known2 .given) .0)) (Clauses.atExit (Kinds.endedOf 3 ps r)
+          (c .before .before .before .before .before .before .before .before .before .before .before .before .before .before .before .κs) (dens (c .before .before .before .before
+          .before .before .before .before .before .before .before .before .before .before .before .κs) (c .before .before .before .before .before .before .before .before .before
+          .before .before .before .before .before .before .args)) (Enter.lastsP (c .before .before .before .before .before .before .before .before .before .before .before .before
+          .before .before .before .κs) 1 ps xs (dens (c .before .before .before .before .before .before .before .before .before .before .before .before .before .before .before .κs)
+          (c .before .before .before .before .before .before .before .before .before .before .before .before .before .before .before .args)) (m35 (c .before) (c .slice-known2
+          .given) .1)))
 
-      module _ (decide-requires : Need-decide-requires) (enum-known-answer : Need-enum-known-answer) (enum-told : Need-enum-told) (returns : Need-returns) (fill-table-requires :
-          Need-fill-table-requires) (strip-requires : Need-strip-requires) (same-length : Need-same-length) (same-length-2 : Need-same-length-2) (returns-2 : Need-returns-2) where
-        lay4 : (c : After-strip) → at17 (c .before .before .before .before .before .before .before .before .before .before .before .before .blocks) (W0 (c .before .before .before
-            .before .before .before .before .before .before .before .before .before .κs) (c .before .before .before .before .before .before .before .before .before .before .before
-            .before .args) (c .before .before .before .before .before .before .before .before .before .before .before .before .blocks)) (m29 (c .before) (After-strip·gave c))
-        lay4 = λ c. (
-          Path'.refl,
-          λ g. λ g'. (
-            (
-              Path'.refl,
-              (
-                MutSlice.fix-len (Row.get 2 (T42 .locals) (m34 record {
-                  before = record { before = c .before; strip = c .strip };
-                  out =
-                      record { given = g };
-                } g') .ptr) (Row.get 2 (T42 .locals) (m34 record { before = record { before = c .before; strip = c .strip }; out = record { given = g } } g')
-                    .name) (Row.get 2 (T42 .locals) (m34 record { before = record { before = c .before; strip = c .strip }; out = record { given = g } } g') .now) (dens (c .before .before
-                    .before .before .before .before .before .before .before .before .before .before .κs) (c .before .before .before .before .before .before .before .before .before .before
-                    .before .before .args) .1 .0 .now) (same-length record {
-                      before = record { before = record { before = c .before; strip = c .strip }; out = record { given = g } };
-                      slice-known2 = record { given = g' };
-                    }),
-                (
-                  MutSlice.fix-len (Row.get 3 (T42 .locals) (m34 record {
-                    before = record { before = c .before; strip = c .strip };
-                    out =
-                        record { given = g };
-                  } g') .ptr) (Row.get 3 (T42 .locals) (m34 record { before = record { before = c .before; strip = c .strip }; out = record { given = g } } g')
-                      .name) (Row.get 3 (T42 .locals) (m34 record { before = record { before = c .before; strip = c .strip }; out = record { given = g } } g') .now) (dens (c .before .before
-                      .before .before .before .before .before .before .before .before .before .before .κs) (c .before .before .before .before .before .before .before .before .before .before
-                      .before .before .args) .1 .1 .0 .now) (same-length-2 record {
-                        before = record { before = record { before = c .before; strip = c .strip }; out = record { given = g } };
-                        slice-known2 = record { given = g' };
-                      }),
-                  tt,
-                ),
-              ),
-            ),
-            returns-2 record {
-              before = record {
-                before = record { before = c .before; strip = c .strip };
-                out = record {
-                  given = g;
-                };
-              };
-              slice-known2 = record { given = g' };
-            },
-          ),
+      module _ (before· : After-struct-known2) where
+        pub record Else1·own : Type 0 where
+          pub left : Path'._≡_ {A = Nat.ℕ} (MainHeaderInfo.struct .as-values (Row.get 5 (T23 .locals) (m21 (before· .before) (before· .struct-known2 .given))) .1 .0)
+              (CodestreamOffset.struct .as-values (Row.get 6 (T23 .locals) (m21 (before· .before) (before· .struct-known2 .given))) .0) → ⊥
+
+      pub record Else1 : Type 0 where
+        pub before : After-struct-known2
+        pub if1 : Else1·own before
+
+      abbrev pub m36 : (before : After-struct-known2) → Typed.Mo T42
+      m36 = λ before. s38 (before .before .before .before .before .before .before .before .before .before .blocks) (m23 (before .before) (before .struct-known2 .given))
+
+      abbrev pub m37 : (before : Else1) → (given : s40 (before .before .before .before .before .before .before .before .before .before .before .blocks) .gives (m36 (before
+          .before))) → Typed.Mo T44
+      m37 = λ before given. s40 (before .before .before .before .before .before .before .before .before .before .before .blocks) .next (m36 (before .before)) given
+
+      abbrev pub m38 : (before : Else1) → (given : s40 (before .before .before .before .before .before .before .before .before .before .before .blocks) .gives (m36 (before
+          .before))) → Typed.Mo T45
+      m38 = λ before given. s41 (before .before .before .before .before .before .before .before .before .before .before .blocks) .next (m37 before given)
+
+      module _ (before· : Else1) where
+        pub record After-fill-table-arg·own : Type 0 where
+          pub given : s40 (before· .before .before .before .before .before .before .before .before .before .before .blocks) .gives (m36 (before· .before))
+
+      pub record After-fill-table-arg : Type 0 where
+        pub before : Else1
+        pub fill-table-arg : After-fill-table-arg·own before
+
+      abbrev pub Need-fill-table-requires : Type 0
+      Need-fill-table-requires = (c : After-fill-table-arg) → s42 (c .before .before .before .before .before .before .before .before .before .before .before .blocks) .asks (m38 (c
+          .before) (c .fill-table-arg .given))
+
+      abbrev pub m39 : (before : After-fill-table-arg) → (given : s42 (before .before .before .before .before .before .before .before .before .before .before .before .blocks)
+          .gives (m38 (before .before) (before .fill-table-arg .given))) → Typed.Mo T46
+      m39 = λ before given. s42 (before .before .before .before .before .before .before .before .before .before .before .before .blocks) .next (m38 (before .before) (before
+          .fill-table-arg .given)) given
+
+      module _ (before· : After-fill-table-arg) where
+        abbrev pub After-fill-table·own : Type 0
+        After-fill-table·own = Called.Called ps·3 r·3 (claims· .7) T45 (
+          record { pos = 1; ty = Syntax.tyRef (Syntax.named 0) Syntax.imm (Syntax.tyInt Syntax.w8); ref = λ x. x },
+          (record { pos = 6; st = List.[]; d = 0; at = λ x. x }, (record { pos = 18; ty = Syntax.tyRef Syntax.erased Syntax.mut LentTilePartEntry.pointee; ref = λ x. x }, tt)),
         )
+            (m38 (before· .before) (before· .fill-table-arg .given))
 
-        lay3 : (c : After-fill-table) → at26 (c .before .before .before .before .before .before .before .before .before .blocks) (W0 (c .before .before .before .before .before
-            .before .before .before .before .κs) (c .before .before .before .before .before .before .before .before .before .args) (c .before .before .before .before .before
-            .before .before .before .before .blocks)) (m23 (c .before) (After-fill-table·gave c))
-        lay3 = λ c. (
-          Path'.refl,
-          λ g. λ g'. (
+      pub record After-fill-table : Type 0 where
+        pub before : After-fill-table-arg
+        pub fill-table : After-fill-table·own before
+
+      abbrev pub After-fill-table·gave : (c : After-fill-table) → s42 (c .before .before .before .before .before .before .before .before .before .before .before .before .blocks)
+          .gives (m38 (c .before .before) (c .before .fill-table-arg .given))
+      After-fill-table·gave = λ c. Called.given ps·3 r·3 (claims· .7) T45 (
+        record {
+          pos = 1;
+          ty = Syntax.tyRef (Syntax.named 0) Syntax.imm (Syntax.tyInt Syntax.w8);
+          ref = λ x. x;
+        },
+        (record { pos = 6; st = List.[]; d = 0; at = λ x. x }, (record { pos = 18; ty = Syntax.tyRef Syntax.erased Syntax.mut LentTilePartEntry.pointee; ref = λ x. x }, tt)),
+      )
+          (m38 (c .before .before) (c .before .fill-table-arg .given)) (c .fill-table)
+
+      abbrev pub m40 : (before : After-fill-table-arg) → (given : s42 (before .before .before .before .before .before .before .before .before .before .before .before .blocks)
+          .gives (m38 (before .before) (before .fill-table-arg .given))) → Typed.Mo T47
+      m40 = λ before given. s43 (before .before .before .before .before .before .before .before .before .before .before .before .blocks) (m39 before given)
+
+      abbrev pub m41 : (before : After-fill-table-arg) → (given : s42 (before .before .before .before .before .before .before .before .before .before .before .before .blocks)
+          .gives (m38 (before .before) (before .fill-table-arg .given))) → Typed.Mo T48
+      m41 = λ before given. s44 (before .before .before .before .before .before .before .before .before .before .before .before .blocks) (m40 before given)
+
+      abbrev pub m42 : (before : After-fill-table) → (given : s46 (before .before .before .before .before .before .before .before .before .before .before .before .before .blocks)
+          .gives (m41 (before .before) (After-fill-table·gave before))) → Typed.Mo T50
+      m42 = λ before given. s46 (before .before .before .before .before .before .before .before .before .before .before .before .before .blocks) .next (m41 (before .before)
+          (After-fill-table·gave before)) given
+
+      module _ (before· : After-fill-table) where
+        pub record After-table·own : Type 0 where
+          pub given : s46 (before· .before .before .before .before .before .before .before .before .before .before .before .before .blocks) .gives (m41 (before· .before)
+              (After-fill-table·gave before·))
+
+      pub record After-table : Type 0 where
+        pub before : After-fill-table
+        pub table : After-table·own before
+
+      abbrev pub m43 : (before : After-table) → (given : s49 (before .before .before .before .before .before .before .before .before .before .before .before .before .before
+          .blocks) .gives (m42 (before .before) (before .table .given))) → Typed.Mo T53
+      m43 = λ before given. s49 (before .before .before .before .before .before .before .before .before .before .before .before .before .before .blocks) .next (m42 (before .before)
+          (before .table .given)) given
+
+      abbrev pub m44 : (before : After-table) → (given : s49 (before .before .before .before .before .before .before .before .before .before .before .before .before .before
+          .blocks) .gives (m42 (before .before) (before .table .given))) → Typed.Mo T54
+      m44 = λ before given. s50 (before .before .before .before .before .before .before .before .before .before .before .before .before .before .blocks) .next (m43 before given)
+
+      module _ (before· : After-table) where
+        pub record After-strip-arg·own : Type 0 where
+          pub given : s49 (before· .before .before .before .before .before .before .before .before .before .before .before .before .before .blocks) .gives (m42 (before· .before)
+              (before· .table .given))
+
+      pub record After-strip-arg : Type 0 where
+        pub before : After-table
+        pub strip-arg : After-strip-arg·own before
+
+      abbrev pub Need-strip-requires : Type 0
+      Need-strip-requires = (c : After-strip-arg) → s51 (c .before .before .before .before .before .before .before .before .before .before .before .before .before .before .blocks)
+          .asks (m44 (c .before) (c .strip-arg .given))
+
+      abbrev pub m45 : (before : After-strip-arg) → (given : s51 (before .before .before .before .before .before .before .before .before .before .before .before .before .before
+          .before .blocks) .gives (m44 (before .before) (before .strip-arg .given))) → Typed.Mo T55
+      m45 = λ before given. s51 (before .before .before .before .before .before .before .before .before .before .before .before .before .before .before .blocks) .next (m44 (before
+          .before) (before .strip-arg .given)) given
+
+      module _ (before· : After-strip-arg) where
+        abbrev pub After-strip·own : Type 0
+        After-strip·own = Called.Called ps·4 r·4 (claims· .9) T54 (
+          record { pos = 1; ty = Syntax.tyRef (Syntax.named 0) Syntax.imm (Syntax.tyInt Syntax.w8); ref = λ x. x },
+          (record { pos = 20; ty = Syntax.tyRef Syntax.erased Syntax.mut (Syntax.tyInt Syntax.w8); ref = λ x. x }, tt),
+        ) (m44 (before· .before) (before· .strip-arg .given))
+
+      pub record After-strip : Type 0 where
+        pub before : After-strip-arg
+        pub strip : After-strip·own before
+
+      abbrev pub After-strip·gave : (c : After-strip) → s51 (c .before .before .before .before .before .before .before .before .before .before .before .before .before .before
+          .before .blocks) .gives (m44 (c .before .before) (c .before .strip-arg .given))
+      After-strip·gave = λ c. Called.given ps·4 r·4 (claims· .9) T54 (
+        record { pos = 1; ty = Syntax.tyRef (Syntax.named 0) Syntax.imm (Syntax.tyInt Syntax.w8); ref = λ x. x },
+        (record { pos = 20; ty = Syntax.tyRef Syntax.erased Syntax.mut (Syntax.tyInt Syntax.w8); ref = λ x. x }, tt),
+      ) (m44 (c .before .before) (c .before .strip-arg .given)) (c
+          .strip)
+
+      abbrev pub m46 : (before : After-strip-arg) → (given : s51 (before .before .before .before .before .before .before .before .before .before .before .before .before .before
+          .before .blocks) .gives (m44 (before .before) (before .strip-arg .given))) → Typed.Mo T56
+      m46 = λ before given. s52 (before .before .before .before .before .before .before .before .before .before .before .before .before .before .before .blocks) (m45 before given)
+
+      abbrev pub m47 : (before : After-strip) → (given : s54 (before .before .before .before .before .before .before .before .before .before .before .before .before .before .before
+          .before .blocks) .gives (m46 (before .before) (After-strip·gave before))) → Typed.Mo T58
+      m47 = λ before given. s54 (before .before .before .before .before .before .before .before .before .before .before .before .before .before .before .before .blocks) .next (m46
+          (before .before) (After-strip·gave before)) given
+
+      module _ (before· : After-strip) where
+        pub record After-out2·own : Type 0 where
+          pub given : s54 (before· .before .before .before .before .before .before .before .before .before .before .before .before .before .before .before .blocks) .gives (m46
+              (before· .before) (After-strip·gave before·))
+
+      pub record After-out2 : Type 0 where
+        pub before : After-strip
+        pub out2 : After-out2·own before
+
+      abbrev pub m48 : (before : After-out2) → (given : s55 (before .before .before .before .before .before .before .before .before .before .before .before .before .before .before
+          .before .before .blocks) .gives (m47 (before .before) (before .out2 .given))) → Typed.Mo T59
+      m48 = λ before given. s55 (before .before .before .before .before .before .before .before .before .before .before .before .before .before .before .before .before .blocks)
+          .next (m47 (before .before) (before .out2 .given)) given
+
+      abbrev pub m49 : (before : After-out2) → (given : s55 (before .before .before .before .before .before .before .before .before .before .before .before .before .before .before
+          .before .before .blocks) .gives (m47 (before .before) (before .out2 .given))) → Typed.Mo T61
+      m49 = λ before given. s57 (before .before .before .before .before .before .before .before .before .before .before .before .before .before .before .before .before .blocks)
+          (m48 before given)
+
+      abbrev pub m50 : (before : After-out2) → (given : s55 (before .before .before .before .before .before .before .before .before .before .before .before .before .before .before
+          .before .before .blocks) .gives (m47 (before .before) (before .out2 .given))) → Typed.Mo T62
+      m50 = λ before given. s58 (before .before .before .before .before .before .before .before .before .before .before .before .before .before .before .before .before .blocks)
+          (m49 before given)
+
+      module _ (before· : After-out2) where
+        pub record After-slice-known3·own : Type 0 where
+          pub given : s55 (before· .before .before .before .before .before .before .before .before .before .before .before .before .before .before .before .before .blocks) .gives
+              (m47 (before· .before) (before· .out2 .given))
+
+      pub record After-slice-known3 : Type 0 where
+        pub before : After-out2
+        pub slice-known3 : After-slice-known3·own before
+
+      abbrev pub Need-same-length-2 : Type 0
+      Need-same-length-2 = (c : After-slice-known3) → MutSlice.SameLen (Row.get 2 (T62 .locals) (m50 (c .before) (c .slice-known3 .given))) (dens (c .before .before .before .before
+          .before .before .before .before .before .before .before .before .before .before .before .before .before .κs) (c .before .before .before .before .before .before .before
+          .before .before .before .before .before .before .before .before .before .before .args) .1 .0)
+
+      abbrev pub Need-same-length-3 : Type 0
+      Need-same-length-3 = (c : After-slice-known3) → MutSlice.SameLen (Row.get 3 (T62 .locals) (m50 (c .before) (c .slice-known3 .given))) (dens (c .before .before .before .before
+          .before .before .before .before .before .before .before .before .before .before .before .before .before .κs) (c .before .before .before .before .before .before .before
+          .before .before .before .before .before .before .before .before .before .before .args) .1 .1 .0)
+
+      abbrev pub Need-returns-3 : Type 0
+      Need-returns-3 = (c : After-slice-known3) → Post· (c .before .before .before .before .before .before .before .before .before .before .before .before .before .before .before
+          .before .before .κs) (dens (c .before .before .before .before .before .before .before .before .before .before .before .before .before .before .before .before .before .κs)
+          (c .before .before .before .before .before .before .before .before .before .before .before .before .before .before .before .before .before .args)) (Function.resV r (c
+          .before .before .before .before .before .before .before .before .before .before .before .before .before .before .before .before .before .κs) (m50 (c .before) (c
+          .slice-known3 .given) .0)) (Clauses.atExit (Kinds.endedOf 3 ps r) (c .before .before .before .before .before .before .before .before .before .before .before .before
+          .before .before .before .before .before .κs) (dens (c .before .before .before .before .before .before .before .before .before .before .before .before .before .before
+          .before .before .before .κs) (c .before .before .before .before .before .before .before .before .before .before .before .before .before .before .before .before .before
+          .args)) (Enter.lastsP (c .before .before .before .before .before .before .before .before .before .before .before .before .before .before .before .before .before .κs) 1 ps
+          xs (dens (c .before .before .before .before .before .before .before .before .before .before .before .before .before .before .before .before .before .κs) (c .before
+          .before .before .before .before .before .before .before .before .before .before .before .before .before .before .before .before .args)) (m50 (c .before) (c .slice-known3
+          .given) .1)))
+
+      module _ (decide-requires : Need-decide-requires) (enum-known-answer : Need-enum-known-answer) (enum-told : Need-enum-told) (returns : Need-returns) (position-requires :
+          Need-position-requires) (append-requires : Need-append-requires) (same-length : Need-same-length) (returns-2 : Need-returns-2) (fill-table-requires :
+          Need-fill-table-requires) (strip-requires : Need-strip-requires) (same-length-2 : Need-same-length-2) (same-length-3 : Need-same-length-3) (returns-3 : Need-returns-3)
+        where
+          lay9 : (c : After-strip) → at37 (c .before .before .before .before .before .before .before .before .before .before .before .before .before .before .before .blocks) (W0 (c
+              .before .before .before .before .before .before .before .before .before .before .before .before .before .before .before .κs) (c .before .before .before .before .before
+              .before .before .before .before .before .before .before .before .before .before .args) (c .before .before .before .before .before .before .before .before .before
+              .before .before .before .before .before .before .blocks)) (m45 (c .before) (After-strip·gave c))
+          lay9 = λ c. (
             Path'.refl,
-            (
-              strip-requires record {
-                before = record {
-                  before = record { before = c .before; fill-table = c .fill-table };
-                  table =
-                      record { given = g };
-                };
-                strip-arg = record { given = g' };
-              },
-              λ g''. lay4 record {
-                before = record {
-                  before = record {
-                    before = record {
-                      before = c .before;
-                      fill-table
-                          = c .fill-table;
-                    };
-                    table = record { given = g };
-                  };
-                  strip-arg = record { given = g' };
-                };
-                strip = Called.called ps·2 r·2 (claims· .5) T34 (
-                  record {
-                    pos = 1;
-                    ty =
-                        Syntax.tyRef (Syntax.named 0) Syntax.imm (Syntax.tyInt Syntax.w8);
-                    ref = λ x. x;
-                  },
+            λ g. λ g'. (
+              (
+                Path'.refl,
+                (
+                  MutSlice.fix-len (Row.get 2 (T62 .locals) (m50 record {
+                    before = record { before = c .before; strip = c .strip };
+                    out2 =
+                        record { given = g };
+                  } g') .ptr) (Row.get 2 (T62 .locals) (m50 record { before = record { before = c .before; strip = c .strip }; out2 = record { given = g } } g')
+                      .name) (Row.get 2 (T62 .locals) (m50 record { before = record { before = c .before; strip = c .strip }; out2 = record { given = g } } g') .now) (dens (c .before
+                      .before .before .before .before .before .before .before .before .before .before .before .before .before .before .κs) (c .before .before .before .before .before .before
+                      .before .before .before .before .before .before .before .before .before .args) .1 .0 .now) (same-length-2 record {
+                        before = record {
+                          before = record {
+                            before = c
+                                .before;
+                            strip = c .strip;
+                          };
+                          out2 = record { given = g };
+                        };
+                        slice-known3 = record { given = g' };
+                      }),
                   (
-                    record {
-                      pos = 15;
-                      ty = Syntax.tyRef Syntax.erased Syntax.mut (Syntax.tyInt
-                          Syntax.w8);
-                      ref = λ x. x;
-                    },
+                    MutSlice.fix-len (Row.get 3 (T62 .locals) (m50 record {
+                      before =
+                          record { before = c .before; strip = c .strip };
+                      out2 = record { given = g };
+                    } g') .ptr) (Row.get 3 (T62 .locals) (m50 record {
+                      before = record {
+                        before = c .before;
+                        strip = c .strip;
+                      };
+                      out2 = record { given = g };
+                    } g') .name) (Row.get 3 (T62 .locals) (m50 record {
+                      before = record { before = c .before; strip = c .strip };
+                      out2 =
+                          record { given = g };
+                    } g') .now) (dens (c .before .before .before .before .before .before .before .before .before .before .before .before .before .before .before .κs)
+                        (c .before .before .before .before .before .before .before .before .before .before .before .before .before .before .before .args) .1 .1 .0 .now) (same-length-3 record {
+                          before = record { before = record { before = c .before; strip = c .strip }; out2 = record { given = g } };
+                          slice-known3 = record { given = g' };
+                        }),
                     tt,
                   ),
-                ) (m28 record { before = record { before = c .before; fill-table = c .fill-table }; table = record { given = g } } g') g'';
-              },
+                ),
+              ),
+              returns-3
+                  record { before = record { before = record { before = c .before; strip = c .strip }; out2 = record { given = g } }; slice-known3 = record { given = g' } },
             ),
-          ),
-        )
+          )
 
-        lay2 : (c : After-known-told) → at32 (c .before .before .before .before .before .before .blocks) (W0 (c .before .before .before .before .before .before .κs) (c .before
-            .before .before .before .before .before .args) (c .before .before .before .before .before .before .blocks)) (m15 (c .before) (c .known-told .given))
-        lay2 = λ c. (
-          tt,
-          λ g. λ g'. (
+          lay8 : (c : After-fill-table) → at46 (c .before .before .before .before .before .before .before .before .before .before .before .before .blocks) (W0 (c .before .before
+              .before .before .before .before .before .before .before .before .before .before .κs) (c .before .before .before .before .before .before .before .before .before .before
+              .before .before .args) (c .before .before .before .before .before .before .before .before .before .before .before .before .blocks)) (m39 (c .before)
+              (After-fill-table·gave c))
+          lay8 = λ c. (
             Path'.refl,
-            (
-              fill-table-requires record {
-                before = record {
-                  before = record { before = c .before; known-told = c .known-told };
-                  first-sot =
-                      record { given = g };
-                };
-                fill-table-arg = record { given = g' };
-              },
-              λ g''. lay3 record {
-                before = record {
+            λ g. λ g'. (
+              Path'.refl,
+              (
+                strip-requires record {
+                  before = record {
+                    before = record { before = c .before; fill-table = c .fill-table };
+                    table =
+                        record { given = g };
+                  };
+                  strip-arg = record { given = g' };
+                },
+                λ g''. lay9 record {
                   before = record {
                     before = record {
-                      before = c .before;
-                      known-told = c .known-told;
+                      before = record {
+                        before = c .before;
+                        fill-table
+                            = c .fill-table;
+                      };
+                      table = record { given = g };
                     };
-                    first-sot = record { given = g };
+                    strip-arg = record { given = g' };
                   };
-                  fill-table-arg = record { given = g' };
-                };
-                fill-table = Called.called ps·1 r·1 (claims· .3) T25 (
-                  record { pos = 1; ty = Syntax.tyRef (Syntax.named 0) Syntax.imm (Syntax.tyInt Syntax.w8); ref = λ x. x },
-                  (
-                    record { pos = 6; st = List.[]; d = 0; at = λ x. x },
-                    (record { pos = 13; ty = Syntax.tyRef Syntax.erased Syntax.mut LentTilePartEntry.pointee; ref = λ x. x }, tt),
-                  ),
-                ) (m22 record {
-                  before = record {
-                    before = c .before;
-                    known-told = c .known-told;
-                  };
-                  first-sot = record { given = g };
-                } g') g'';
-              },
-            ),
-          ),
-        )
-
-        lay1 : (c : After-decide) → at33 (c .before .before .before .blocks) (W0 (c .before .before .before .κs) (c .before .before .before .args) (c .before .before .before
-            .blocks)) (m9 (c .before) (After-decide·gave c))
-        lay1 = λ c. (
-          λ k. (
-            enum-known-answer record { before = record { before = c .before; decide = c .decide }; match = record { keys1 = k } },
-            λ g. λ g'. lay2 record {
-              before =
-                  record { before = record { before = record { before = c .before; decide = c .decide }; match = record { keys1 = k } }; answer = record { given = g } };
-              known-told =
-                  record { given = g' };
-            },
-          ),
-          (
-            λ k. (
-              enum-told record { before = record { before = c .before; decide = c .decide }; match = record { keys2 = k } },
-              λ g. (
-                (
-                  Path'.refl,
-                  (Path'.refl, (Path'.refl, tt)),
-                ),
-                returns record {
-                  before = record { before = record { before = c .before; decide = c .decide }; match = record { keys2 = k } };
-                  enum-told = record { given = g };
+                  strip = Called.called ps·4 r·4 (claims· .9) T54 (
+                    record {
+                      pos = 1;
+                      ty =
+                          Syntax.tyRef (Syntax.named 0) Syntax.imm (Syntax.tyInt Syntax.w8);
+                      ref = λ x. x;
+                    },
+                    (
+                      record {
+                        pos = 20;
+                        ty = Syntax.tyRef Syntax.erased Syntax.mut (Syntax.tyInt
+                            Syntax.w8);
+                        ref = λ x. x;
+                      },
+                      tt,
+                    ),
+                  ) (m44 record { before = record { before = c .before; fill-table = c .fill-table }; table = record { given = g } } g') g'';
                 },
               ),
             ),
-            Match.each-below 2 (λ j. (Unit {0} × (Run.OneOf (List._∷_ 0 List.[]) j → ⊥)) × (Run.OneOf (List._∷_ 1 List.[]) j → ⊥) → ⊥) (
-              λ n.
-                  n .1 Path'.refl,
-              (λ n. n .0 .1 Path'.refl, tt),
-            ) (Declared.tagOf MainHeader.the-type (Row.get 4 (T13 .locals) (m11 (c .before) (After-decide·gave c)))) (Match.tag-small
-                MainHeader.the-type (Row.get 4 (T13 .locals) (m11 (c .before) (After-decide·gave c)))),
-          ),
-        )
+          )
 
-        pub laid : (c : Start) → at42 (c .blocks) (W0 (c .κs) (c .args) (c .blocks)) (m0 (c .κs) (c .args) (c .blocks))
-        laid = λ c. λ g. λ g'. (
-          decide-requires record { before = record { before = c; shared-slice-known = record { given = g } }; slice-known = record { given = g' } },
-          λ g''.
-              lay1 record {
-                before = record { before = record { before = c; shared-slice-known = record { given = g } }; slice-known = record { given = g' } };
-                decide =
-                    Called.called ps·0 r·0 (claims· .1) T9 (
-                      record { pos = 1; ty = Syntax.tyRef (Syntax.named 0) Syntax.imm (Syntax.tyInt Syntax.w8); ref = λ x. x },
-                      (
-                        Num.vAt 8 λ x. x,
-                        (Num.vAt 10 λ x. x, tt),
-                      ),
-                    ) (m8 record { before = c; shared-slice-known = record { given = g } } g') g'';
+          lay7 : (c : Else1) → at50 (c .before .before .before .before .before .before .before .before .before .before .blocks) (W0 (c .before .before .before .before .before .before
+              .before .before .before .before .κs) (c .before .before .before .before .before .before .before .before .before .before .args) (c .before .before .before .before
+              .before .before .before .before .before .before .blocks)) (m36 (c .before))
+          lay7 = λ c. λ g. (
+            Path'.refl,
+            (
+              fill-table-requires record { before = record { before = c .before; if1 = c .if1 }; fill-table-arg = record { given = g } },
+              λ g'. lay8
+                  record {
+                    before = record { before = record { before = c .before; if1 = c .if1 }; fill-table-arg = record { given = g } };
+                    fill-table = Called.called ps·3 r·3 (claims·
+                        .7) T45 (
+                          record { pos = 1; ty = Syntax.tyRef (Syntax.named 0) Syntax.imm (Syntax.tyInt Syntax.w8); ref = λ x. x },
+                          (
+                            record {
+                              pos = 6;
+                              st = List.[];
+                              d = 0;
+                              at = λ x. x;
+                            },
+                            (record { pos = 18; ty = Syntax.tyRef Syntax.erased Syntax.mut LentTilePartEntry.pointee; ref = λ x. x }, tt),
+                          ),
+                        ) (m38 record { before = c .before; if1 = c .if1 } g)
+                        g';
+                  },
+            ),
+          )
+
+          lay6 : (c : Else1) → at27 (c .before .before .before .before .before .before .before .before .before .before .blocks) (W2 (c .before .before) (c .before .struct-known2
+              .given)) (m23 (c .before .before) (c .before .struct-known2 .given))
+          lay6 = λ c. lay7 record { before = c .before; if1 = c .if1 }
+
+          lay5 : (c : After-append) → at18 (c .before .before .before .before .before .before .before .before .before .before .before .before .before .blocks) (W2 (c .before .before
+              .before .before .before) (c .before .before .before .before .struct-known2 .given)) (m29 (c .before) (After-append·gave c))
+          lay5 = λ c. (
+            Path'.refl,
+            λ g. λ g'. (
+              (
+                Path'.refl,
+                (
+                  Path'.refl,
+                  (
+                    MutSlice.fix-len (Row.get 3 (T41 .locals) (m35 record {
+                      before = record {
+                        before = c .before;
+                        append = c
+                            .append;
+                      };
+                      out = record { given = g };
+                    } g') .ptr) (Row.get 3 (T41 .locals) (m35 record {
+                      before = record { before = c .before; append = c .append };
+                      out = record {
+                        given = g;
+                      };
+                    } g') .name) (Row.get 3 (T41 .locals) (m35 record { before = record { before = c .before; append = c .append }; out = record { given = g } } g') .now)
+                        (dens (c .before .before .before .before .before .before .before .before .before .before .before .before .before .κs) (c .before .before .before .before .before .before
+                        .before .before .before .before .before .before .before .args) .1 .1 .0 .now) (same-length record {
+                          before = record {
+                            before = record {
+                              before = c .before;
+                              append = c
+                                  .append;
+                            };
+                            out = record { given = g };
+                          };
+                          slice-known2 = record { given = g' };
+                        }),
+                    tt,
+                  ),
+                ),
+              ),
+              returns-2 record {
+                before = record {
+                  before = record {
+                    before = c .before;
+                    append = c .append;
+                  };
+                  out = record { given = g };
+                };
+                slice-known2 = record { given = g' };
               },
-        )
+            ),
+          )
 
-        module _ (κs : Lifetimes.Lfts 3) (qs : Lifetimes.Shares 3) where
-          pub asked : (a : Kinds.Dens κs ps) → (good : Kinds.GoodsP κs ps a) → (pre : Pre· κs a) → (bs : List.List Nat.ℕ) → Φ bs (Any.wantQ 3 ps r xs m κs qs a (Post· κs a))
-              (Function.init 3 ps r xs m κs qs a)
-          asked = λ a good pre bs. laid record { κs = κs; args = record { codestream = a .0; table = a .1 .0; out = a .1 .1 .0 }; blocks = bs; good = good; pre = pre }
+          lay4 : (c : After-position) → at23 (c .before .before .before .before .before .before .before .before .before .before .before .blocks) (W2 (c .before .before .before) (c
+              .before .before .struct-known2 .given)) (m25 (c .before) (After-position·gave c))
+          lay4 = λ c. λ g. (
+            Path'.refl,
+            (
+              append-requires record { before = record { before = c .before; position = c .position }; append-arg = record { given = g } },
+              λ g'. lay5
+                  record {
+                    before = record { before = record { before = c .before; position = c .position }; append-arg = record { given = g } };
+                    append = Called.called ps·2 r·2
+                        (claims· .5) T32 (
+                          record { pos = 1; ty = Syntax.tyRef (Syntax.named 0) Syntax.imm (Syntax.tyInt Syntax.w8); ref = λ x. x },
+                          (
+                            Num.vLit 0,
+                            (
+                              Num.vAt 13 λ x. x,
+                              (
+                                record {
+                                  pos = 15;
+                                  ty = Syntax.tyRef Syntax.erased Syntax.mut (Syntax.tyInt Syntax.w8);
+                                  ref = λ x. x;
+                                },
+                                (Num.vLit 0, tt),
+                              ),
+                            ),
+                          ),
+                        ) (m28 record {
+                          before = c .before;
+                          position = c
+                              .position;
+                        } g) g';
+                  },
+            ),
+          )
 
-        module _ {M : Type 1} (𝓤 : URA.URA M) (H : Wp.Heap 𝓤) (A : Atoms.Atoms 𝓤) (W : Kit.Given 𝓤 H A) (𝓣 : Wp.Tables 𝓤 H) (known0 : Plain.Known 𝓤 H A W 𝓣 1 ps·0 r·0 (claims· .0)
-            (claims· .1) "header::parse::decide") (known1 : Plain.Known 𝓤 H A W 𝓣 2 ps·1 r·1 (claims· .2) (claims· .3) "records::main_header::fill_table") (known2 : Plain.Known 𝓤 H
-            A W 𝓣 2 ps·2 r·2 (claims· .4) (claims· .5) "header::strip::strip") where
-          pub spec : Statement.Triple 𝓤 (Wp.WpFn 𝓤 H (𝓣 .C) (𝓣 .Λ) (Function.fnOf 3 ps r xs m hs body)) (Function.plainOf 𝓤 H A 3 ps r Pre· Post·)
-          spec = Plain.t-fn-plain 𝓤 H A W 𝓣 3 ps r xs m hs body (λ κs qs bs. Φ bs) (λ κs qs bs bd. typed κs qs 𝓤 H A W 𝓣 (known0, known1, known2) bs bd) Pre· Post· asked
+          lay3 : (c : Then1) → at25 (c .before .before .before .before .before .before .before .before .before .before .blocks) (W2 (c .before .before) (c .before .struct-known2
+              .given)) (m23 (c .before .before) (c .before .struct-known2 .given))
+          lay3 = λ c. (
+            position-requires record { before = c .before; if1 = c .if1 },
+            λ g. lay4 record {
+              before = record { before = c .before; if1 = c .if1 };
+              position =
+                  Called.called ps·1 r·1 (claims· .3) T27 (record { pos = 6; st = List.[]; d = 0; at = λ x. x }, tt) (m24 (c .before)) g;
+            },
+          )
+
+          lay2 : (c : After-known-told) → at55 (c .before .before .before .before .before .before .blocks) (W0 (c .before .before .before .before .before .before .κs) (c .before
+              .before .before .before .before .before .args) (c .before .before .before .before .before .before .blocks)) (m15 (c .before) (c .known-told .given))
+          lay2 = λ c. (
+            tt,
+            λ g. λ g'. λ g''. (
+              tt,
+              (
+                λ taken. lay3 record {
+                  before = record {
+                    before = record {
+                      before = record {
+                        before = record {
+                          before = c .before;
+                          known-told = c
+                              .known-told;
+                        };
+                        first-sot = record { given = g };
+                      };
+                      struct-known = record { given = g' };
+                    };
+                    struct-known2 = record { given = g'' };
+                  };
+                  if1 = record {
+                    taken =
+                        Tests.eqb-true (MainHeaderInfo.struct .as-values (Row.get 5 (T23 .locals) (m21 record {
+                          before = record {
+                            before = record {
+                              before = c .before;
+                              known-told = c
+                                  .known-told;
+                            };
+                            first-sot = record { given = g };
+                          };
+                          struct-known = record { given = g' };
+                        } g'')) .1 .0) (CodestreamOffset.struct .as-values (Row.get 6 (T23 .locals)
+                        (m21 record {
+                          before = record { before = record { before = c .before; known-told = c .known-told }; first-sot = record { given = g } };
+                          struct-known = record {
+                            given =
+                                g';
+                          };
+                        } g'')) .0) taken;
+                  };
+                },
+                λ left. lay6 record {
+                  before = record {
+                    before = record {
+                      before = record {
+                        before = record {
+                          before = c .before;
+                          known-told = c
+                              .known-told;
+                        };
+                        first-sot = record { given = g };
+                      };
+                      struct-known = record { given = g' };
+                    };
+                    struct-known2 = record { given = g'' };
+                  };
+                  if1 = record {
+                    left =
+                        Tests.eqb-false (MainHeaderInfo.struct .as-values (Row.get 5 (T23 .locals) (m21 record {
+                          before = record {
+                            before = record {
+                              before = c .before;
+                              known-told = c
+                                  .known-told;
+                            };
+                            first-sot = record { given = g };
+                          };
+                          struct-known = record { given = g' };
+                        } g'')) .1 .0) (CodestreamOffset.struct .as-values (Row.get 6 (T23 .locals)
+                        (m21 record {
+                          before = record { before = record { before = c .before; known-told = c .known-told }; first-sot = record { given = g } };
+                          struct-known = record {
+                            given =
+                                g';
+                          };
+                        } g'')) .0) left;
+                  };
+                },
+              ),
+            ),
+          )
+
+          lay1 : (c : After-decide) → at56 (c .before .before .before .blocks) (W0 (c .before .before .before .κs) (c .before .before .before .args) (c .before .before .before
+              .blocks)) (m9 (c .before) (After-decide·gave c))
+          lay1 = λ c. (
+            λ k. (
+              enum-known-answer record { before = record { before = c .before; decide = c .decide }; match = record { keys1 = k } },
+              λ g. λ g'. lay2 record {
+                before =
+                    record { before = record { before = record { before = c .before; decide = c .decide }; match = record { keys1 = k } }; answer = record { given = g } };
+                known-told =
+                    record { given = g' };
+              },
+            ),
+            (
+              λ k. (
+                enum-told record { before = record { before = c .before; decide = c .decide }; match = record { keys2 = k } },
+                λ g. (
+                  (
+                    Path'.refl,
+                    (Path'.refl, (Path'.refl, tt)),
+                  ),
+                  returns record {
+                    before = record { before = record { before = c .before; decide = c .decide }; match = record { keys2 = k } };
+                    enum-told = record { given = g };
+                  },
+                ),
+              ),
+              Match.each-below 2 (λ j. (Unit {0} × (Run.OneOf (List._∷_ 0 List.[]) j → ⊥)) × (Run.OneOf (List._∷_ 1 List.[]) j → ⊥) → ⊥) (
+                λ n.
+                    n .1 Path'.refl,
+                (λ n. n .0 .1 Path'.refl, tt),
+              ) (Declared.tagOf MainHeader.the-type (Row.get 4 (T13 .locals) (m11 (c .before) (After-decide·gave c)))) (Match.tag-small
+                  MainHeader.the-type (Row.get 4 (T13 .locals) (m11 (c .before) (After-decide·gave c)))),
+            ),
+          )
+
+          pub laid : (c : Start) → at65 (c .blocks) (W0 (c .κs) (c .args) (c .blocks)) (m0 (c .κs) (c .args) (c .blocks))
+          laid = λ c. λ g. λ g'. (
+            decide-requires record { before = record { before = c; shared-slice-known = record { given = g } }; slice-known = record { given = g' } },
+            λ g''.
+                lay1 record {
+                  before = record { before = record { before = c; shared-slice-known = record { given = g } }; slice-known = record { given = g' } };
+                  decide =
+                      Called.called ps·0 r·0 (claims· .1) T9 (
+                        record { pos = 1; ty = Syntax.tyRef (Syntax.named 0) Syntax.imm (Syntax.tyInt Syntax.w8); ref = λ x. x },
+                        (
+                          Num.vAt 8 λ x. x,
+                          (Num.vAt 10 λ x. x, tt),
+                        ),
+                      ) (m8 record { before = c; shared-slice-known = record { given = g } } g') g'';
+                },
+          )
+
+          module _ (κs : Lifetimes.Lfts 3) (qs : Lifetimes.Shares 3) where
+            pub asked : (a : Kinds.Dens κs ps) → (good : Kinds.GoodsP κs ps a) → (pre : Pre· κs a) → (bs : List.List Nat.ℕ) → Φ bs (Any.wantQ 3 ps r xs m κs qs a (Post· κs a))
+                (Function.init 3 ps r xs m κs qs a)
+            asked = λ a good pre bs. laid record { κs = κs; args = record { codestream = a .0; table = a .1 .0; out = a .1 .1 .0 }; blocks = bs; good = good; pre = pre }
+
+          module _ {M : Type 1} (𝓤 : URA.URA M) (H : Wp.Heap 𝓤) (A : Atoms.Atoms 𝓤) (W : Kit.Given 𝓤 H A) (𝓣 : Wp.Tables 𝓤 H) (known0 : Plain.Known 𝓤 H A W 𝓣 1 ps·0 r·0 (claims· .0)
+              (claims· .1) "header::parse::decide") (known1 : Plain.Known 𝓤 H A W 𝓣 0 ps·1 r·1 (claims· .2) (claims· .3) "types::CodestreamOffset::position") (known2 : Plain.Known 𝓤
+              H A W 𝓣 2 ps·2 r·2 (claims· .4) (claims· .5) "header::strip::append") (known3 : Plain.Known 𝓤 H A W 𝓣 2 ps·3 r·3 (claims· .6) (claims· .7)
+              "records::main_header::fill_table") (known4 : Plain.Known 𝓤 H A W 𝓣 2 ps·4 r·4 (claims· .8) (claims· .9) "header::strip::strip") where
+            pub spec : Statement.Triple 𝓤 (Wp.WpFn 𝓤 H (𝓣 .C) (𝓣 .Λ) (Function.fnOf 3 ps r xs m hs body)) (Function.plainOf 𝓤 H A 3 ps r Pre· Post·)
+            spec = Plain.t-fn-plain 𝓤 H A W 𝓣 3 ps r xs m hs body (λ κs qs bs. Φ bs) (λ κs qs bs bd. typed κs qs 𝓤 H A W 𝓣 (known0, known1, known2, known3, known4) bs bd) Pre· Post·
+                asked
