@@ -97,6 +97,26 @@ impl<O> Run<O> {
     }
 }
 
+/// Whether all that was compared was the same, on these cases and with this in the original's place,
+/// of a function and so many others that go through the same cases.
+#[cfg(test)]
+pub fn holds_on<const ALSO: usize, O: Copy>(original: O, cases: fn(&mut Run<O>)) -> bool {
+    const ANY: Wanted = Wanted {
+        name: "f",
+        answers: &[],
+    };
+    let comparison = Comparison {
+        wanted: ANY,
+        also: const { &[ANY; ALSO] },
+        minimum: 1,
+        original,
+        fixed: cases,
+        random: None,
+    };
+    let tallies = comparison.tallies(0, Duration::ZERO);
+    tallies.iter().all(Tally::holds)
+}
+
 #[cfg(test)]
 mod tests {
     use super::{Compared, Comparison};

@@ -87,35 +87,18 @@ pub fn component(
 mod tests {
     use super::super::compare::check_with;
     use super::{Original, ORIGINAL};
-    use crate::compare::{Compared, Comparison};
+    use crate::compare::holds_on;
     use crate::sample::sample_a;
     use crate::sample::sizes::header;
-    use crate::tally::Tally;
-    use crate::wanted::Wanted;
-    use std::time::Duration;
-
-    const ANY: Wanted = Wanted {
-        name: "f",
-        answers: &[],
-    };
 
     /// On sample A, in a tile of it and in none, without SOC, and ending before it starts.
     fn holds(original: Original) -> bool {
-        let comparison = Comparison {
-            wanted: ANY,
-            also: &[ANY; 11],
-            minimum: 1,
-            original,
-            fixed: |run| {
-                check_with(run, &sample_a(), 5, &[0, 1]);
-                check_with(run, &sample_a(), 6, &[0]);
-                check_with(run, &sample_a()[1..], 0, &[0]);
-                check_with(run, &header([10, 6, 11, 0, 4, 4, 0, 0]), 0, &[0]);
-            },
-            random: None,
-        };
-        let tallies = comparison.tallies(0, Duration::ZERO);
-        tallies.iter().all(Tally::holds)
+        holds_on::<11, _>(original, |run| {
+            check_with(run, &sample_a(), 5, &[0, 1]);
+            check_with(run, &sample_a(), 6, &[0]);
+            check_with(run, &sample_a()[1..], 0, &[0]);
+            check_with(run, &header([10, 6, 11, 0, 4, 4, 0, 0]), 0, &[0]);
+        })
     }
 
     #[test]

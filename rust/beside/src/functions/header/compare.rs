@@ -183,34 +183,17 @@ fn random(run: &mut Run) {
 #[cfg(test)]
 mod tests {
     use super::{check_with, original, Original};
-    use crate::compare::{Compared, Comparison};
+    use crate::compare::holds_on;
     use crate::model::header::{fillers as counted, is_delimiter, markers, Header};
     use crate::sample::fillers;
-    use crate::tally::Tally;
-    use crate::wanted::Wanted;
-    use std::time::Duration;
-
-    const ANY: Wanted = Wanted {
-        name: "f",
-        answers: &[],
-    };
 
     /// On the headers whose fillers are counted by hand.
     fn holds(original: Original) -> bool {
-        let comparison = Comparison {
-            wanted: ANY,
-            also: &[ANY],
-            minimum: 1,
-            original,
-            fixed: |run| {
-                for (codestream, _) in fillers::counted() {
-                    check_with(run, &codestream, 1, codestream.len());
-                }
-            },
-            random: None,
-        };
-        let tallies = comparison.tallies(0, Duration::ZERO);
-        tallies.iter().all(Tally::holds)
+        holds_on::<1, _>(original, |run| {
+            for (codestream, _) in fillers::counted() {
+                check_with(run, &codestream, 1, codestream.len());
+            }
+        })
     }
 
     /// The original's answer with another number of fillers.

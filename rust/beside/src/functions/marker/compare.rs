@@ -158,34 +158,19 @@ fn random(run: &mut Run) {
 #[cfg(test)]
 mod tests {
     use super::{check_for, original, Original, SIZ, TLM};
-    use crate::compare::{Compared, Comparison};
+    use crate::compare::holds_on;
     use crate::model::header::Header;
     use crate::sample::{opened, sample_a};
-    use crate::tally::Tally;
-    use crate::wanted::Wanted;
-    use std::time::Duration;
 
     /// On sample A, on one that is cut, and on one without TLM.
     fn holds(original: Original) -> bool {
-        let comparison = Comparison {
-            wanted: Wanted {
-                name: "f",
-                answers: &[],
-            },
-            also: &[],
-            minimum: 1,
-            original,
-            fixed: |run| {
-                let sample = sample_a();
-                let short = opened().marker(super::SOT).bytes.clone();
-                for codestream in [&sample[..], &sample[..50], &short] {
-                    check_for(run, codestream, &[SIZ, TLM, 0xFF60]);
-                }
-            },
-            random: None,
-        };
-        let tallies = comparison.tallies(0, Duration::ZERO);
-        tallies.iter().all(Tally::holds)
+        holds_on::<0, _>(original, |run| {
+            let sample = sample_a();
+            let short = opened().marker(super::SOT).bytes.clone();
+            for codestream in [&sample[..], &sample[..50], &short] {
+                check_for(run, codestream, &[SIZ, TLM, 0xFF60]);
+            }
+        })
     }
 
     #[test]
