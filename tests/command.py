@@ -777,6 +777,7 @@ class Runs:
                 found = json.loads(self.run("show", "--json", OUT)[1])["header"]["fillers"]
                 self.hold(f"show tile 5 of {file} {rule}", found, 3)
         self.fillers_of_openjpeg()
+        self.fillers_of_a_folder()
 
     def filled(self, file, start, more, count):
         """Of sample A with so many bytes more, and so many fillers among them."""
@@ -816,6 +817,24 @@ class Runs:
             self.hold(f"show --json {file}", found, count)
             saw = self.decoded(file), self.decoded_tile(file)
             self.hold(f"{file}, decoded", saw, (refused, refused) if count else (whole, tile))
+
+    def fillers_of_a_folder(self):
+        """By the README's own line for a shell: the files with filler, and no word of the others but of one that is refused."""
+        [line] = [line for line in (ROOT / "README.md").read_text().splitlines() if "^filler" in line]
+        folder = self.folder / "asked/flights"
+        folder.mkdir(parents=True)
+        for file, content in {
+            "cut.j2k": SAMPLE[:45] + FILLER,
+            "none.j2k": SAMPLE,
+            "one.j2k": SAMPLE[:45] + FILLER[:2] + SAMPLE[45:],
+            "reserved.j2k": SAMPLE[:45] + b"\xff\x30" + SAMPLE[45:],
+            "three.jp2": jp2(SAMPLE[:45] + FILLER + SAMPLE[57:]),
+        }.items():
+            (folder / file).write_bytes(content)
+        named = os.environ | {"PATH": f"{self.program.parent}:{os.environ['PATH']}"}
+        ended = subprocess.run(["sh", "-c", line], cwd=folder.parent, env=named, capture_output=True)
+        saw = ended.stdout.decode(), ended.stderr.decode()
+        self.hold(line, saw, ("flights/one.j2k\nflights/three.jp2\n", about("flights/cut.j2k", sentence(6, 51))))
 
     def decoded(self, file):
         """Status, picture, and whether OpenJPEG missed a marker."""
