@@ -16,7 +16,10 @@ same-length-2 : tie.Need-same-length-2
 same-length-2 c = search needs
 
 returns : tie.Need-returns
-returns c = (cc, (cc, (cc, (cc, (cc, (cc, cc))))))
+returns c =
+    let read = c .before .before .before .before .before .before .before .before .before .parse-main-header .ensures in
+    let told = c .tell .ensures in
+    rw (← read .0) (told .0, (told .1 .0, (told .1 .1 .0, (told .1 .1 .1 .0, (told .1 .1 .1 .1, (read .1 .0, read .1 .1))))))
 
 pub winterhasp-parse-main-header-spec : {M : Type 1} → statement M
 winterhasp-parse-main-header-spec =
