@@ -13,7 +13,9 @@ A file of crates/*/must-fail has several wrong programs, which are tried togethe
 WHERE is a function, as header::parse::tell, whose proof no longer closes, or a law, as proofs/IsoTlm.antt tlm-entries. This
 reads what the prover said of each file, in target/must-fail after `rt ci` or `rt must-fail`, and holds it to these lines: what
 fails, by a fact of its own and not since something that it cites has failed, is what the programs of the file name, no more and
-no less. An error of form, of a name that is not there, is no fact. Status 1 if anything differs.
+no less. An error of form, of a name that is not there, is no fact. Nor is it one that the search for an equation (`cc`) met a bound
+of its own: a program of which the log says nothing else has a line `# at a bound`, and is named at the end. Status 1 if anything
+differs.
 """
 
 import re
@@ -30,6 +32,7 @@ UNPROVED = re.compile(r"^fn (\S+): no proof: .*does not close", re.M)
 # What fails since something that it cites has failed.
 FOLLOWS = re.compile(r"was not admitted|were not admitted")
 FORM = re.compile(r"expected type `tie\.Need-|not in scope|has no field|module `[^`]+` has no|that can be named|no such|not a function|unknown name|cannot be named|is not defined")
+BOUND = "\n  `cc` met a bound of its own"
 PROOF = re.compile(r"proofs/(.+)/Proof\.antt")
 
 
@@ -43,19 +46,30 @@ def programs(text):
     return found
 
 
+def bounded(text):
+    """The wrong programs that say that no fact is named."""
+    return set(re.findall(r"^## (.*)\n(?:#.*\n)*# at a bound$", text, re.M))
+
+
 def failed(crate, log, folder):
-    """Where the prover's refusals stand, those that follow from others left out; and the errors of form."""
+    """Where the prover's refusals stand, those that follow from others left out, and of these where a fact is named; and the errors
+    of form."""
     where, form = set(UNPROVED.findall(log)), []
-    for path, message in ERROR.findall(log):
+    facts = set(where)
+    for error in ERROR.finditer(log):
+        path, message = error.groups()
         if FOLLOWS.search(message):
             continue
         file = path.removeprefix(f"{folder}/")
         proof = PROOF.fullmatch(file)
         law = re.match(r"`([^`]+)`", message)
-        where.add("::".join([crate, *proof[1].split("/")]) if proof else f"{file} {law[1] if law else ''}".strip())
+        place = "::".join([crate, *proof[1].split("/")]) if proof else f"{file} {law[1] if law else ''}".strip()
+        where.add(place)
+        if not log.startswith(BOUND, error.end()):
+            facts.add(place)
         if FORM.search(message):
             form.append(f"{file}: {message}")
-    return where, form
+    return where, facts, form
 
 
 def faults(crate, name, text, log, folder):
@@ -66,7 +80,10 @@ def faults(crate, name, text, log, folder):
     if len(re.findall(r"^new:", text, re.M)) < len(known):
         said.append("a program without a change")
     wanted = set().union(*known.values()) if known else set()
-    where, form = failed(crate, log, folder)
+    where, facts, form = failed(crate, log, folder)
+    at_bound = {program for program, places in known.items() if places & where - facts}
+    said += [f"{one} is refused at a bound, and names no fact" for one in sorted(at_bound - bounded(text))]
+    said += [f"{one} says that it is refused at a bound, and names a fact" for one in sorted(bounded(text) - at_bound)]
     said += [f"{one} is not refused" for one in sorted(wanted - where)]
     said += [f"{one} is refused, and no program says so" for one in sorted(where - wanted)]
     said += [f"an error of form: {one}" for one in form]
@@ -74,7 +91,7 @@ def faults(crate, name, text, log, folder):
 
 
 def main():
-    said, files, count = [], 0, 0
+    said, files, count, at_bound = [], 0, 0, []
     for edit in sorted(ROOT.glob("crates/*/must-fail/*.edit")):
         crate, name = edit.parts[-3], edit.stem
         if sys.argv[1:] and crate not in sys.argv[1:]:
@@ -92,11 +109,13 @@ def main():
                 changed = re.sub(rf"(^# refused:.*?){re.escape(where)}(?=,|$)", rf"\g<1>{other}", text, flags=re.M)
                 if not faults(crate, name, changed, log.read_text(), folder):
                     said.append(f"{crate}/{name}: this check does not see {where}")
+        at_bound += [f"{crate}/{program}" for program in sorted(bounded(text))]
         files += 1
         count += len(programs(text))
     if not files:
         said.append("there is none")
-    return verdict("edits", said, f"{count} wrong programs in {files} files, each refused where it says")
+    named = f"; OF {len(at_bound)} THE LOG NAMES NO FACT: {', '.join(at_bound)}" if at_bound else ""
+    return verdict("edits", said, f"{count} wrong programs in {files} files, each refused where it says{named}")
 
 
 if __name__ == "__main__":

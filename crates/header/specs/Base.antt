@@ -1,5 +1,6 @@
 -- The step, the walk and the reading as they were said before a step told what it passed: the old text of each definition whose text has changed since,
--- and what is to be forgotten of an answer to have the old one. `proofs/Base.antt` says that nothing else has changed. No contract cites this.
+-- with those that go by one of these, and what is to be forgotten of an answer to have the old one. `proofs/Base.antt` says that nothing else has changed.
+-- No contract cites this.
 use Prim.Native.Nat.{ℕ, _+_}
 use mathlib.Core.Bool.{Bool, true, false, cond}
 use mathlib.Core.List.{List}
