@@ -27,6 +27,8 @@ use Rattle.header.specs.declared.parse.Front.{Front}
 use Rattle.header.specs.declared.parse.MainHeader.{MainHeader}
 use Rattle.header.specs.declared.extent.MainHeaderExtent.the-variants.{Truncated}
 use Rattle.header.proofs.StepLaws.{Told, step-told}
+use Rattle.header.specs.declared.numbering.Numbering.the-variants.{Restarting}
+use Rattle.header.proofs.NumberingLaws.{judged-restart}
 use Rattle.header.proofs.WalkLaws.{not-true-false, tlm-no-delimiter}
 use Rattle.header.specs.declared.tlm.Tlm.the-variants as tlm
 use Rattle.header.specs.declared.walk.WalkStep.the-variants as walk
@@ -135,6 +137,7 @@ room-base rows room (main.Header h) =
     (λ e₁. rw e₁)
 room-base rows room (main.Refused r) = refl
 
-pub parsed-base : (s : List ℕ) (rows room : ℕ) → base.withoutFillers (parsed s rows room) ≡ base.withRoom rows room (base.behindFront s (frontOf s))
+pub parsed-base : (s : List ℕ) (rows room : ℕ) → base.withoutFillers (parsed Restarting s rows room) ≡ base.withRoom rows room (base.behindFront s (frontOf s))
 unfolding parsed
-parsed-base s rows room = room-base rows room (judged s) ∙ ap (base.withRoom rows room) (judged-base s)
+parsed-base s rows room =
+    ap (λ (m : MainHeader). base.withoutFillers (withRoom rows room m)) (judged-restart s) ∙ room-base rows room (judged s) ∙ ap (base.withRoom rows room) (judged-base s)

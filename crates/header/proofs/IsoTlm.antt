@@ -1,7 +1,7 @@
 -- A TLM segment by the standard, anywhere in a codestream, is passed whole and read entry by entry: each row stands where the rows before it end.
--- Segments in the order of Ztlm, all with indices, and a single segment make the standard's table.
+-- Segments in the order of Ztlm make the standard's table where the numbers are carried on; all with indices, and a single segment, make it also where they restart.
 use Prim.Native.Nat.{ℕ, _+_, _*_, _^_, _<_}
-use native.Mathlib.Nat.{add-zero, zero-mul, suc-mul, add-mul, add-sub-cancel-left, mul-div-cancel}
+use native.Mathlib.Nat.{add-zero, add-assoc, zero-mul, suc-mul, add-mul, add-sub-cancel-left, mul-div-cancel}
 use native.Mathlib.Omega.{arith}
 use mathlib.Core.Path.{_≡_, refl, sym, ap, ap₂, _∙_}
 use mathlib.Core.Bool.{Bool, true, false, cond}
@@ -15,7 +15,7 @@ use Rattle.numbers.proofs.BytesLaws.{be-rest}
 use Rattle.numbers.proofs.Rows.{length-rows, be-row, be-behind, be-one}
 use Rattle.types.specs.Markers.{TLM}
 use Rattle.header.specs.Step.{delimits, highFF, segmentEnd, stepAt}
-use Rattle.header.specs.Tlm.{ltlm, stlm, indexSize, lengthSize, entryCount, tlmAt, entryIn, entriesIn}
+use Rattle.header.specs.Tlm.{ltlm, stlm, indexSize, lengthSize, entryCount, tlmAt, entryIn, entriesIn, unindexed, entryOn, entriesOn}
 use Rattle.header.specs.IsoTlm.{Pointer, TlmSegment, pointerWidth, pointerRows, tlmRows, Held, TlmRanges, numbered, numberedOn, insert, ordered, isoTable, restarted, InOrder, AllIndexed}
 use Rattle.header.specs.declared.step.HeaderStep.the-variants.{Segment}
 use Rattle.header.specs.declared.tlm.Tlm.the-variants.{Entries}
@@ -45,18 +45,19 @@ same-choice false x e = e refl
 
 -- the entries whose rows stand where the i-th has its place
 module _ (s : List ℕ) (at ST SP : ℕ) (narrow : indexSize (stlm s at) ≡ ST) (wide : lengthSize (stlm s at) ≡ pointerWidth SP) where
-  entries-rows : (front : List ℕ) (i : ℕ) (ps : List Pointer) (rest : List ℕ) → s ≡ front ++ (bytesOfRows (pointerRows ST SP ps) ++ rest)
-      → length front ≡ at + 6 + i * (ST + pointerWidth SP) → Held ST SP ps → entriesIn s at i (length ps) ≡ numbered ST i ps
-  unfolding entriesIn entryIn numbered pointerRows bytesOfRows widths Held
-  entries-rows front i [] rest whole place h = refl
-  entries-rows front i (p ∷ more) rest whole place h =
-      let index : entryIn s at i .index ≡ cond (eqb ST 0) i (p .Ttlm) =
-      rw (narrow, wide, whole, ← place) (same-choice (eqb ST 0) i (λ e. index-read front ST SP p more rest (h .0 .0 e))) in
-      let bytes : entryIn s at i .bytes ≡ p .Ptlm = rw (narrow, wide, whole, ← place) (length-read front ST SP p more rest (h .0 .1)) in
+  entries-rows : (front : List ℕ) (k i : ℕ) (ps : List Pointer) (rest : List ℕ) → s ≡ front ++ (bytesOfRows (pointerRows ST SP ps) ++ rest)
+      → length front ≡ at + 6 + i * (ST + pointerWidth SP) → Held ST SP ps → entriesOn s at k i (length ps) ≡ numbered ST (k + i) ps
+  unfolding entriesOn entryOn entryIn numbered pointerRows bytesOfRows widths Held
+  entries-rows front k i [] rest whole place h = refl
+  entries-rows front k i (p ∷ more) rest whole place h =
+      let index : entryOn s at k i .index ≡ cond (eqb ST 0) (k + i) (p .Ttlm) =
+      rw (narrow, wide, whole, ← place) (same-choice (eqb ST 0) (k + i) (λ e. rw e (index-read front ST SP p more rest (h .0 .0 e)))) in
+      let bytes : entryOn s at k i .bytes ≡ p .Ptlm = rw (narrow, wide, whole, ← place) (length-read front ST SP p more rest (h .0 .1)) in
       let passed : List ℕ = front ++ bytesOfRows (row ST (p .Ttlm) ∷ row (pointerWidth SP) (p .Ptlm) ∷ []) in
       let next : length passed ≡ at + 6 + (i + 1) * (ST + pointerWidth SP) =
       rw (length-append, length-rows) (omega (arith, add-mul i 1 (ST + pointerWidth SP))) in
-      ap₂ _∷_ (λ j. record { index = index j; bytes = bytes j }) (entries-rows passed (i + 1) more rest (whole ∙ simp append-assoc) next (h .1))
+      ap₂ _∷_ (λ j. record { index = index j; bytes = bytes j })
+      (entries-rows passed k (i + 1) more rest (whole ∙ simp append-assoc) next (h .1) ∙ ap (λ (m : ℕ). numbered ST m more) (sym (add-assoc k i 1)))
 
 -- ---- a segment
 
@@ -101,11 +102,19 @@ module _ (front : List ℕ) (t : TlmSegment) (rest : List ℕ) (r : TlmRanges t)
   pub tlm-read : tlmAt (front ++ (bytesOfRows (tlmRows t) ++ rest)) (length front) ≡ Entries (length (t .pointers))
   tlm-read = tlms.tlm-entries _ _ (omega (arith, length-field)) (λ e. omega (arith, narrow)) ∙ ap Entries tlm-count
 
-  pub tlm-entries : entriesIn (front ++ (bytesOfRows (tlmRows t) ++ rest)) (length front) 0 (length (t .pointers)) ≡ numbered (t .ST) 0 (t .pointers)
+  pub tlm-numbered : (k : ℕ) → entriesOn (front ++ (bytesOfRows (tlmRows t) ++ rest)) (length front) k 0 (length (t .pointers)) ≡ numbered (t .ST) k (t .pointers)
   unfolding tlmRows bytesOfRows widths
-  tlm-entries =
+  tlm-numbered k =
       let head : List ℕ = front ++ bytesOfRows (take 4 (tlmRows t)) in
-      entries-rows _ (length front) (t .ST) (t .SP) narrow wide head 0 (t .pointers) rest (simp append-assoc) (rw (length-append, length-rows) (omega arith)) (r .held)
+      entries-rows _ (length front) (t .ST) (t .SP) narrow wide head k 0 (t .pointers) rest (simp append-assoc) (rw (length-append, length-rows) (omega arith)) (r .held)
+      ∙ ap (λ (m : ℕ). numbered (t .ST) m (t .pointers)) (add-zero k)
+
+  pub tlm-entries : entriesIn (front ++ (bytesOfRows (tlmRows t) ++ rest)) (length front) 0 (length (t .pointers)) ≡ numbered (t .ST) 0 (t .pointers)
+  tlm-entries = sym (tlms.entries-from-0 _ _ _ _) ∙ tlm-numbered 0
+
+  pub tlm-unindexed : unindexed (front ++ (bytesOfRows (tlmRows t) ++ rest)) (length front) ≡ cond (eqb (t .ST) 0) (length (t .pointers)) 0
+  unfolding unindexed
+  tlm-unindexed = rw (narrow, tlm-count)
 
 -- ---- the table
 
@@ -114,6 +123,11 @@ unfolding ordered insert InOrder
 ordered-same [] o = refl
 ordered-same (t ∷ []) o = refl
 ordered-same (t ∷ u ∷ more) o = ap (insert t) (ordered-same (u ∷ more) (o .1)) ∙ rw (le-leb _ _ (o .0))
+
+-- Carried on in file order it is the standard's, for segments in the order of Ztlm.
+pub carried-ordered : (ts : List TlmSegment) → InOrder ts → numberedOn 0 ts ≡ isoTable ts
+unfolding isoTable
+carried-ordered ts o = ap (numberedOn 0) (sym (ordered-same ts o))
 
 -- with an index, the numbering is not looked at
 numbered-indexed : (ST k n : ℕ) (ps : List Pointer) → (ST ≡ 0 → ⊥) → numbered ST k ps ≡ numbered ST n ps
@@ -126,7 +140,7 @@ unfolding restarted numberedOn AllIndexed
 on-indexed k [] a = refl
 on-indexed k (t ∷ more) a = ap₂ _++_ (numbered-indexed (t .ST) 0 k (t .pointers) (a .0)) (on-indexed _ more (a .1))
 
--- Our table is the standard's: for indexed segments in the order of Ztlm, and for a single segment.
+-- Restarting it is the standard's for indexed segments in the order of Ztlm, and for a single segment.
 pub restarted-indexed : (ts : List TlmSegment) → InOrder ts → AllIndexed ts → restarted ts ≡ isoTable ts
 unfolding isoTable
 restarted-indexed ts o a = on-indexed 0 ts a ∙ ap (numberedOn 0) (sym (ordered-same ts o))

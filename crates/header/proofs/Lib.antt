@@ -5,11 +5,13 @@ pub mod TlmFill
 pub mod WalkLaws
 pub mod WalkVisited
 pub mod WalkItems
+pub mod NumberingLaws
 pub mod ParseCounting
 pub mod StripLaws
 pub mod ParseFilling
 pub mod StripLengths
 pub mod ParseLaws
+pub mod Numberings
 pub mod FindLaws
 pub mod Base
 pub mod Iso

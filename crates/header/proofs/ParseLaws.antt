@@ -3,7 +3,7 @@ use Prim.Native.Nat.{ℕ, _+_, _*_, _^_, _≤_, _<_}
 use native.Mathlib.Omega.{arith}
 use mathlib.Core.Path.{_≡_, refl, sym, ap, _∙_}
 use mathlib.Core.Bool.{true, false, _&&_}
-use mathlib.Core.List.{List, _++_}
+use mathlib.Core.List.{List, [], _∷_, _++_}
 use lib.ListN.{length, take, drop}
 use lib.Dec.{leb, eqb}
 use borrow.Author.Tests.{le-leb, lt-leb, eq-eqb, leb-true}
@@ -18,7 +18,8 @@ use Rattle.types.specs.Markers.{SOC, SIZ}
 use Rattle.header.specs.Tlm.{Entry, placed}
 use Rattle.header.specs.Walk.{WalkEnd, firstSot, refused, walkFrom}
 use Rattle.header.specs.Strip.{decodeHeader, tlmEntries}
-use Rattle.header.specs.Parse.{readAs, stands, frontOf, behindFront, judged, withRoom, parsed, tlmTable, tableAfter, outAfter}
+use Rattle.header.specs.Parse.{readAs, stands, frontOf, behindFront, judged, judgedBy, withRoom, parsed, tableBy, tableAfter, outAfter}
+use Rattle.header.specs.declared.numbering.Numbering.{Numbering}
 use Rattle.header.specs.declared.parse.Front.{Front}
 use Rattle.header.specs.declared.parse.Front.the-variants as front
 use Rattle.header.specs.declared.parse.MainHeaderInfo.{MainHeaderInfo}
@@ -26,6 +27,7 @@ use Rattle.header.specs.declared.parse.MainHeader.{MainHeader}
 use Rattle.header.specs.declared.parse.MainHeader.the-variants.{Header, Refused}
 use Rattle.numbers.proofs.Choice.{by-test}
 use Rattle.header.proofs.TlmLaws.{length-placed}
+use Rattle.header.proofs.NumberingLaws.{byFrom, endFrom, length-by, by-accepted}
 use Rattle.header.proofs.StripLengths.{entries-bound, stopped-inside, whole-kept, none-met}
 
 module _ (s : List ℕ) where
@@ -70,6 +72,11 @@ module _ (s : List ℕ) where
 
     pub judged-walk : stands s 0 SOC ≡ true → stands s 2 SIZ ≡ true → judged s ≡ readAs s (walkFrom s 2) (walkFrom s 2 .ended)
     judged-walk e k = judged-sound (front-sound short e k)
+
+-- a list of no entries
+none-long : (es : List Entry) → length es ≡ 0 → es ≡ []
+none-long [] e = refl
+none-long (x ∷ es) e = absurd (omega arith)
 
 and-first : (a b : mathlib.Core.Bool.Bool) → (a && b) ≡ true → a ≡ true
 and-first true b e = refl
@@ -133,68 +140,77 @@ judged-read s h e = rw e at (says s)
 
 -- ---- the answer, by the room
 
-module _ (s : List ℕ) (rows room : ℕ) where
-  pub parsed-refused : (r : Refusal) → judged s ≡ Refused r → parsed s rows room ≡ Refused r
+module _ (n : Numbering) (s : List ℕ) (rows room : ℕ) where
+  pub parsed-refused : (r : Refusal) → judgedBy n s ≡ Refused r → parsed n s rows room ≡ Refused r
   unfolding parsed withRoom
   parsed-refused r e = ap (withRoom rows room) e
 
-  module _ (h : MainHeaderInfo) (e : judged s ≡ Header h) where
-    pub parsed-18 : rows < h .«tlm_entries» → parsed s rows room ≡ Refused (refusal 18 (h .«tlm_entries»))
+  module _ (h : MainHeaderInfo) (e : judgedBy n s ≡ Header h) where
+    pub parsed-18 : rows < h .«tlm_entries» → parsed n s rows room ≡ Refused (refusal 18 (h .«tlm_entries»))
     unfolding parsed withRoom
     parsed-18 few = ap (withRoom rows room) e ∙ rw (lt-leb _ _ few)
 
     module _ (many : h .«tlm_entries» ≤ rows) where
-      pub parsed-17 : room < h .«decode_header_length» → parsed s rows room ≡ Refused (refusal 17 (h .«decode_header_length»))
+      pub parsed-17 : room < h .«decode_header_length» → parsed n s rows room ≡ Refused (refusal 17 (h .«decode_header_length»))
       unfolding parsed withRoom
       parsed-17 few = ap (withRoom rows room) e ∙ rw (le-leb _ _ many, lt-leb _ _ few)
 
-      pub parsed-header : h .«decode_header_length» ≤ room → parsed s rows room ≡ Header h
+      pub parsed-header : h .«decode_header_length» ≤ room → parsed n s rows room ≡ Header h
       unfolding parsed withRoom
       parsed-header fits = ap (withRoom rows room) e ∙ rw (le-leb _ _ many, le-leb _ _ fits)
 
--- ---- what an accepted answer says: the header, that there is room for what is then written, and that the records' offsets fit in 64 bits
+-- ---- what an accepted answer says: the header, that no number passes, that there is room for what is then written, and that the records' offsets fit in
+-- 64 bits
 
-pub record Decided (s : List ℕ) (rows room : ℕ) (h : MainHeaderInfo) : Type 0 where
+pub record Decided (n : Numbering) (s : List ℕ) (rows room : ℕ) (h : MainHeaderInfo) : Type 0 where
   pub read : Read s h
-  pub many : length (tlmEntries s (walkFrom s 2 .visits)) ≤ rows
+  pub ends : endFrom n s 0 2 ≡ firstSot
+  pub many : length (byFrom n s 0 2) ≤ rows
   pub fits : length (decodeHeader s (walkFrom s 2 .visits)) ≤ room
-  pub bound : h .«first_sot_offset» .0 + length (tlmEntries s (walkFrom s 2 .visits)) * 2 ^ 32 < 2 ^ 64
+  pub bound : h .«first_sot_offset» .0 + length (byFrom n s 0 2) * 2 ^ 32 < 2 ^ 64
 
-abbrev Decides : List ℕ → ℕ → ℕ → MainHeader → Type 0
-Decides s rows room (Header h) = Decided s rows room h
-Decides s rows room (Refused r) = Unit {0}
+abbrev Decides : Numbering → List ℕ → ℕ → ℕ → MainHeader → Type 0
+Decides n s rows room (Header h) = Decided n s rows room h
+Decides n s rows room (Refused r) = Unit {0}
 
-decides : (s : List ℕ) (rows room : ℕ) (answer : MainHeader) → Says s answer → Decides s rows room (withRoom rows room answer)
+decides : (n : Numbering) (s : List ℕ) (rows room : ℕ) (answer : MainHeader) → judgedBy n s ≡ answer → Decides n s rows room (withRoom rows room answer)
 unfolding withRoom
-decides s rows room (Header h) r =
-    by-test (Decides s rows room) (leb (h .«tlm_entries») rows)
-    (λ many. by-test (Decides s rows room) (leb (h .«decode_header_length») room)
+decides n s rows room (Header h) e =
+    let accepted = by-accepted n s h e in
+    let r = judged-read s h (accepted .0) in
+    let same = length-by n s 0 (walkFrom s 2 .visits) in
+    by-test (Decides n s rows room) (leb (h .«tlm_entries») rows)
+    (λ many. by-test (Decides n s rows room) (leb (h .«decode_header_length») room)
     (λ fits. record {
       read = r;
-      many = omega (arith, r .entries, leb-true (h .«tlm_entries») rows many);
+      ends = accepted .1;
+      many = omega (arith, r .entries, same, leb-true (h .«tlm_entries») rows many);
       fits = omega (arith, r .header, leb-true (h .«decode_header_length») room fits);
-      bound = omega (arith, r .first, r .short, entries-bound s (r .two), stopped-inside s (r .two));
+      bound = omega (arith, r .first, r .short, same, entries-bound s (r .two), stopped-inside s (r .two));
     })
     (λ _. tt))
     (λ _. tt)
-decides s rows room (Refused r) said = tt
+decides n s rows room (Refused r) e = tt
 
-pub parsed-decided : (s : List ℕ) (rows room : ℕ) (h : MainHeaderInfo) → parsed s rows room ≡ Header h → Decided s rows room h
+pub parsed-decided : (n : Numbering) (s : List ℕ) (rows room : ℕ) (h : MainHeaderInfo) → parsed n s rows room ≡ Header h → Decided n s rows room h
 unfolding parsed
-parsed-decided s rows room h e = rw e at (decides s rows room (judged s) (says s))
+parsed-decided n s rows room h e = rw e at (decides n s rows room (judgedBy n s) refl)
 
 module _ (s : List ℕ) (h : MainHeaderInfo) (r : Read s h) where
   pub first-inside : h .«first_sot_offset» .0 ≤ length s
   first-inside = omega (arith, r .first, stopped-inside s (r .two))
 
   -- what is written is one replacement from the start
-  pub table-put : (table : List ℕ) → put table 0 (rowsOf (placed (h .«first_sot_offset» .0) (tlmEntries s (walkFrom s 2 .visits)))) ≡ tableAfter (Header h) s table
-  unfolding tableAfter tlmTable
-  table-put table =
-      let rows : List ℕ = rowsOf (placed (walkFrom s 2 .stopped) (tlmEntries s (walkFrom s 2 .visits))) in
-      let long : length rows ≡ 18 * h .«tlm_entries» =
-      omega (arith, length-rows (placed (walkFrom s 2 .stopped) (tlmEntries s (walkFrom s 2 .visits))), length-placed (walkFrom s 2 .stopped) (tlmEntries s (walkFrom s 2 .visits)), r .entries) in
-      rw (r .first) (put-start table rows ∙ ap (λ (n : ℕ). rows ++ drop n table) long)
+  pub length-table : (n : Numbering) → length (tableBy n s) ≡ h .«tlm_entries»
+  unfolding tableBy
+  length-table n = length-placed (walkFrom s 2 .stopped) (byFrom n s 0 2) ∙ length-by n s 0 (walkFrom s 2 .visits) ∙ sym (r .entries)
+
+  pub table-put : (n : Numbering) (table : List ℕ) → put table 0 (rowsOf (placed (h .«first_sot_offset» .0) (byFrom n s 0 2))) ≡ tableAfter n (Header h) s table
+  unfolding tableAfter tableBy
+  table-put n table =
+      let rows : List ℕ = rowsOf (tableBy n s) in
+      let long : length rows ≡ 18 * h .«tlm_entries» = omega (arith, length-rows (tableBy n s), length-table n) in
+      rw (r .first) (put-start table rows ∙ ap (λ (m : ℕ). rows ++ drop m table) long)
 
   pub out-put : (out : List ℕ) → put out 0 (decodeHeader s (walkFrom s 2 .visits)) ≡ outAfter (Header h) s out
   unfolding outAfter
@@ -205,10 +221,13 @@ module _ (s : List ℕ) (h : MainHeaderInfo) (r : Read s h) where
     plain-long : length (decodeHeader s (walkFrom s 2 .visits)) ≡ walkFrom s 2 .stopped
     plain-long = sym (r .header) ∙ same ∙ r .first
 
-    pub none-written : {B : Type 0} (L : Layout B) (table : List B) → table ≡ put table 0 (L .all (placed (h .«first_sot_offset» .0) (tlmEntries s (walkFrom s 2 .visits))))
+    none-by : (n : Numbering) → byFrom n s 0 2 ≡ []
+    none-by n = none-long _ (length-by n s 0 (walkFrom s 2 .visits) ∙ ap length (none-met s (r .two) plain-long))
+
+    pub none-written : {B : Type 0} (L : Layout B) (n : Numbering) (table : List B) → table ≡ put table 0 (L .all (placed (h .«first_sot_offset» .0) (byFrom n s 0 2)))
     unfolding placed
-    none-written L table =
-        sym (put-last L table 0) ∙ ap (λ (es : List Entry). put table 0 (L .all (placed (h .«first_sot_offset» .0) es))) (sym (none-met s (r .two) plain-long))
+    none-written L n table =
+        sym (put-last L table 0) ∙ ap (λ (es : List Entry). put table 0 (L .all (placed (h .«first_sot_offset» .0) es))) (sym (none-by n))
 
     pub out-plain : (out : List ℕ) → put out 0 (take (h .«first_sot_offset» .0) s) ≡ outAfter (Header h) s out
     out-plain out = ap (put out 0) (ap (λ (n : ℕ). take n s) (r .first) ∙ sym (whole-kept s (r .two) plain-long)) ∙ out-put out

@@ -79,10 +79,15 @@ isoTable ts = numberedOn 0 (ordered ts)
 
 -- ---- where our table is the same
 
--- ours (docs/RULES.md, "TLM"): in file order, and numbered from 0 in each segment
+-- ours (docs/RULES.md, "TLM") is in file order: carried on it is `numberedOn 0`, and restarting it is numbered from 0 in each segment
 unfoldable pub restarted : List TlmSegment → List Entry
 restarted [] = []
 restarted (t ∷ more) = numbered (t .ST) 0 (t .pointers) ++ restarted more
+
+-- how many entries have no index
+unfoldable pub withoutIndex : List TlmSegment → ℕ
+withoutIndex [] = 0
+withoutIndex (t ∷ more) = cond (eqb (t .ST) 0) (length (t .pointers)) 0 + withoutIndex more
 
 -- Ztlm does not fall from a segment to the next
 unfoldable pub InOrder : List TlmSegment → Type 0

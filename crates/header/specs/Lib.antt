@@ -3,6 +3,7 @@ pub mod Extent
 pub mod Tlm
 pub mod Walk
 pub mod Strip
+pub mod Numbering
 pub mod Parse
 pub mod Find
 pub mod Base

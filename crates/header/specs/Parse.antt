@@ -13,6 +13,8 @@ use Rattle.chain.specs.Chain.{Chain}
 use Rattle.header.specs.Tlm.{placed}
 use Rattle.header.specs.Walk.{WalkEnd, firstSot, refused, walkFrom}
 use Rattle.header.specs.Strip.{fillers, decodeHeader, tlmEntries}
+use Rattle.header.specs.Numbering.{entriesBy, endedBy}
+use Rattle.header.specs.declared.numbering.Numbering.{Numbering}
 use Rattle.header.specs.declared.parse.Front.{Front}
 use Rattle.header.specs.declared.parse.Front.the-variants as front
 use Rattle.header.specs.declared.parse.MainHeader.{MainHeader}
@@ -52,6 +54,16 @@ unfoldable pub judged : List ℕ → MainHeader
 unfolding frontOf behindFront
 judged s = behindFront s (frontOf s)
 
+-- the same by a numbering, which may refuse a segment that the walk passes
+unfoldable pub behindFrontBy : Numbering → List ℕ → Front → MainHeader
+unfolding readAs
+behindFrontBy n s front.Sound = readAs s (walkFrom s 2) (endedBy n s 0 (walkFrom s 2 .visits) (walkFrom s 2 .ended))
+behindFrontBy n s (front.Refused r) = Refused r
+
+unfoldable pub judgedBy : Numbering → List ℕ → MainHeader
+unfolding frontOf behindFrontBy
+judgedBy n s = behindFrontBy n s (frontOf s)
+
 -- 18, then 17, only where all else accepts
 unfoldable pub withRoom : ℕ → ℕ → MainHeader → MainHeader
 withRoom rows room (Header h) =
@@ -59,9 +71,9 @@ withRoom rows room (Header h) =
     (Refused (refusal 18 (h .«tlm_entries»)))
 withRoom rows room (Refused r) = Refused r
 
--- the answer, for a table of so many rows and an output of so many bytes
-unfoldable pub parsed : List ℕ → ℕ → ℕ → MainHeader
-parsed s rows room = withRoom rows room (judged s)
+-- the answer by a numbering, for a table of so many rows and an output of so many bytes
+unfoldable pub parsed : Numbering → List ℕ → ℕ → ℕ → MainHeader
+parsed n s rows room = withRoom rows room (judgedBy n s)
 
 -- an answer for C: its number, 0 where it accepts; the first SOT or a refusal's place; the decode header's length, the TLM entries and the fillers, given
 -- what was held
@@ -85,14 +97,18 @@ abbrev pub headerFillers : MainHeader → ℕ → ℕ
 headerFillers (Header h) held = h .fillers
 headerFillers (Refused r) held = held
 
--- the records of the TLM segments: the first offset is the first SOT
+-- the records of the TLM segments, numbered from 0 in each: the first offset is the first SOT
 unfoldable pub tlmTable : List ℕ → List TilePartEntry
 tlmTable s = placed (walkFrom s 2 .stopped) (tlmEntries s (walkFrom s 2 .visits))
 
+-- the same by a numbering
+unfoldable pub tableBy : Numbering → List ℕ → List TilePartEntry
+tableBy n s = placed (walkFrom s 2 .stopped) (entriesBy n s 0 (walkFrom s 2 .visits))
+
 -- the table after an answer: the records' rows and the rest as it was, or all as it was
-unfoldable pub tableAfter : MainHeader → List ℕ → List ℕ → List ℕ
-tableAfter (Header h) s table = rowsOf (tlmTable s) ++ drop (18 * h .«tlm_entries») table
-tableAfter (Refused r) s table = table
+unfoldable pub tableAfter : Numbering → MainHeader → List ℕ → List ℕ → List ℕ
+tableAfter n (Header h) s table = rowsOf (tableBy n s) ++ drop (18 * h .«tlm_entries») table
+tableAfter n (Refused r) s table = table
 
 -- the output after an answer: the decode header and the rest as it was, or all as it was
 unfoldable pub outAfter : MainHeader → List ℕ → List ℕ → List ℕ

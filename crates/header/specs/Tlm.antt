@@ -73,6 +73,21 @@ unfolding entryIn
 entriesIn s at i zero = []
 entriesIn s at i (suc n) = entryIn s at i ∷ entriesIn s at (i + 1) n
 
+-- how many of a segment's entries have no index: all of them, or none
+unfoldable pub unindexed : List ℕ → ℕ → ℕ
+unindexed s at = cond (eqb (indexSize (stlm s at)) 0) (entryCount s at) 0
+
+-- the i-th entry of a segment whose entries are numbered from k on: without an index it has its number, and an index that is read stays what is read
+unfoldable pub entryOn : List ℕ → ℕ → ℕ → ℕ → Entry
+unfolding entryIn
+entryOn s at k i = record { index = cond (eqb (indexSize (stlm s at)) 0) (k + i) (entryIn s at i .index); bytes = entryIn s at i .bytes }
+
+-- n of these from the i-th on
+unfoldable pub entriesOn : List ℕ → ℕ → ℕ → ℕ → ℕ → List Entry
+unfolding entryOn
+entriesOn s at k i zero = []
+entriesOn s at k i (suc n) = entryOn s at k i ∷ entriesOn s at k (i + 1) n
+
 -- an entry's record, whose tile-part starts at a place
 abbrev pub recordOf : ℕ → Entry → TilePartEntry
 recordOf from e = record { «tile_index» = e .index; offset = record { 0 = from }; length = e .bytes }

@@ -2,6 +2,7 @@
 // decode header, the TLM records; and where a marker stands in it.
 pub mod extent;
 pub mod find;
+pub mod numbering;
 pub mod parse;
 pub mod step;
 pub mod strip;

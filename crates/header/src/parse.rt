@@ -6,9 +6,10 @@ ghost use lib.ListN.{length};
 ghost use Rattle.numbers.specs.Bytes.{put};
 ghost use Rattle.types.specs.Row.{rowsOf};
 ghost use Rattle.header.specs.Tlm.{placed};
-ghost use Rattle.header.specs.Walk.{walkFrom};
-ghost use Rattle.header.specs.Strip.{tlmEntries};
-ghost use Rattle.header.specs.Parse.{readAs, stands, frontOf, judged, parsed, headerNumber, headerFirst, headerLength, headerEntries, headerFillers, tableAfter, outAfter};
+ghost use Rattle.header.specs.Walk.{firstSot, walkFrom};
+ghost use Rattle.header.specs.Numbering.{entriesBy, endedBy};
+ghost use Rattle.header.specs.Parse.{readAs, stands, frontOf, judgedBy, parsed, headerNumber, headerFirst, headerLength, headerEntries, headerFillers, tableAfter, outAfter};
+use crate::numbering::Numbering;
 use crate::walk::WalkStep;
 use types::CodestreamOffset;
 use types::ROW;
@@ -38,14 +39,15 @@ pub enum MainHeader {
 }
 
 // The walk from the SIZ marker on, counting.
-fn walk(codestream: &[u8]) -> MainHeader
+fn walk(codestream: &[u8], numbering: Numbering) -> MainHeader
     requires { ⌜ (2 ≤ length (now codestream)) × (length (now codestream) < 2 ^ 32) ⌝ }
-    ensures { λ r. ⌜ r ≡ readAs (now (codestream .entry)) (walkFrom (now (codestream .entry)) 2) (walkFrom (now (codestream .entry)) 2 .ended) ⌝ }
+    ensures { λ r. ⌜ r ≡ readAs (now (codestream .entry)) (walkFrom (now (codestream .entry)) 2) (endedBy numbering (now (codestream .entry)) 0 (walkFrom (now (codestream .entry)) 2 .visits) (walkFrom (now (codestream .entry)) 2 .ended)) ⌝ }
 {
     let mut at: usize = 2;
     let mut stripped: usize = 0;
     let mut entries: usize = 0;
     let mut fillers: usize = 0;
+    let mut first: usize = 0; // the number of the next segment's first entry
     loop {
         let step = crate::walk::walk_step(codestream, at);
         let WalkStep::Passed(passed) = step else {
@@ -61,6 +63,13 @@ fn walk(codestream: &[u8]) -> MainHeader
         };
         fillers += passed.is_filler as usize;
         if passed.is_tlm {
+            first = crate::numbering::next_number(codestream, at, passed.entries, numbering, first);
+            if 65_535 < first {
+                return MainHeader::Refused(Refusal {
+                    number: 26,
+                    place: at as u64,
+                });
+            }
             stripped += passed.next - at;
             entries += passed.entries;
         }
@@ -99,20 +108,20 @@ pub fn test_front(codestream: &[u8]) -> Front
     Front::Sound
 }
 
-fn judge(codestream: &[u8]) -> MainHeader
-    ensures { λ r. ⌜ r ≡ judged (now (codestream .entry)) ⌝ }
+fn judge(codestream: &[u8], numbering: Numbering) -> MainHeader
+    ensures { λ r. ⌜ r ≡ judgedBy numbering (now (codestream .entry)) ⌝ }
 {
     match test_front(codestream) {
-        Front::Sound => walk(codestream),
+        Front::Sound => walk(codestream, numbering),
         Front::Refused(refusal) => MainHeader::Refused(refusal),
     }
 }
 
 // What the reading into a table of so many rows and an output of so many bytes answers.
-pub fn decide(codestream: &[u8], rows: u64, room: u64) -> MainHeader
-    ensures { λ r. ⌜ r ≡ parsed (now (codestream .entry)) rows room ⌝ }
+pub fn decide(codestream: &[u8], numbering: Numbering, rows: u64, room: u64) -> MainHeader
+    ensures { λ r. ⌜ r ≡ parsed numbering (now (codestream .entry)) rows room ⌝ }
 {
-    let judgement = judge(codestream);
+    let judgement = judge(codestream, numbering);
     let MainHeader::Header(info) = judgement else {
         return judgement;
     };
@@ -162,16 +171,23 @@ pub fn tell(
     }
 }
 
-// Writes the rows of all TLM entries, the first of which starts at `first_sot`.
-fn fill_table(codestream: &[u8], first_sot: CodestreamOffset, table: &mut [u8])
+// Writes the rows of all TLM entries, the first of which starts at `first_sot`, where the numbering refuses none.
+fn fill_table(
+    codestream: &[u8],
+    numbering: Numbering,
+    first_sot: CodestreamOffset,
+    table: &mut [u8],
+)
     requires { ⌜ 2 ≤ length (now codestream) ⌝ }
-    requires { ⌜ 18 * length (tlmEntries (now codestream) (walkFrom (now codestream) 2 .visits)) ≤ length (now table) ⌝ }
-    requires { ⌜ «first_sot» .0 + length (tlmEntries (now codestream) (walkFrom (now codestream) 2 .visits)) * 2 ^ 32 < 2 ^ 64 ⌝ }
-    ensures { λ _. ⌜ now (table .exit) ≡ put (now (table .entry)) 0 (rowsOf (placed («first_sot» .0) (tlmEntries (now (codestream .entry)) (walkFrom (now (codestream .entry)) 2 .visits)))) ⌝ }
+    requires { ⌜ endedBy numbering (now codestream) 0 (walkFrom (now codestream) 2 .visits) (walkFrom (now codestream) 2 .ended) ≡ firstSot ⌝ }
+    requires { ⌜ 18 * length (entriesBy numbering (now codestream) 0 (walkFrom (now codestream) 2 .visits)) ≤ length (now table) ⌝ }
+    requires { ⌜ «first_sot» .0 + length (entriesBy numbering (now codestream) 0 (walkFrom (now codestream) 2 .visits)) * 2 ^ 32 < 2 ^ 64 ⌝ }
+    ensures { λ _. ⌜ now (table .exit) ≡ put (now (table .entry)) 0 (rowsOf (placed («first_sot» .0) (entriesBy numbering (now (codestream .entry)) 0 (walkFrom (now (codestream .entry)) 2 .visits)))) ⌝ }
 {
     let mut at: usize = 2;
     let mut row: usize = 0;
     let mut offset = first_sot;
+    let mut first: usize = 0;
     loop {
         let step = crate::walk::walk_step(codestream, at);
         let WalkStep::Passed(passed) = step else {
@@ -179,19 +195,30 @@ fn fill_table(codestream: &[u8], first_sot: CodestreamOffset, table: &mut [u8])
         };
         if passed.is_tlm {
             let count = passed.entries;
-            offset = crate::tlm::fill_segment(codestream, at, count, offset, table, row);
+            offset = crate::tlm::fill_segment(codestream, at, first, count, offset, table, row);
             row += count * ROW;
+            first = crate::numbering::next_number(codestream, at, count, numbering, first);
         }
         at = passed.next;
     }
 }
 
-pub fn parse_main_header(codestream: &[u8], table: &mut [u8], out: &mut [u8]) -> MainHeader
-    ensures { λ r. ⌜ r ≡ parsed (now (codestream .entry)) (length (now (table .entry)) / 18) (length (now (out .entry))) ⌝ }
-    ensures { λ r. ⌜ now (table .exit) ≡ tableAfter r (now (codestream .entry)) (now (table .entry)) ⌝ }
+pub fn parse_main_header(
+    codestream: &[u8],
+    numbering: Numbering,
+    table: &mut [u8],
+    out: &mut [u8],
+) -> MainHeader
+    ensures { λ r. ⌜ r ≡ parsed numbering (now (codestream .entry)) (length (now (table .entry)) / 18) (length (now (out .entry))) ⌝ }
+    ensures { λ r. ⌜ now (table .exit) ≡ tableAfter numbering r (now (codestream .entry)) (now (table .entry)) ⌝ }
     ensures { λ r. ⌜ now (out .exit) ≡ outAfter r (now (codestream .entry)) (now (out .entry)) ⌝ }
 {
-    let answer = decide(codestream, (table.len() / ROW) as u64, out.len() as u64);
+    let answer = decide(
+        codestream,
+        numbering,
+        (table.len() / ROW) as u64,
+        out.len() as u64,
+    );
     let MainHeader::Header(info) = answer else {
         return answer;
     };
@@ -201,7 +228,7 @@ pub fn parse_main_header(codestream: &[u8], table: &mut [u8], out: &mut [u8]) ->
         crate::strip::append(codestream, 0, first_sot.position(), out, 0);
         return answer;
     }
-    fill_table(codestream, first_sot, table);
+    fill_table(codestream, numbering, first_sot, table);
     crate::strip::strip(codestream, out);
     answer
 }

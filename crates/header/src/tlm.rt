@@ -9,7 +9,7 @@ ghost use lib.Dec.{eqb};
 ghost use Rattle.numbers.specs.Bytes.{be, put};
 ghost use Rattle.types.specs.Row.{rowsOf};
 ghost use Rattle.header.specs.Tlm.{indexSize, lengthSize, Within, tlmAt, Accepted, entryCount};
-ghost use Rattle.header.specs.Tlm.{recordOf, entryIn, entriesIn, placed, total};
+ghost use Rattle.header.specs.Tlm.{recordOf, unindexed, entryOn, entriesOn, placed, total};
 use types::CodestreamOffset;
 use types::ROW;
 use types::Refusal;
@@ -22,7 +22,7 @@ pub enum Tlm {
 }
 
 // ST, bits 5 and 4 of Stlm: the bytes of an entry's index.
-fn index_size(stlm: u8) -> usize
+pub(crate) fn index_size(stlm: u8) -> usize
     ensures { λ r. ⌜ r ≡ indexSize stlm ⌝ }
 {
     (stlm / 16 % 4) as usize
@@ -52,13 +52,14 @@ pub fn tlm_at(codestream: &[u8], at: usize) -> Tlm
     Tlm::Entries((ltlm - 4) / (index_bytes + length_size(stlm)))
 }
 
-// An entry's index, of 0, 1 or 2 bytes; with none it is its number in the segment.
-fn entry_index(codestream: &[u8], place: usize, size: usize, number: u16) -> u16
+// An entry's index, of 0, 1 or 2 bytes; with none it is its number.
+fn entry_index(codestream: &[u8], place: usize, size: usize, number: usize) -> u16
     requires { ⌜ (size ≤ 2) × (place + size ≤ length (now codestream)) ⌝ }
+    requires { ⌜ (size ≡ 0 → number < 2 ^ 16) ⌝ }
     ensures { λ r. ⌜ r ≡ cond (eqb size 0) number (be size (now (codestream .entry)) place) ⌝ }
 {
     if size == 0 {
-        return number;
+        return number as u16;
     }
     if size == 1 {
         return codestream[place] as u16;
@@ -78,17 +79,24 @@ fn entry_length(codestream: &[u8], place: usize, size: usize) -> u64
     }
 }
 
-// The record of a segment's i-th entry, whose tile-part starts at `offset`.
-pub fn tlm_entry(codestream: &[u8], at: usize, i: usize, offset: CodestreamOffset) -> TilePartEntry
+// The record of the i-th entry of a segment whose entries are numbered from `first` on. Its tile-part starts at `offset`.
+pub fn tlm_entry(
+    codestream: &[u8],
+    at: usize,
+    first: usize,
+    i: usize,
+    offset: CodestreamOffset,
+) -> TilePartEntry
     requires { ⌜ Accepted (now codestream) at ⌝ }
     requires { ⌜ i < entryCount (now codestream) at ⌝ }
-    ensures { λ r. ⌜ r ≡ recordOf (offset .0) (entryIn (now (codestream .entry)) at i) ⌝ }
+    requires { ⌜ first + unindexed (now codestream) at ≤ 65_535 ⌝ }
+    ensures { λ r. ⌜ r ≡ recordOf (offset .0) (entryOn (now (codestream .entry)) at first i) ⌝ }
 {
     let stlm = codestream[at + 5];
     let index_bytes = index_size(stlm);
     let length_bytes = length_size(stlm);
     let place = at + 6 + i * (index_bytes + length_bytes);
-    let tile_index = entry_index(codestream, place, index_bytes, i as u16);
+    let tile_index = entry_index(codestream, place, index_bytes, first + i);
     let length = entry_length(codestream, place + index_bytes, length_bytes);
     TilePartEntry {
         tile_index,
@@ -97,11 +105,12 @@ pub fn tlm_entry(codestream: &[u8], at: usize, i: usize, offset: CodestreamOffse
     }
 }
 
-// Writes the rows of a segment's entries from `row` on, the first of which starts at `from`, and gives where the last
-// one ends.
+// Writes the rows of a segment's entries, numbered from `first` on, from `row` on. The first one's tile-part starts at
+// `from`; gives where the last one's ends.
 pub fn fill_segment(
     codestream: &[u8],
     at: usize,
+    first: usize,
     count: usize,
     from: CodestreamOffset,
     table: &mut [u8],
@@ -109,16 +118,17 @@ pub fn fill_segment(
 ) -> CodestreamOffset
     requires { ⌜ Accepted (now codestream) at ⌝ }
     requires { ⌜ count ≡ entryCount (now codestream) at ⌝ }
+    requires { ⌜ first + unindexed (now codestream) at ≤ 65_535 ⌝ }
     requires { ⌜ row + 18 * count ≤ length (now table) ⌝ }
     requires { ⌜ from .0 + count * 2 ^ 32 < 2 ^ 64 ⌝ }
-    ensures { λ r. ⌜ r .0 ≡ from .0 + total (entriesIn (now (codestream .entry)) at 0 count) ⌝ }
-    ensures { λ _. ⌜ now (table .exit) ≡ put (now (table .entry)) row (rowsOf (placed (from .0) (entriesIn (now (codestream .entry)) at 0 count))) ⌝ }
+    ensures { λ r. ⌜ r .0 ≡ from .0 + total (entriesOn (now (codestream .entry)) at first 0 count) ⌝ }
+    ensures { λ _. ⌜ now (table .exit) ≡ put (now (table .entry)) row (rowsOf (placed (from .0) (entriesOn (now (codestream .entry)) at first 0 count))) ⌝ }
 {
     let mut offset = from;
     let mut to = row;
     let mut i: usize = 0;
     while i < count {
-        let entry = tlm_entry(codestream, at, i, offset);
+        let entry = tlm_entry(codestream, at, first, i, offset);
         types::write_row(table, to, entry);
         offset = types::end_of(entry);
         to += ROW;

@@ -9,7 +9,8 @@ use Rattle.types.specs.Row.{rowsOf}
 use Rattle.types.specs.declared.TilePartEntry.{TilePartEntry}
 use Rattle.types.proofs.RowLaws.{length-rows}
 use Rattle.types.proofs.RowStanding.{rows, all-append, all-drop}
-use Rattle.header.specs.Parse.{parsed, tlmTable, tableAfter}
+use Rattle.header.specs.Parse.{parsed, tableBy, tableAfter}
+use Rattle.header.specs.declared.numbering.Numbering.{Numbering}
 use Rattle.header.specs.declared.parse.MainHeader.{MainHeader}
 use Rattle.header.specs.declared.parse.MainHeader.the-variants.{Header, Refused}
 use Rattle.parts.specs.Scan.{entriesFrom, scanned, scannedTable}
@@ -46,10 +47,11 @@ scan-table-agrees s start t =
 
 -- ---- the main header; what is left in the output is given by the answer, alike for both
 
-pub header-agrees : (s : List ℕ) (t : List TilePartEntry) (room : ℕ) → parsed s (length (rowsOf t) / 18) room ≡ parsed s (length t) room
-header-agrees s t room = ap (λ (n : ℕ). parsed s n room) (rows-count t)
+pub header-agrees : (n : Numbering) (s : List ℕ) (t : List TilePartEntry) (room : ℕ) → parsed n s (length (rowsOf t) / 18) room ≡ parsed n s (length t) room
+header-agrees n s t room = ap (λ (m : ℕ). parsed n s m room) (rows-count t)
 
-pub header-table-agrees : (a : MainHeader) (s : List ℕ) (t : List TilePartEntry) → tableAfter a s (rowsOf t) ≡ rowsOf (recordsAfter a s t)
+pub header-table-agrees : (n : Numbering) (a : MainHeader) (s : List ℕ) (t : List TilePartEntry)
+    → tableAfter n a s (rowsOf t) ≡ rowsOf (recordsAfter n a s t)
 unfolding tableAfter recordsAfter
-header-table-agrees (Header h) s t = rows-over (tlmTable s) (h .«tlm_entries») t
-header-table-agrees (Refused r) s t = refl
+header-table-agrees n (Header h) s t = rows-over (tableBy n s) (h .«tlm_entries») t
+header-table-agrees n (Refused r) s t = refl

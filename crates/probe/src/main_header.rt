@@ -3,15 +3,17 @@
 // "For the next developer").
 ghost use mathlib.Core.Path.{_≡_};
 ghost use lib.ListN.{length};
+ghost use Rattle.header.specs.Numbering.{numberingOf};
 ghost use Rattle.header.specs.Parse.{parsed, outAfter, headerNumber, headerFirst, headerLength, headerEntries, headerFillers};
 ghost use Rattle.records.specs.MainHeader.{recordsAfter};
 use types::TilePartEntry;
 
-// `first_sot`: the first SOT's offset, or a refusal's place; `decode_length`: the decode header's length; `entries`: the records;
+// By a numbering. `first_sot`: the first SOT's offset, or a refusal's place; `decode_length`: the decode header's length; `entries`: the records;
 // `fillers`: the delimiters whose high byte is not FF.
 #[no_mangle]
 pub extern "C" fn winterhasp_header_records(
     codestream: &[u8],
+    numbering: u32,
     table: &mut [TilePartEntry],
     out: &mut [u8],
     first_sot: &mut u64,
@@ -19,14 +21,15 @@ pub extern "C" fn winterhasp_header_records(
     entries: &mut u64,
     fillers: &mut u64,
 ) -> u32
-    ensures { λ r. ⌜ r ≡ headerNumber (parsed (now (codestream .entry)) (length (now (table .entry))) (length (now (out .entry)))) ⌝ }
-    ensures { λ _. ⌜ now («first_sot» .exit) ≡ headerFirst (parsed (now (codestream .entry)) (length (now (table .entry))) (length (now (out .entry)))) ⌝ }
-    ensures { λ _. ⌜ now («decode_length» .exit) ≡ headerLength (parsed (now (codestream .entry)) (length (now (table .entry))) (length (now (out .entry)))) (now («decode_length» .entry)) ⌝ }
-    ensures { λ _. ⌜ now (entries .exit) ≡ headerEntries (parsed (now (codestream .entry)) (length (now (table .entry))) (length (now (out .entry)))) (now (entries .entry)) ⌝ }
-    ensures { λ _. ⌜ now (fillers .exit) ≡ headerFillers (parsed (now (codestream .entry)) (length (now (table .entry))) (length (now (out .entry)))) (now (fillers .entry)) ⌝ }
-    ensures { λ _. ⌜ now (table .exit) ≡ recordsAfter (parsed (now (codestream .entry)) (length (now (table .entry))) (length (now (out .entry)))) (now (codestream .entry)) (now (table .entry)) ⌝ }
-    ensures { λ _. ⌜ now (out .exit) ≡ outAfter (parsed (now (codestream .entry)) (length (now (table .entry))) (length (now (out .entry)))) (now (codestream .entry)) (now (out .entry)) ⌝ }
+    ensures { λ r. ⌜ r ≡ headerNumber (parsed (numberingOf numbering) (now (codestream .entry)) (length (now (table .entry))) (length (now (out .entry)))) ⌝ }
+    ensures { λ _. ⌜ now («first_sot» .exit) ≡ headerFirst (parsed (numberingOf numbering) (now (codestream .entry)) (length (now (table .entry))) (length (now (out .entry)))) ⌝ }
+    ensures { λ _. ⌜ now («decode_length» .exit) ≡ headerLength (parsed (numberingOf numbering) (now (codestream .entry)) (length (now (table .entry))) (length (now (out .entry)))) (now («decode_length» .entry)) ⌝ }
+    ensures { λ _. ⌜ now (entries .exit) ≡ headerEntries (parsed (numberingOf numbering) (now (codestream .entry)) (length (now (table .entry))) (length (now (out .entry)))) (now (entries .entry)) ⌝ }
+    ensures { λ _. ⌜ now (fillers .exit) ≡ headerFillers (parsed (numberingOf numbering) (now (codestream .entry)) (length (now (table .entry))) (length (now (out .entry)))) (now (fillers .entry)) ⌝ }
+    ensures { λ _. ⌜ now (table .exit) ≡ recordsAfter (numberingOf numbering) (parsed (numberingOf numbering) (now (codestream .entry)) (length (now (table .entry))) (length (now (out .entry)))) (now (codestream .entry)) (now (table .entry)) ⌝ }
+    ensures { λ _. ⌜ now (out .exit) ≡ outAfter (parsed (numberingOf numbering) (now (codestream .entry)) (length (now (table .entry))) (length (now (out .entry)))) (now (codestream .entry)) (now (out .entry)) ⌝ }
 {
-    let answer = records::main_header::parse_main_header(codestream, table, out);
+    let numbering = header::numbering::numbering_of(numbering);
+    let answer = records::main_header::parse_main_header(codestream, numbering, table, out);
     header::parse::tell(answer, first_sot, decode_length, entries, fillers)
 }

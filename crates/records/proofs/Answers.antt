@@ -14,12 +14,12 @@ use Rattle.parts.specs.declared.scan.Scanned.the-variants.{Table, Refused}
 use Rattle.parts.proofs.ScanAnswers.{answer-counts}
 use Rattle.header.specs.Tlm.{placed}
 use Rattle.header.specs.Walk.{walkFrom}
-use Rattle.header.specs.Strip.{tlmEntries}
-use Rattle.header.specs.Parse.{tlmTable}
+use Rattle.header.specs.Numbering.{entriesBy}
+use Rattle.header.specs.Parse.{tableBy}
+use Rattle.header.specs.declared.numbering.Numbering.{Numbering}
 use Rattle.header.specs.declared.parse.MainHeaderInfo.{MainHeaderInfo}
 use Rattle.header.specs.declared.parse.MainHeader.the-variants.{Header}
-use Rattle.header.proofs.ParseLaws.{Read}
-use Rattle.header.proofs.TlmLaws.{length-placed}
+use Rattle.header.proofs.ParseLaws.{Read, length-table}
 use Rattle.records.specs.MainHeader.{recordsAfter}
 use Rattle.records.specs.Scan.{written, scannedRecords}
 use Rattle.records.specs.Tables.{none, blank}
@@ -42,14 +42,10 @@ module _ (s : List ℕ) (start : ℕ) (table : List TilePartEntry) where
 
 -- ---- the main header
 
-pub records-put : (s : List ℕ) (h : MainHeaderInfo) → Read s h → (table : List TilePartEntry)
-    → put table 0 (placed (h .«first_sot_offset» .0) (tlmEntries s (walkFrom s 2 .visits))) ≡ recordsAfter (Header h) s table
-unfolding recordsAfter tlmTable
-records-put s h r table =
-    let records : List TilePartEntry = placed (walkFrom s 2 .stopped) (tlmEntries s (walkFrom s 2 .visits)) in
-    let many : length records ≡ h .«tlm_entries» =
-    omega (arith, length-placed (walkFrom s 2 .stopped) (tlmEntries s (walkFrom s 2 .visits)), r .entries) in
-    rw (r .first) (put-start table records ∙ ap (λ (n : ℕ). records ++ drop n table) many)
+pub records-put : (n : Numbering) (s : List ℕ) (h : MainHeaderInfo) → Read s h → (table : List TilePartEntry)
+    → put table 0 (placed (h .«first_sot_offset» .0) (entriesBy n s 0 (walkFrom s 2 .visits))) ≡ recordsAfter n (Header h) s table
+unfolding recordsAfter tableBy
+records-put n s h r table = rw (r .first) (put-start table (tableBy n s) ∙ ap (λ (m : ℕ). tableBy n s ++ drop m table) (length-table s h r n))
 
 -- ---- a program's own table
 

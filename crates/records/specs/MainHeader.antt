@@ -3,11 +3,12 @@ use Prim.Native.Nat.{ℕ}
 use mathlib.Core.List.{List, _++_}
 use lib.ListN.{drop}
 use Rattle.types.specs.declared.TilePartEntry.{TilePartEntry}
-use Rattle.header.specs.Parse.{tlmTable}
+use Rattle.header.specs.Parse.{tableBy}
+use Rattle.header.specs.declared.numbering.Numbering.{Numbering}
 use Rattle.header.specs.declared.parse.MainHeader.{MainHeader}
 use Rattle.header.specs.declared.parse.MainHeader.the-variants.{Header, Refused}
 
 -- the table after an answer: the records and the rest as it was, or all as it was
-unfoldable pub recordsAfter : MainHeader → List ℕ → List TilePartEntry → List TilePartEntry
-recordsAfter (Header h) s table = tlmTable s ++ drop (h .«tlm_entries») table
-recordsAfter (Refused r) s table = table
+unfoldable pub recordsAfter : Numbering → MainHeader → List ℕ → List TilePartEntry → List TilePartEntry
+recordsAfter n (Header h) s table = tableBy n s ++ drop (h .«tlm_entries») table
+recordsAfter n (Refused r) s table = table

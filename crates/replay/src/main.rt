@@ -4,6 +4,7 @@
 mod answers;
 mod print;
 
+use header::numbering::Numbering;
 use tile::rules::Rule;
 
 fn main() {
@@ -45,7 +46,7 @@ fn answer_next(file: i32) -> bool {
 fn answer(kind: u8, payload: &[u8]) {
     match kind {
         1 => answers::extent(payload),
-        2 => answers::header(payload),
+        2 => answers::header(payload, Numbering::Restarting),
         3 => answers::scan(payload),
         4 => answers::split(payload),
         5 => answers::rewrite(payload, Rule::Original),
@@ -53,7 +54,7 @@ fn answer(kind: u8, payload: &[u8]) {
         7 => answers::search(payload),
         8 => answers::siz(payload),
         9 => answers::growth(payload),
-        10 => answers::header_records(payload),
+        10 => answers::header_records(payload, Numbering::Restarting),
         11 => answers::scan_records(payload),
         12 => answers::component_sizes(payload),
         13 => answers::rewrite(payload, Rule::AnnexB),
@@ -61,6 +62,8 @@ fn answer(kind: u8, payload: &[u8]) {
         15 => answers::rewrite(payload, Rule::InPlace),
         16 => answers::assembly(payload, Rule::InPlace),
         17 => answers::marker(payload),
+        18 => answers::header(payload, Numbering::CarriedOn),
+        19 => answers::header_records(payload, Numbering::CarriedOn),
         _ => print::text(b"unknown kind"),
     }
     print::text(b"\n");

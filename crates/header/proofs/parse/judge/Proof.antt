@@ -2,7 +2,8 @@
 use native.Mathlib.Omega.{arith}
 use mathlib.Core.Path.{sym, _∙_}
 use borrow.Author.Needs.{needs}
-use Rattle.header.proofs.ParseLaws.{judged-refused, judged-sound, sound-front}
+use Rattle.header.proofs.NumberingLaws.{by-refused, by-sound}
+use Rattle.header.proofs.ParseLaws.{sound-front}
 use Rattle.header.proofs.parse.judge.Statement.{statement}
 use Rattle.header.proofs.parse.judge.Tie as tie
 
@@ -21,10 +22,10 @@ enum-known-refusal : tie.Need-enum-known-refusal
 enum-known-refusal c = search needs
 
 returns : tie.Need-returns
-returns c = c .walk .ensures ∙ sym (judged-sound _ (sym (c .before .before .before .test-front .ensures) ∙ c .before .enum-told .given .1))
+returns c = c .walk .ensures ∙ sym (by-sound _ _ (sym (c .before .before .before .test-front .ensures) ∙ c .before .enum-told .given .1))
 
 returns-2 : tie.Need-returns-2
-returns-2 c = sym (judged-refused _ _ (sym (c .before .before .before .test-front .ensures) ∙ c .before .refusal .given .1))
+returns-2 c = sym (by-refused _ _ _ (sym (c .before .before .before .test-front .ensures) ∙ c .before .refusal .given .1))
 
 pub judge-spec : {M : Type 1} → statement M
 judge-spec =

@@ -15,18 +15,18 @@ use Rattle.header.proofs.parse.parse_main_header.Tie as tie
 
 -- what was decided, where it is a header
 header : (c : tie.After-answer)
-    → parsed (c .before .before .before .before .before .before .args .codestream .now)
+    → parsed (c .before .before .before .before .before .before .args .numbering) (c .before .before .before .before .before .before .args .codestream .now)
     (length (c .before .before .before .before .before .before .args .table .now) / 18)
     (length (c .before .before .before .before .before .before .args .out .now))
     ≡ Header (c .answer .given .0 .0)
 header c = sym (c .before .before .decide .ensures) ∙ c .answer .given .1
 
 decided : (c : tie.After-answer)
-    → Decided (c .before .before .before .before .before .before .args .codestream .now)
+    → Decided (c .before .before .before .before .before .before .args .numbering) (c .before .before .before .before .before .before .args .codestream .now)
     (length (c .before .before .before .before .before .before .args .table .now) / 18)
     (length (c .before .before .before .before .before .before .args .out .now))
     (c .answer .given .0 .0)
-decided c = parsed-decided _ _ _ _ (header c)
+decided c = parsed-decided _ _ _ _ _ (header c)
 
 decide-requires : tie.Need-decide-requires
 decide-requires c κs = search needs
@@ -58,12 +58,12 @@ returns-2 c =
     let r = decided c₁ .read in
     let same = c .before .before .before .before .before .if1 .taken in
     let o = rw (sub-zero, c .before .before .before .before .position .ensures) at (c .before .before .append .ensures .1) in
-    (sym (header c₁), (none-written _ _ r same rows _ ∙ table-put _ _ r _, o ∙ out-plain _ _ r same _))
+    (sym (header c₁), (none-written _ _ r same rows _ _ ∙ table-put _ _ r _ _, o ∙ out-plain _ _ r same _))
 
 fill-table-requires : tie.Need-fill-table-requires
 fill-table-requires c κs =
     let d = decided (c .before .before .before .before .before .before) in
-    (d .read .two, (omega (arith, d .many), omega (arith, d .bound)))
+    (d .read .two, (d .ends, (omega (arith, d .many), omega (arith, d .bound))))
 
 strip-requires : tie.Need-strip-requires
 strip-requires c κs =
@@ -82,7 +82,7 @@ returns-3 c =
     let r = decided c₁ .read in
     let f = c .before .before .before .before .before .before .fill-table .ensures in
     let o = c .before .before .strip .ensures in
-    (sym (header c₁), (f ∙ table-put _ _ r _, o ∙ out-put _ _ r _))
+    (sym (header c₁), (f ∙ table-put _ _ r _ _, o ∙ out-put _ _ r _))
 
 pub parse-main-header-spec : {M : Type 1} → statement M
 parse-main-header-spec =

@@ -8,14 +8,17 @@ use Rattle.numbers.specs.Bytes.{be}
 use Rattle.header.proofs.tlm.entry_index.Statement.{statement}
 use Rattle.header.proofs.tlm.entry_index.Tie as tie
 
+cast-result : tie.Need-cast-result
+cast-result c = omega (arith, c .before .before .pre .1 (c .if1 .taken))
+
 returns : tie.Need-returns
 returns c = rw (eq-eqb _ _ (c .if1 .taken))
 
 shared-slice-read-result : tie.Need-shared-slice-read-result
 shared-slice-read-result c = search needs
 
-cast-result : tie.Need-cast-result
-cast-result c = omega (arith, c .shared-slice-known2 .given (c .before .before .before .before .args .place))
+cast-result-2 : tie.Need-cast-result-2
+cast-result-2 c = omega (arith, c .shared-slice-known2 .given (c .before .before .before .before .args .place))
 
 returns-2 : tie.Need-returns-2
 unfolding be
@@ -33,4 +36,4 @@ returns-3 c =
 pub entry-index-spec : {M : Type 1} → statement M
 entry-index-spec =
     tie.close
-    (tie.spec returns shared-slice-read-result cast-result returns-2 read-u16-requires returns-3)
+    (tie.spec cast-result returns shared-slice-read-result cast-result-2 returns-2 read-u16-requires returns-3)

@@ -9,10 +9,10 @@ use Rattle.header.proofs.tlm.fill_segment.Statement.{statement}
 use Rattle.header.proofs.tlm.fill_segment.Tie as tie
 
 abbrev Inv-loop : tie.InvT-loop
-Inv-loop codestream at count table₀ row offset₀ to₀ i₀ table offset to i = Filled rows codestream at count (offset₀ .0) table₀ row table (offset .0) to i
+Inv-loop codestream at first count table₀ row offset₀ to₀ i₀ table offset to i = Filled rows codestream at first count (offset₀ .0) table₀ row table (offset .0) to i
 
 abbrev μ-loop : tie.MeasureT-loop
-μ-loop codestream at count table₀ row offset₀ to₀ i₀ table offset to i = count - i
+μ-loop codestream at first count table₀ row offset₀ to₀ i₀ table offset to i = count - i
 
 -- a byte is below 256
 bytes : (c : tie.In-loop Inv-loop μ-loop) → (i : ℕ) → getD (c .before .before .before .before .args .codestream .now) i 0 < 256
@@ -23,13 +23,15 @@ ends : (c : tie.After-tlm-entry Inv-loop μ-loop) → c .tlm-entry .result .offs
 ends c =
     let l = c .before .before in
     let a = l .before .before .before .args in
-    rw (c .tlm-entry .ensures) (omega (arith, entry-bound (a .codestream .now) (a .at) (bytes (c .before)) (l .loop .i)))
+    rw (c .tlm-entry .ensures) (omega (arith, entry-bound (a .codestream .now) (a .at) (bytes (c .before)) (a .first) (l .loop .i)))
 
 loop-holds : tie.Need-loop-holds Inv-loop μ-loop
-loop-holds c = let p = c .before .before .pre in none-filled rows (p .1 .1 .0) (p .1 .1 .1)
+loop-holds c = let p = c .before .before .pre in none-filled rows (p .1 .1 .1 .0) (p .1 .1 .1 .1)
 
 tlm-entry-requires : tie.Need-tlm-entry-requires Inv-loop μ-loop
-tlm-entry-requires c κs = (c .before .before .before .before .pre .0, omega arith)
+tlm-entry-requires c κs =
+    let p = c .before .before .before .before .pre in
+    (p .0, (omega arith, p .1 .1 .0))
 
 write-row-requires : tie.Need-write-row-requires Inv-loop μ-loop
 write-row-requires c κs = one-room rows (c .before .before .loop-test .taken) (c .before .before .before .loop .inv)

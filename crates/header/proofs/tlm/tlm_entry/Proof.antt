@@ -1,10 +1,11 @@
 -- An entry of the count lies inside, so what is read at its place is the entry.
 use Prim.Native.Nat.{_+_, _*_, _≤_}
 use native.Mathlib.Omega.{arith}
+use mathlib.Core.Path.{sym, _∙_}
 use lib.ListN.{length}
 use borrow.Author.Needs.{needs}
 use Rattle.header.specs.Step.{segmentEnd}
-use Rattle.header.proofs.TlmFill.{entry-inside, entry-read, count-bound, length-sizes}
+use Rattle.header.proofs.TlmFill.{entry-inside, number-bound, entry-read, count-bound, length-sizes}
 use Rattle.header.proofs.tlm.tlm_entry.Statement.{statement}
 use Rattle.header.proofs.tlm.tlm_entry.Tie as tie
 
@@ -16,7 +17,7 @@ inside : (c : tie.After-length-size)
     ≤ length (c .before .before .before .before .args .codestream .now)
 inside c =
     let p = c .before .before .before .before .pre in
-    rw (c .before .index-size .ensures, c .length-size .ensures) (entry-inside _ _ _ (p .0) (p .1))
+    rw (c .before .index-size .ensures, c .length-size .ensures) (entry-inside _ _ _ (p .0) (p .1 .0))
 
 add-stlm : tie.Need-add-stlm
 unfolding segmentEnd
@@ -44,13 +45,16 @@ mul-place c = omega (arith, inside c)
 add-place-3 : tie.Need-add-place-3
 add-place-3 c = omega (arith, inside c)
 
-cast-entry-index : tie.Need-cast-entry-index
-cast-entry-index c =
+add-entry-index : tie.Need-add-entry-index
+add-entry-index c =
+    let p = c .before .before .before .before .pre in
     let a = c .before .before .before .before .args in
-    omega (arith, count-bound (a .codestream .now) (a .at) (λ i. omega (arith, c .before .before .shared-slice-known2 .given i)))
+    omega (arith, p .1 .0, p .1 .1, count-bound (a .codestream .now) (a .at) (λ i. omega (arith, c .before .before .shared-slice-known2 .given i)))
 
 entry-index-requires : tie.Need-entry-index-requires
-entry-index-requires c κs = (omega arith, omega (arith, inside c))
+entry-index-requires c κs =
+    let p = c .before .before .before .before .pre in
+    ((omega arith, omega (arith, inside c)), λ none. number-bound _ _ _ _ (p .1 .0) (p .1 .1) (sym (c .before .index-size .ensures) ∙ none))
 
 add-entry-length : tie.Need-add-entry-length
 add-entry-length c = omega (arith, inside (c .before))
@@ -61,7 +65,7 @@ entry-length-requires c κs = (rw (c .before .length-size .ensures) (length-size
 returns : tie.Need-returns
 returns c =
     let l = c .before .before in
-    entry-read _ _ _ _ (l .before .index-size .ensures) (l .length-size .ensures) (c .before .entry-index .ensures) (c .entry-length .ensures)
+    entry-read _ _ _ _ _ (l .before .index-size .ensures) (l .length-size .ensures) (c .before .entry-index .ensures) (c .entry-length .ensures)
 
 pub tlm-entry-spec : {M : Type 1} → statement M
 tlm-entry-spec =
@@ -75,7 +79,7 @@ tlm-entry-spec =
     add-place-2
     mul-place
     add-place-3
-    cast-entry-index
+    add-entry-index
     entry-index-requires
     add-entry-length
     entry-length-requires

@@ -8,9 +8,9 @@ use mathlib.Core.List
 use mir.Syntax
 
 abbrev pub ps : List.List (Kinds.PK 7)
-ps = List._∷_ (ShrSlice.pShrS (Referent.rtF (Referent.fInt Syntax.w8)) 0 tt) (List._∷_ (MutSlice.pMutS LentTilePartEntry.row 1 tt) (List._∷_ (MutSlice.pMutS (Referent.rtF
-    (Referent.fInt Syntax.w8)) 2 tt) (List._∷_ (Kinds.pMutF (Referent.fInt Syntax.w64) 3 tt) (List._∷_ (Kinds.pMutF (Referent.fInt Syntax.w64) 4 tt) (List._∷_ (Kinds.pMutF
-    (Referent.fInt Syntax.w64) 5 tt) (List._∷_ (Kinds.pMutF (Referent.fInt Syntax.w64) 6 tt) List.[]))))))
+ps = List._∷_ (ShrSlice.pShrS (Referent.rtF (Referent.fInt Syntax.w8)) 0 tt) (List._∷_ (Kinds.pNum Syntax.w32) (List._∷_ (MutSlice.pMutS LentTilePartEntry.row 1 tt) (List._∷_
+    (MutSlice.pMutS (Referent.rtF (Referent.fInt Syntax.w8)) 2 tt) (List._∷_ (Kinds.pMutF (Referent.fInt Syntax.w64) 3 tt) (List._∷_ (Kinds.pMutF (Referent.fInt Syntax.w64) 4 tt)
+    (List._∷_ (Kinds.pMutF (Referent.fInt Syntax.w64) 5 tt) (List._∷_ (Kinds.pMutF (Referent.fInt Syntax.w64) 6 tt) List.[])))))))
 
 abbrev pub r : Kinds.RK 7
 r = Kinds.rNum Syntax.w32

@@ -45,360 +45,370 @@ module _ (κs : Lifetimes.Lfts 7) where
 
   abbrev pub ensures-1·read : (a : World.ArgsD winterhasp_header_records.signature κs) → (g : Ghost) → (r : World.ResD winterhasp_header_records.signature κs) → (s : Clauses.AtExit
       (Kinds'.endedOf 7 Kinds.ps Kinds.r) κs) → Read.Read (Base a) (Owned r s) λ w. winterhasp_header_records.ensures-1 (w .𝓤) (w .H) κs (w .𝓖 .A) (w .𝓜 .mem) (w .𝓡 .run) (a .0) (a
-      .1 .0) (a .1 .1 .0) (a .1 .1 .1 .0) (a .1 .1 .1 .1 .0) (a .1 .1 .1 .1 .1 .0) (a .1 .1 .1 .1 .1 .1 .0) record { entry = a .0; exit = s .0 } record {
-        entry = a .1 .0;
-        exit = s
-            .1 .0;
-      } record { entry = a .1 .1 .0; exit = s .1 .1 .0 } record { entry = a .1 .1 .1 .0; exit = s .1 .1 .1 .0 } record { entry = a .1 .1 .1 .1 .0; exit = s .1 .1 .1 .1 .0 }
-      record { entry = a .1 .1 .1 .1 .1 .0; exit = s .1 .1 .1 .1 .1 .0 } record { entry = a .1 .1 .1 .1 .1 .1 .0; exit = s .1 .1 .1 .1 .1 .1 .0 } r
+      .1 .0) (a .1 .1 .0) (a .1 .1 .1 .0) (a .1 .1 .1 .1 .0) (a .1 .1 .1 .1 .1 .0) (a .1 .1 .1 .1 .1 .1 .0) (a .1 .1 .1 .1 .1 .1 .1 .0) record { entry = a .0; exit = s .0 } record
+      { entry = a .1 .0; exit = s .1 .0 } record { entry = a .1 .1 .0; exit = s .1 .1 .0 } record { entry = a .1 .1 .1 .0; exit = s .1 .1 .1 .0 } record {
+        entry = a .1 .1 .1 .1 .0;
+        exit = s .1 .1 .1 .1 .0;
+      } record { entry = a .1 .1 .1 .1 .1 .0; exit = s .1 .1 .1 .1 .1 .0 } record { entry = a .1 .1 .1 .1 .1 .1 .0; exit = s .1 .1 .1 .1 .1 .1 .0 } record {
+        entry = a .1 .1 .1 .1 .1 .1 .1 .0;
+        exit = s .1 .1 .1 .1 .1 .1 .1 .0;
+      } r
   ensures-1·read = λ a g r s. Read.all-models (λ w. winterhasp_header_records.ensures-1 (w .𝓤) (w .H) κs (w .𝓖 .A) (w .𝓜 .mem) (w .𝓡 .run) (a .0) (a .1 .0) (a .1 .1 .0) (a .1 .1 .1
-      .0) (a .1 .1 .1 .1 .0) (a .1 .1 .1 .1 .1 .0) (a .1 .1 .1 .1 .1 .1 .0) record { entry = a .0; exit = s .0 } record { entry = a .1 .0; exit = s .1 .0 } record {
-        entry = a .1 .1
+      .0) (a .1 .1 .1 .1 .0) (a .1 .1 .1 .1 .1 .0) (a .1 .1 .1 .1 .1 .1 .0) (a .1 .1 .1 .1 .1 .1 .1 .0) record { entry = a .0; exit = s .0 } record {
+        entry = a .1 .0;
+        exit = s .1
             .0;
-        exit = s .1 .1 .0;
-      } record { entry = a .1 .1 .1 .0; exit = s .1 .1 .1 .0 } record { entry = a .1 .1 .1 .1 .0; exit = s .1 .1 .1 .1 .0 } record {
+      } record { entry = a .1 .1 .0; exit = s .1 .1 .0 } record { entry = a .1 .1 .1 .0; exit = s .1 .1 .1 .0 } record { entry = a .1 .1 .1 .1 .0; exit = s .1 .1 .1 .1 .0 }
+      record { entry = a .1 .1 .1 .1 .1 .0; exit = s .1 .1 .1 .1 .1 .0 } record { entry = a .1 .1 .1 .1 .1 .1 .0; exit = s .1 .1 .1 .1 .1 .1 .0 } record {
         entry = a .1 .1 .1 .1 .1
-            .0;
-        exit = s .1 .1 .1 .1 .1 .0;
-      } record { entry = a .1 .1 .1 .1 .1 .1 .0; exit = s .1 .1 .1 .1 .1 .1 .0 } r) (λ w. search Read.reads) (λ w. Path'.refl) (λ w. Path'.refl) λ w.
-      Path'.refl
+            .1 .1 .0;
+        exit = s .1 .1 .1 .1 .1 .1 .1 .0;
+      } r) (λ w. search Read.reads) (λ w. Path'.refl) (λ w. Path'.refl) λ w. Path'.refl
 
   abbrev pub ensures-2·read : (a : World.ArgsD winterhasp_header_records.signature κs) → (g : Ghost) → (r : World.ResD winterhasp_header_records.signature κs) → (s : Clauses.AtExit
       (Kinds'.endedOf 7 Kinds.ps Kinds.r) κs) → Read.Read (Base a) (Owned r s) λ w. winterhasp_header_records.ensures-2 (w .𝓤) (w .H) κs (w .𝓖 .A) (w .𝓜 .mem) (w .𝓡 .run) (a .0) (a
-      .1 .0) (a .1 .1 .0) (a .1 .1 .1 .0) (a .1 .1 .1 .1 .0) (a .1 .1 .1 .1 .1 .0) (a .1 .1 .1 .1 .1 .1 .0) record { entry = a .0; exit = s .0 } record {
-        entry = a .1 .0;
-        exit = s
-            .1 .0;
-      } record { entry = a .1 .1 .0; exit = s .1 .1 .0 } record { entry = a .1 .1 .1 .0; exit = s .1 .1 .1 .0 } record { entry = a .1 .1 .1 .1 .0; exit = s .1 .1 .1 .1 .0 }
-      record { entry = a .1 .1 .1 .1 .1 .0; exit = s .1 .1 .1 .1 .1 .0 } record { entry = a .1 .1 .1 .1 .1 .1 .0; exit = s .1 .1 .1 .1 .1 .1 .0 } r
+      .1 .0) (a .1 .1 .0) (a .1 .1 .1 .0) (a .1 .1 .1 .1 .0) (a .1 .1 .1 .1 .1 .0) (a .1 .1 .1 .1 .1 .1 .0) (a .1 .1 .1 .1 .1 .1 .1 .0) record { entry = a .0; exit = s .0 } record
+      { entry = a .1 .0; exit = s .1 .0 } record { entry = a .1 .1 .0; exit = s .1 .1 .0 } record { entry = a .1 .1 .1 .0; exit = s .1 .1 .1 .0 } record {
+        entry = a .1 .1 .1 .1 .0;
+        exit = s .1 .1 .1 .1 .0;
+      } record { entry = a .1 .1 .1 .1 .1 .0; exit = s .1 .1 .1 .1 .1 .0 } record { entry = a .1 .1 .1 .1 .1 .1 .0; exit = s .1 .1 .1 .1 .1 .1 .0 } record {
+        entry = a .1 .1 .1 .1 .1 .1 .1 .0;
+        exit = s .1 .1 .1 .1 .1 .1 .1 .0;
+      } r
   ensures-2·read = λ a g r s. Read.all-models (λ w. winterhasp_header_records.ensures-2 (w .𝓤) (w .H) κs (w .𝓖 .A) (w .𝓜 .mem) (w .𝓡 .run) (a .0) (a .1 .0) (a .1 .1 .0) (a .1 .1 .1
-      .0) (a .1 .1 .1 .1 .0) (a .1 .1 .1 .1 .1 .0) (a .1 .1 .1 .1 .1 .1 .0) record { entry = a .0; exit = s .0 } record { entry = a .1 .0; exit = s .1 .0 } record {
-        entry = a .1 .1
+      .0) (a .1 .1 .1 .1 .0) (a .1 .1 .1 .1 .1 .0) (a .1 .1 .1 .1 .1 .1 .0) (a .1 .1 .1 .1 .1 .1 .1 .0) record { entry = a .0; exit = s .0 } record {
+        entry = a .1 .0;
+        exit = s .1
             .0;
-        exit = s .1 .1 .0;
-      } record { entry = a .1 .1 .1 .0; exit = s .1 .1 .1 .0 } record { entry = a .1 .1 .1 .1 .0; exit = s .1 .1 .1 .1 .0 } record {
+      } record { entry = a .1 .1 .0; exit = s .1 .1 .0 } record { entry = a .1 .1 .1 .0; exit = s .1 .1 .1 .0 } record { entry = a .1 .1 .1 .1 .0; exit = s .1 .1 .1 .1 .0 }
+      record { entry = a .1 .1 .1 .1 .1 .0; exit = s .1 .1 .1 .1 .1 .0 } record { entry = a .1 .1 .1 .1 .1 .1 .0; exit = s .1 .1 .1 .1 .1 .1 .0 } record {
         entry = a .1 .1 .1 .1 .1
-            .0;
-        exit = s .1 .1 .1 .1 .1 .0;
-      } record { entry = a .1 .1 .1 .1 .1 .1 .0; exit = s .1 .1 .1 .1 .1 .1 .0 } r) (λ w. search Read.reads) (λ w. Path'.refl) (λ w. Path'.refl) λ w.
-      Path'.refl
+            .1 .1 .0;
+        exit = s .1 .1 .1 .1 .1 .1 .1 .0;
+      } r) (λ w. search Read.reads) (λ w. Path'.refl) (λ w. Path'.refl) λ w. Path'.refl
 
   abbrev pub ensures-3·read : (a : World.ArgsD winterhasp_header_records.signature κs) → (g : Ghost) → (r : World.ResD winterhasp_header_records.signature κs) → (s : Clauses.AtExit
       (Kinds'.endedOf 7 Kinds.ps Kinds.r) κs) → Read.Read (Base a) (Owned r s) λ w. winterhasp_header_records.ensures-3 (w .𝓤) (w .H) κs (w .𝓖 .A) (w .𝓜 .mem) (w .𝓡 .run) (a .0) (a
-      .1 .0) (a .1 .1 .0) (a .1 .1 .1 .0) (a .1 .1 .1 .1 .0) (a .1 .1 .1 .1 .1 .0) (a .1 .1 .1 .1 .1 .1 .0) record { entry = a .0; exit = s .0 } record {
-        entry = a .1 .0;
-        exit = s
-            .1 .0;
-      } record { entry = a .1 .1 .0; exit = s .1 .1 .0 } record { entry = a .1 .1 .1 .0; exit = s .1 .1 .1 .0 } record { entry = a .1 .1 .1 .1 .0; exit = s .1 .1 .1 .1 .0 }
-      record { entry = a .1 .1 .1 .1 .1 .0; exit = s .1 .1 .1 .1 .1 .0 } record { entry = a .1 .1 .1 .1 .1 .1 .0; exit = s .1 .1 .1 .1 .1 .1 .0 } r
+      .1 .0) (a .1 .1 .0) (a .1 .1 .1 .0) (a .1 .1 .1 .1 .0) (a .1 .1 .1 .1 .1 .0) (a .1 .1 .1 .1 .1 .1 .0) (a .1 .1 .1 .1 .1 .1 .1 .0) record { entry = a .0; exit = s .0 } record
+      { entry = a .1 .0; exit = s .1 .0 } record { entry = a .1 .1 .0; exit = s .1 .1 .0 } record { entry = a .1 .1 .1 .0; exit = s .1 .1 .1 .0 } record {
+        entry = a .1 .1 .1 .1 .0;
+        exit = s .1 .1 .1 .1 .0;
+      } record { entry = a .1 .1 .1 .1 .1 .0; exit = s .1 .1 .1 .1 .1 .0 } record { entry = a .1 .1 .1 .1 .1 .1 .0; exit = s .1 .1 .1 .1 .1 .1 .0 } record {
+        entry = a .1 .1 .1 .1 .1 .1 .1 .0;
+        exit = s .1 .1 .1 .1 .1 .1 .1 .0;
+      } r
   ensures-3·read = λ a g r s. Read.all-models (λ w. winterhasp_header_records.ensures-3 (w .𝓤) (w .H) κs (w .𝓖 .A) (w .𝓜 .mem) (w .𝓡 .run) (a .0) (a .1 .0) (a .1 .1 .0) (a .1 .1 .1
-      .0) (a .1 .1 .1 .1 .0) (a .1 .1 .1 .1 .1 .0) (a .1 .1 .1 .1 .1 .1 .0) record { entry = a .0; exit = s .0 } record { entry = a .1 .0; exit = s .1 .0 } record {
-        entry = a .1 .1
+      .0) (a .1 .1 .1 .1 .0) (a .1 .1 .1 .1 .1 .0) (a .1 .1 .1 .1 .1 .1 .0) (a .1 .1 .1 .1 .1 .1 .1 .0) record { entry = a .0; exit = s .0 } record {
+        entry = a .1 .0;
+        exit = s .1
             .0;
-        exit = s .1 .1 .0;
-      } record { entry = a .1 .1 .1 .0; exit = s .1 .1 .1 .0 } record { entry = a .1 .1 .1 .1 .0; exit = s .1 .1 .1 .1 .0 } record {
+      } record { entry = a .1 .1 .0; exit = s .1 .1 .0 } record { entry = a .1 .1 .1 .0; exit = s .1 .1 .1 .0 } record { entry = a .1 .1 .1 .1 .0; exit = s .1 .1 .1 .1 .0 }
+      record { entry = a .1 .1 .1 .1 .1 .0; exit = s .1 .1 .1 .1 .1 .0 } record { entry = a .1 .1 .1 .1 .1 .1 .0; exit = s .1 .1 .1 .1 .1 .1 .0 } record {
         entry = a .1 .1 .1 .1 .1
-            .0;
-        exit = s .1 .1 .1 .1 .1 .0;
-      } record { entry = a .1 .1 .1 .1 .1 .1 .0; exit = s .1 .1 .1 .1 .1 .1 .0 } r) (λ w. search Read.reads) (λ w. Path'.refl) (λ w. Path'.refl) λ w.
-      Path'.refl
+            .1 .1 .0;
+        exit = s .1 .1 .1 .1 .1 .1 .1 .0;
+      } r) (λ w. search Read.reads) (λ w. Path'.refl) (λ w. Path'.refl) λ w. Path'.refl
 
   abbrev pub ensures-4·read : (a : World.ArgsD winterhasp_header_records.signature κs) → (g : Ghost) → (r : World.ResD winterhasp_header_records.signature κs) → (s : Clauses.AtExit
       (Kinds'.endedOf 7 Kinds.ps Kinds.r) κs) → Read.Read (Base a) (Owned r s) λ w. winterhasp_header_records.ensures-4 (w .𝓤) (w .H) κs (w .𝓖 .A) (w .𝓜 .mem) (w .𝓡 .run) (a .0) (a
-      .1 .0) (a .1 .1 .0) (a .1 .1 .1 .0) (a .1 .1 .1 .1 .0) (a .1 .1 .1 .1 .1 .0) (a .1 .1 .1 .1 .1 .1 .0) record { entry = a .0; exit = s .0 } record {
-        entry = a .1 .0;
-        exit = s
-            .1 .0;
-      } record { entry = a .1 .1 .0; exit = s .1 .1 .0 } record { entry = a .1 .1 .1 .0; exit = s .1 .1 .1 .0 } record { entry = a .1 .1 .1 .1 .0; exit = s .1 .1 .1 .1 .0 }
-      record { entry = a .1 .1 .1 .1 .1 .0; exit = s .1 .1 .1 .1 .1 .0 } record { entry = a .1 .1 .1 .1 .1 .1 .0; exit = s .1 .1 .1 .1 .1 .1 .0 } r
+      .1 .0) (a .1 .1 .0) (a .1 .1 .1 .0) (a .1 .1 .1 .1 .0) (a .1 .1 .1 .1 .1 .0) (a .1 .1 .1 .1 .1 .1 .0) (a .1 .1 .1 .1 .1 .1 .1 .0) record { entry = a .0; exit = s .0 } record
+      { entry = a .1 .0; exit = s .1 .0 } record { entry = a .1 .1 .0; exit = s .1 .1 .0 } record { entry = a .1 .1 .1 .0; exit = s .1 .1 .1 .0 } record {
+        entry = a .1 .1 .1 .1 .0;
+        exit = s .1 .1 .1 .1 .0;
+      } record { entry = a .1 .1 .1 .1 .1 .0; exit = s .1 .1 .1 .1 .1 .0 } record { entry = a .1 .1 .1 .1 .1 .1 .0; exit = s .1 .1 .1 .1 .1 .1 .0 } record {
+        entry = a .1 .1 .1 .1 .1 .1 .1 .0;
+        exit = s .1 .1 .1 .1 .1 .1 .1 .0;
+      } r
   ensures-4·read = λ a g r s. Read.all-models (λ w. winterhasp_header_records.ensures-4 (w .𝓤) (w .H) κs (w .𝓖 .A) (w .𝓜 .mem) (w .𝓡 .run) (a .0) (a .1 .0) (a .1 .1 .0) (a .1 .1 .1
-      .0) (a .1 .1 .1 .1 .0) (a .1 .1 .1 .1 .1 .0) (a .1 .1 .1 .1 .1 .1 .0) record { entry = a .0; exit = s .0 } record { entry = a .1 .0; exit = s .1 .0 } record {
-        entry = a .1 .1
+      .0) (a .1 .1 .1 .1 .0) (a .1 .1 .1 .1 .1 .0) (a .1 .1 .1 .1 .1 .1 .0) (a .1 .1 .1 .1 .1 .1 .1 .0) record { entry = a .0; exit = s .0 } record {
+        entry = a .1 .0;
+        exit = s .1
             .0;
-        exit = s .1 .1 .0;
-      } record { entry = a .1 .1 .1 .0; exit = s .1 .1 .1 .0 } record { entry = a .1 .1 .1 .1 .0; exit = s .1 .1 .1 .1 .0 } record {
+      } record { entry = a .1 .1 .0; exit = s .1 .1 .0 } record { entry = a .1 .1 .1 .0; exit = s .1 .1 .1 .0 } record { entry = a .1 .1 .1 .1 .0; exit = s .1 .1 .1 .1 .0 }
+      record { entry = a .1 .1 .1 .1 .1 .0; exit = s .1 .1 .1 .1 .1 .0 } record { entry = a .1 .1 .1 .1 .1 .1 .0; exit = s .1 .1 .1 .1 .1 .1 .0 } record {
         entry = a .1 .1 .1 .1 .1
-            .0;
-        exit = s .1 .1 .1 .1 .1 .0;
-      } record { entry = a .1 .1 .1 .1 .1 .1 .0; exit = s .1 .1 .1 .1 .1 .1 .0 } r) (λ w. search Read.reads) (λ w. Path'.refl) (λ w. Path'.refl) λ w.
-      Path'.refl
+            .1 .1 .0;
+        exit = s .1 .1 .1 .1 .1 .1 .1 .0;
+      } r) (λ w. search Read.reads) (λ w. Path'.refl) (λ w. Path'.refl) λ w. Path'.refl
 
   abbrev pub ensures-5·read : (a : World.ArgsD winterhasp_header_records.signature κs) → (g : Ghost) → (r : World.ResD winterhasp_header_records.signature κs) → (s : Clauses.AtExit
       (Kinds'.endedOf 7 Kinds.ps Kinds.r) κs) → Read.Read (Base a) (Owned r s) λ w. winterhasp_header_records.ensures-5 (w .𝓤) (w .H) κs (w .𝓖 .A) (w .𝓜 .mem) (w .𝓡 .run) (a .0) (a
-      .1 .0) (a .1 .1 .0) (a .1 .1 .1 .0) (a .1 .1 .1 .1 .0) (a .1 .1 .1 .1 .1 .0) (a .1 .1 .1 .1 .1 .1 .0) record { entry = a .0; exit = s .0 } record {
-        entry = a .1 .0;
-        exit = s
-            .1 .0;
-      } record { entry = a .1 .1 .0; exit = s .1 .1 .0 } record { entry = a .1 .1 .1 .0; exit = s .1 .1 .1 .0 } record { entry = a .1 .1 .1 .1 .0; exit = s .1 .1 .1 .1 .0 }
-      record { entry = a .1 .1 .1 .1 .1 .0; exit = s .1 .1 .1 .1 .1 .0 } record { entry = a .1 .1 .1 .1 .1 .1 .0; exit = s .1 .1 .1 .1 .1 .1 .0 } r
+      .1 .0) (a .1 .1 .0) (a .1 .1 .1 .0) (a .1 .1 .1 .1 .0) (a .1 .1 .1 .1 .1 .0) (a .1 .1 .1 .1 .1 .1 .0) (a .1 .1 .1 .1 .1 .1 .1 .0) record { entry = a .0; exit = s .0 } record
+      { entry = a .1 .0; exit = s .1 .0 } record { entry = a .1 .1 .0; exit = s .1 .1 .0 } record { entry = a .1 .1 .1 .0; exit = s .1 .1 .1 .0 } record {
+        entry = a .1 .1 .1 .1 .0;
+        exit = s .1 .1 .1 .1 .0;
+      } record { entry = a .1 .1 .1 .1 .1 .0; exit = s .1 .1 .1 .1 .1 .0 } record { entry = a .1 .1 .1 .1 .1 .1 .0; exit = s .1 .1 .1 .1 .1 .1 .0 } record {
+        entry = a .1 .1 .1 .1 .1 .1 .1 .0;
+        exit = s .1 .1 .1 .1 .1 .1 .1 .0;
+      } r
   ensures-5·read = λ a g r s. Read.all-models (λ w. winterhasp_header_records.ensures-5 (w .𝓤) (w .H) κs (w .𝓖 .A) (w .𝓜 .mem) (w .𝓡 .run) (a .0) (a .1 .0) (a .1 .1 .0) (a .1 .1 .1
-      .0) (a .1 .1 .1 .1 .0) (a .1 .1 .1 .1 .1 .0) (a .1 .1 .1 .1 .1 .1 .0) record { entry = a .0; exit = s .0 } record { entry = a .1 .0; exit = s .1 .0 } record {
-        entry = a .1 .1
+      .0) (a .1 .1 .1 .1 .0) (a .1 .1 .1 .1 .1 .0) (a .1 .1 .1 .1 .1 .1 .0) (a .1 .1 .1 .1 .1 .1 .1 .0) record { entry = a .0; exit = s .0 } record {
+        entry = a .1 .0;
+        exit = s .1
             .0;
-        exit = s .1 .1 .0;
-      } record { entry = a .1 .1 .1 .0; exit = s .1 .1 .1 .0 } record { entry = a .1 .1 .1 .1 .0; exit = s .1 .1 .1 .1 .0 } record {
+      } record { entry = a .1 .1 .0; exit = s .1 .1 .0 } record { entry = a .1 .1 .1 .0; exit = s .1 .1 .1 .0 } record { entry = a .1 .1 .1 .1 .0; exit = s .1 .1 .1 .1 .0 }
+      record { entry = a .1 .1 .1 .1 .1 .0; exit = s .1 .1 .1 .1 .1 .0 } record { entry = a .1 .1 .1 .1 .1 .1 .0; exit = s .1 .1 .1 .1 .1 .1 .0 } record {
         entry = a .1 .1 .1 .1 .1
-            .0;
-        exit = s .1 .1 .1 .1 .1 .0;
-      } record { entry = a .1 .1 .1 .1 .1 .1 .0; exit = s .1 .1 .1 .1 .1 .1 .0 } r) (λ w. search Read.reads) (λ w. Path'.refl) (λ w. Path'.refl) λ w.
-      Path'.refl
+            .1 .1 .0;
+        exit = s .1 .1 .1 .1 .1 .1 .1 .0;
+      } r) (λ w. search Read.reads) (λ w. Path'.refl) (λ w. Path'.refl) λ w. Path'.refl
 
   abbrev pub ensures-6·read : (a : World.ArgsD winterhasp_header_records.signature κs) → (g : Ghost) → (r : World.ResD winterhasp_header_records.signature κs) → (s : Clauses.AtExit
       (Kinds'.endedOf 7 Kinds.ps Kinds.r) κs) → Read.Read (Base a) (Owned r s) λ w. winterhasp_header_records.ensures-6 (w .𝓤) (w .H) κs (w .𝓖 .A) (w .𝓜 .mem) (w .𝓡 .run) (a .0) (a
-      .1 .0) (a .1 .1 .0) (a .1 .1 .1 .0) (a .1 .1 .1 .1 .0) (a .1 .1 .1 .1 .1 .0) (a .1 .1 .1 .1 .1 .1 .0) record { entry = a .0; exit = s .0 } record {
-        entry = a .1 .0;
-        exit = s
-            .1 .0;
-      } record { entry = a .1 .1 .0; exit = s .1 .1 .0 } record { entry = a .1 .1 .1 .0; exit = s .1 .1 .1 .0 } record { entry = a .1 .1 .1 .1 .0; exit = s .1 .1 .1 .1 .0 }
-      record { entry = a .1 .1 .1 .1 .1 .0; exit = s .1 .1 .1 .1 .1 .0 } record { entry = a .1 .1 .1 .1 .1 .1 .0; exit = s .1 .1 .1 .1 .1 .1 .0 } r
+      .1 .0) (a .1 .1 .0) (a .1 .1 .1 .0) (a .1 .1 .1 .1 .0) (a .1 .1 .1 .1 .1 .0) (a .1 .1 .1 .1 .1 .1 .0) (a .1 .1 .1 .1 .1 .1 .1 .0) record { entry = a .0; exit = s .0 } record
+      { entry = a .1 .0; exit = s .1 .0 } record { entry = a .1 .1 .0; exit = s .1 .1 .0 } record { entry = a .1 .1 .1 .0; exit = s .1 .1 .1 .0 } record {
+        entry = a .1 .1 .1 .1 .0;
+        exit = s .1 .1 .1 .1 .0;
+      } record { entry = a .1 .1 .1 .1 .1 .0; exit = s .1 .1 .1 .1 .1 .0 } record { entry = a .1 .1 .1 .1 .1 .1 .0; exit = s .1 .1 .1 .1 .1 .1 .0 } record {
+        entry = a .1 .1 .1 .1 .1 .1 .1 .0;
+        exit = s .1 .1 .1 .1 .1 .1 .1 .0;
+      } r
   ensures-6·read = λ a g r s. Read.all-models (λ w. winterhasp_header_records.ensures-6 (w .𝓤) (w .H) κs (w .𝓖 .A) (w .𝓜 .mem) (w .𝓡 .run) (a .0) (a .1 .0) (a .1 .1 .0) (a .1 .1 .1
-      .0) (a .1 .1 .1 .1 .0) (a .1 .1 .1 .1 .1 .0) (a .1 .1 .1 .1 .1 .1 .0) record { entry = a .0; exit = s .0 } record { entry = a .1 .0; exit = s .1 .0 } record {
-        entry = a .1 .1
+      .0) (a .1 .1 .1 .1 .0) (a .1 .1 .1 .1 .1 .0) (a .1 .1 .1 .1 .1 .1 .0) (a .1 .1 .1 .1 .1 .1 .1 .0) record { entry = a .0; exit = s .0 } record {
+        entry = a .1 .0;
+        exit = s .1
             .0;
-        exit = s .1 .1 .0;
-      } record { entry = a .1 .1 .1 .0; exit = s .1 .1 .1 .0 } record { entry = a .1 .1 .1 .1 .0; exit = s .1 .1 .1 .1 .0 } record {
+      } record { entry = a .1 .1 .0; exit = s .1 .1 .0 } record { entry = a .1 .1 .1 .0; exit = s .1 .1 .1 .0 } record { entry = a .1 .1 .1 .1 .0; exit = s .1 .1 .1 .1 .0 }
+      record { entry = a .1 .1 .1 .1 .1 .0; exit = s .1 .1 .1 .1 .1 .0 } record { entry = a .1 .1 .1 .1 .1 .1 .0; exit = s .1 .1 .1 .1 .1 .1 .0 } record {
         entry = a .1 .1 .1 .1 .1
-            .0;
-        exit = s .1 .1 .1 .1 .1 .0;
-      } record { entry = a .1 .1 .1 .1 .1 .1 .0; exit = s .1 .1 .1 .1 .1 .1 .0 } r) (λ w. search Read.reads) (λ w. Path'.refl) (λ w. Path'.refl) λ w.
-      Path'.refl
+            .1 .1 .0;
+        exit = s .1 .1 .1 .1 .1 .1 .1 .0;
+      } r) (λ w. search Read.reads) (λ w. Path'.refl) (λ w. Path'.refl) λ w. Path'.refl
 
   abbrev pub ensures-7·read : (a : World.ArgsD winterhasp_header_records.signature κs) → (g : Ghost) → (r : World.ResD winterhasp_header_records.signature κs) → (s : Clauses.AtExit
       (Kinds'.endedOf 7 Kinds.ps Kinds.r) κs) → Read.Read (Base a) (Owned r s) λ w. winterhasp_header_records.ensures-7 (w .𝓤) (w .H) κs (w .𝓖 .A) (w .𝓜 .mem) (w .𝓡 .run) (a .0) (a
-      .1 .0) (a .1 .1 .0) (a .1 .1 .1 .0) (a .1 .1 .1 .1 .0) (a .1 .1 .1 .1 .1 .0) (a .1 .1 .1 .1 .1 .1 .0) record { entry = a .0; exit = s .0 } record {
-        entry = a .1 .0;
-        exit = s
-            .1 .0;
-      } record { entry = a .1 .1 .0; exit = s .1 .1 .0 } record { entry = a .1 .1 .1 .0; exit = s .1 .1 .1 .0 } record { entry = a .1 .1 .1 .1 .0; exit = s .1 .1 .1 .1 .0 }
-      record { entry = a .1 .1 .1 .1 .1 .0; exit = s .1 .1 .1 .1 .1 .0 } record { entry = a .1 .1 .1 .1 .1 .1 .0; exit = s .1 .1 .1 .1 .1 .1 .0 } r
+      .1 .0) (a .1 .1 .0) (a .1 .1 .1 .0) (a .1 .1 .1 .1 .0) (a .1 .1 .1 .1 .1 .0) (a .1 .1 .1 .1 .1 .1 .0) (a .1 .1 .1 .1 .1 .1 .1 .0) record { entry = a .0; exit = s .0 } record
+      { entry = a .1 .0; exit = s .1 .0 } record { entry = a .1 .1 .0; exit = s .1 .1 .0 } record { entry = a .1 .1 .1 .0; exit = s .1 .1 .1 .0 } record {
+        entry = a .1 .1 .1 .1 .0;
+        exit = s .1 .1 .1 .1 .0;
+      } record { entry = a .1 .1 .1 .1 .1 .0; exit = s .1 .1 .1 .1 .1 .0 } record { entry = a .1 .1 .1 .1 .1 .1 .0; exit = s .1 .1 .1 .1 .1 .1 .0 } record {
+        entry = a .1 .1 .1 .1 .1 .1 .1 .0;
+        exit = s .1 .1 .1 .1 .1 .1 .1 .0;
+      } r
   ensures-7·read = λ a g r s. Read.all-models (λ w. winterhasp_header_records.ensures-7 (w .𝓤) (w .H) κs (w .𝓖 .A) (w .𝓜 .mem) (w .𝓡 .run) (a .0) (a .1 .0) (a .1 .1 .0) (a .1 .1 .1
-      .0) (a .1 .1 .1 .1 .0) (a .1 .1 .1 .1 .1 .0) (a .1 .1 .1 .1 .1 .1 .0) record { entry = a .0; exit = s .0 } record { entry = a .1 .0; exit = s .1 .0 } record {
-        entry = a .1 .1
+      .0) (a .1 .1 .1 .1 .0) (a .1 .1 .1 .1 .1 .0) (a .1 .1 .1 .1 .1 .1 .0) (a .1 .1 .1 .1 .1 .1 .1 .0) record { entry = a .0; exit = s .0 } record {
+        entry = a .1 .0;
+        exit = s .1
             .0;
-        exit = s .1 .1 .0;
-      } record { entry = a .1 .1 .1 .0; exit = s .1 .1 .1 .0 } record { entry = a .1 .1 .1 .1 .0; exit = s .1 .1 .1 .1 .0 } record {
+      } record { entry = a .1 .1 .0; exit = s .1 .1 .0 } record { entry = a .1 .1 .1 .0; exit = s .1 .1 .1 .0 } record { entry = a .1 .1 .1 .1 .0; exit = s .1 .1 .1 .1 .0 }
+      record { entry = a .1 .1 .1 .1 .1 .0; exit = s .1 .1 .1 .1 .1 .0 } record { entry = a .1 .1 .1 .1 .1 .1 .0; exit = s .1 .1 .1 .1 .1 .1 .0 } record {
         entry = a .1 .1 .1 .1 .1
-            .0;
-        exit = s .1 .1 .1 .1 .1 .0;
-      } record { entry = a .1 .1 .1 .1 .1 .1 .0; exit = s .1 .1 .1 .1 .1 .1 .0 } r) (λ w. search Read.reads) (λ w. Path'.refl) (λ w. Path'.refl) λ w.
-      Path'.refl
+            .1 .1 .0;
+        exit = s .1 .1 .1 .1 .1 .1 .1 .0;
+      } r) (λ w. search Read.reads) (λ w. Path'.refl) (λ w. Path'.refl) λ w. Path'.refl
 
   abbrev pub post-read : (a : World.ArgsD winterhasp_header_records.signature κs) → (g : Ghost) → (r : World.ResD winterhasp_header_records.signature κs) → (s : Clauses.AtExit
       (Kinds'.endedOf 7 Kinds.ps Kinds.r) κs) → Read.Read (Base a) (Owned r s) (ensures a g r s)
   post-read = λ a g r s. Read.read-join (λ w. winterhasp_header_records.ensures-1 (w .𝓤) (w .H) κs (w .𝓖 .A) (w .𝓜 .mem) (w .𝓡 .run) (a .0) (a .1 .0) (a .1 .1 .0) (a .1 .1 .1 .0)
-      (a .1 .1 .1 .1 .0) (a .1 .1 .1 .1 .1 .0) (a .1 .1 .1 .1 .1 .1 .0) record { entry = a .0; exit = s .0 } record { entry = a .1 .0; exit = s .1 .0 } record {
-        entry = a .1 .1 .0;
-        exit = s .1 .1 .0;
-      } record { entry = a .1 .1 .1 .0; exit = s .1 .1 .1 .0 } record { entry = a .1 .1 .1 .1 .0; exit = s .1 .1 .1 .1 .0 } record {
+      (a .1 .1 .1 .1 .0) (a .1 .1 .1 .1 .1 .0) (a .1 .1 .1 .1 .1 .1 .0) (a .1 .1 .1 .1 .1 .1 .1 .0) record { entry = a .0; exit = s .0 } record { entry = a .1 .0; exit = s .1 .0 }
+      record { entry = a .1 .1 .0; exit = s .1 .1 .0 } record { entry = a .1 .1 .1 .0; exit = s .1 .1 .1 .0 } record { entry = a .1 .1 .1 .1 .0; exit = s .1 .1 .1 .1 .0 } record {
         entry = a .1 .1 .1 .1 .1 .0;
         exit = s .1 .1 .1 .1 .1 .0;
-      } record { entry = a .1 .1 .1 .1 .1 .1 .0; exit = s .1 .1 .1 .1 .1 .1 .0 } r) (λ w. Logic.sep (w .𝓤) (winterhasp_header_records.ensures-2 (w .𝓤) (w
-      .H) κs (w .𝓖 .A) (w .𝓜 .mem) (w .𝓡 .run) (a .0) (a .1 .0) (a .1 .1 .0) (a .1 .1 .1 .0) (a .1 .1 .1 .1 .0) (a .1 .1 .1 .1 .1 .0) (a .1 .1 .1 .1 .1 .1 .0) record {
-        entry = a
+      } record { entry = a .1 .1 .1 .1 .1 .1 .0; exit = s .1 .1 .1 .1 .1 .1 .0 } record {
+        entry = a .1 .1 .1 .1 .1 .1 .1 .0;
+        exit = s .1 .1 .1 .1 .1 .1 .1 .0;
+      } r) (λ w. Logic.sep (w .𝓤) (winterhasp_header_records.ensures-2 (w .𝓤) (w .H) κs (w .𝓖 .A) (w .𝓜 .mem) (w .𝓡 .run) (a .0) (a .1 .0) (a .1 .1
+      .0) (a .1 .1 .1 .0) (a .1 .1 .1 .1 .0) (a .1 .1 .1 .1 .1 .0) (a .1 .1 .1 .1 .1 .1 .0) (a .1 .1 .1 .1 .1 .1 .1 .0) record { entry = a .0; exit = s .0 } record {
+        entry = a .1
             .0;
-        exit = s .0;
-      } record { entry = a .1 .0; exit = s .1 .0 } record { entry = a .1 .1 .0; exit = s .1 .1 .0 } record { entry = a .1 .1 .1 .0; exit = s .1 .1 .1 .0 } record {
+        exit = s .1 .0;
+      } record { entry = a .1 .1 .0; exit = s .1 .1 .0 } record { entry = a .1 .1 .1 .0; exit = s .1 .1 .1 .0 } record {
         entry = a .1 .1 .1 .1 .0;
+        exit = s .1 .1
+            .1 .1 .0;
+      } record { entry = a .1 .1 .1 .1 .1 .0; exit = s .1 .1 .1 .1 .1 .0 } record { entry = a .1 .1 .1 .1 .1 .1 .0; exit = s .1 .1 .1 .1 .1 .1 .0 } record {
+        entry = a .1
+            .1 .1 .1 .1 .1 .1 .0;
+        exit = s .1 .1 .1 .1 .1 .1 .1 .0;
+      } r) (Logic.sep (w .𝓤) (winterhasp_header_records.ensures-3 (w .𝓤) (w .H) κs (w .𝓖 .A) (w .𝓜 .mem) (w .𝓡 .run) (a .0)
+      (a .1 .0) (a .1 .1 .0) (a .1 .1 .1 .0) (a .1 .1 .1 .1 .0) (a .1 .1 .1 .1 .1 .0) (a .1 .1 .1 .1 .1 .1 .0) (a .1 .1 .1 .1 .1 .1 .1 .0) record { entry = a .0; exit = s .0 }
+      record { entry = a .1 .0; exit = s .1 .0 } record { entry = a .1 .1 .0; exit = s .1 .1 .0 } record { entry = a .1 .1 .1 .0; exit = s .1 .1 .1 .0 } record {
+        entry = a .1 .1 .1
+            .1 .0;
+        exit = s .1 .1 .1 .1 .0;
+      } record { entry = a .1 .1 .1 .1 .1 .0; exit = s .1 .1 .1 .1 .1 .0 } record { entry = a .1 .1 .1 .1 .1 .1 .0; exit = s .1 .1 .1 .1 .1 .1 .0 }
+      record { entry = a .1 .1 .1 .1 .1 .1 .1 .0; exit = s .1 .1 .1 .1 .1 .1 .1 .0 } r) (Logic.sep (w .𝓤) (winterhasp_header_records.ensures-4 (w .𝓤) (w .H) κs (w .𝓖 .A) (w .𝓜
+      .mem) (w .𝓡 .run) (a .0) (a .1 .0) (a .1 .1 .0) (a .1 .1 .1 .0) (a .1 .1 .1 .1 .0) (a .1 .1 .1 .1 .1 .0) (a .1 .1 .1 .1 .1 .1 .0) (a .1 .1 .1 .1 .1 .1 .1 .0) record {
+        entry =
+            a .0;
+        exit = s .0;
+      } record { entry = a .1 .0; exit = s .1 .0 } record { entry = a .1 .1 .0; exit = s .1 .1 .0 } record { entry = a .1 .1 .1 .0; exit = s .1 .1 .1 .0 } record
+      { entry = a .1 .1 .1 .1 .0; exit = s .1 .1 .1 .1 .0 } record { entry = a .1 .1 .1 .1 .1 .0; exit = s .1 .1 .1 .1 .1 .0 } record {
+        entry = a .1 .1 .1 .1 .1 .1 .0;
+        exit = s .1
+            .1 .1 .1 .1 .1 .0;
+      } record { entry = a .1 .1 .1 .1 .1 .1 .1 .0; exit = s .1 .1 .1 .1 .1 .1 .1 .0 } r) (Logic.sep (w .𝓤) (winterhasp_header_records.ensures-5 (w .𝓤) (w .H) κs
+      (w .𝓖 .A) (w .𝓜 .mem) (w .𝓡 .run) (a .0) (a .1 .0) (a .1 .1 .0) (a .1 .1 .1 .0) (a .1 .1 .1 .1 .0) (a .1 .1 .1 .1 .1 .0) (a .1 .1 .1 .1 .1 .1 .0) (a .1 .1 .1 .1 .1 .1 .1 .0)
+      record { entry = a .0; exit = s .0 } record { entry = a .1 .0; exit = s .1 .0 } record { entry = a .1 .1 .0; exit = s .1 .1 .0 } record {
+        entry = a .1 .1 .1 .0;
+        exit = s .1
+            .1 .1 .0;
+      } record { entry = a .1 .1 .1 .1 .0; exit = s .1 .1 .1 .1 .0 } record { entry = a .1 .1 .1 .1 .1 .0; exit = s .1 .1 .1 .1 .1 .0 } record {
+        entry = a .1 .1 .1 .1 .1
+            .1 .0;
+        exit = s .1 .1 .1 .1 .1 .1 .0;
+      } record { entry = a .1 .1 .1 .1 .1 .1 .1 .0; exit = s .1 .1 .1 .1 .1 .1 .1 .0 } r) (Logic.sep (w .𝓤)
+      (winterhasp_header_records.ensures-6 (w .𝓤) (w .H) κs (w .𝓖 .A) (w .𝓜 .mem) (w .𝓡 .run) (a .0) (a .1 .0) (a .1 .1 .0) (a .1 .1 .1 .0) (a .1 .1 .1 .1 .0) (a .1 .1 .1 .1 .1 .0)
+      (a .1 .1 .1 .1 .1 .1 .0) (a .1 .1 .1 .1 .1 .1 .1 .0) record { entry = a .0; exit = s .0 } record { entry = a .1 .0; exit = s .1 .0 } record {
+        entry = a .1 .1 .0;
+        exit = s .1
+            .1 .0;
+      } record { entry = a .1 .1 .1 .0; exit = s .1 .1 .1 .0 } record { entry = a .1 .1 .1 .1 .0; exit = s .1 .1 .1 .1 .0 } record {
+        entry = a .1 .1 .1 .1 .1 .0;
+        exit = s .1
+            .1 .1 .1 .1 .0;
+      } record { entry = a .1 .1 .1 .1 .1 .1 .0; exit = s .1 .1 .1 .1 .1 .1 .0 } record { entry = a .1 .1 .1 .1 .1 .1 .1 .0; exit = s .1 .1 .1 .1 .1 .1 .1 .0 } r)
+      (winterhasp_header_records.ensures-7 (w .𝓤) (w .H) κs (w .𝓖 .A) (w .𝓜 .mem) (w .𝓡 .run) (a .0) (a .1 .0) (a .1 .1 .0) (a .1 .1 .1 .0) (a .1 .1 .1 .1 .0) (a .1 .1 .1 .1 .1 .0)
+      (a .1 .1 .1 .1 .1 .1 .0) (a .1 .1 .1 .1 .1 .1 .1 .0) record { entry = a .0; exit = s .0 } record { entry = a .1 .0; exit = s .1 .0 } record {
+        entry = a .1 .1 .0;
+        exit = s .1
+            .1 .0;
+      } record { entry = a .1 .1 .1 .0; exit = s .1 .1 .1 .0 } record { entry = a .1 .1 .1 .1 .0; exit = s .1 .1 .1 .1 .0 } record {
+        entry = a .1 .1 .1 .1 .1 .0;
+        exit = s .1
+            .1 .1 .1 .1 .0;
+      } record { entry = a .1 .1 .1 .1 .1 .1 .0; exit = s .1 .1 .1 .1 .1 .1 .0 } record { entry = a .1 .1 .1 .1 .1 .1 .1 .0; exit = s .1 .1 .1 .1 .1 .1 .1 .0 }
+      r)))))) (ensures-1·read a g r s) (Read.read-join (λ w. winterhasp_header_records.ensures-2 (w .𝓤) (w .H) κs (w .𝓖 .A) (w .𝓜 .mem) (w .𝓡 .run) (a .0) (a .1 .0) (a .1 .1 .0) (a
+      .1 .1 .1 .0) (a .1 .1 .1 .1 .0) (a .1 .1 .1 .1 .1 .0) (a .1 .1 .1 .1 .1 .1 .0) (a .1 .1 .1 .1 .1 .1 .1 .0) record { entry = a .0; exit = s .0 } record {
+        entry = a .1 .0;
+        exit
+            = s .1 .0;
+      } record { entry = a .1 .1 .0; exit = s .1 .1 .0 } record { entry = a .1 .1 .1 .0; exit = s .1 .1 .1 .0 } record {
+        entry = a .1 .1 .1 .1 .0;
+        exit = s .1 .1 .1 .1 .0;
+      } record { entry = a .1 .1 .1 .1 .1 .0; exit = s .1 .1 .1 .1 .1 .0 } record { entry = a .1 .1 .1 .1 .1 .1 .0; exit = s .1 .1 .1 .1 .1 .1 .0 } record {
+        entry = a .1 .1 .1 .1
+            .1 .1 .1 .0;
+        exit = s .1 .1 .1 .1 .1 .1 .1 .0;
+      } r) (λ w. Logic.sep (w .𝓤) (winterhasp_header_records.ensures-3 (w .𝓤) (w .H) κs (w .𝓖 .A) (w .𝓜 .mem) (w .𝓡 .run) (a .0) (a .1
+      .0) (a .1 .1 .0) (a .1 .1 .1 .0) (a .1 .1 .1 .1 .0) (a .1 .1 .1 .1 .1 .0) (a .1 .1 .1 .1 .1 .1 .0) (a .1 .1 .1 .1 .1 .1 .1 .0) record { entry = a .0; exit = s .0 } record {
+        entry = a .1 .0;
+        exit = s .1 .0;
+      } record { entry = a .1 .1 .0; exit = s .1 .1 .0 } record { entry = a .1 .1 .1 .0; exit = s .1 .1 .1 .0 } record {
+        entry = a .1 .1 .1 .1 .0;
+        exit = s .1 .1 .1 .1 .0;
+      } record { entry = a .1 .1 .1 .1 .1 .0; exit = s .1 .1 .1 .1 .1 .0 } record { entry = a .1 .1 .1 .1 .1 .1 .0; exit = s .1 .1 .1 .1 .1 .1 .0 } record {
+        entry = a .1 .1 .1 .1 .1 .1 .1 .0;
+        exit = s .1 .1 .1 .1 .1 .1 .1 .0;
+      } r) (Logic.sep (w .𝓤) (winterhasp_header_records.ensures-4 (w .𝓤) (w .H) κs (w .𝓖 .A) (w .𝓜 .mem) (w .𝓡
+      .run) (a .0) (a .1 .0) (a .1 .1 .0) (a .1 .1 .1 .0) (a .1 .1 .1 .1 .0) (a .1 .1 .1 .1 .1 .0) (a .1 .1 .1 .1 .1 .1 .0) (a .1 .1 .1 .1 .1 .1 .1 .0) record {
+        entry = a .0;
+        exit
+            = s .0;
+      } record { entry = a .1 .0; exit = s .1 .0 } record { entry = a .1 .1 .0; exit = s .1 .1 .0 } record { entry = a .1 .1 .1 .0; exit = s .1 .1 .1 .0 } record {
+        entry = a
+            .1 .1 .1 .1 .0;
         exit = s .1 .1 .1 .1 .0;
       } record { entry = a .1 .1 .1 .1 .1 .0; exit = s .1 .1 .1 .1 .1 .0 } record {
         entry = a .1 .1 .1 .1 .1 .1 .0;
-        exit = s .1 .1
-            .1 .1 .1 .1 .0;
-      } r) (Logic.sep (w .𝓤) (winterhasp_header_records.ensures-3 (w .𝓤) (w .H) κs (w .𝓖 .A) (w .𝓜 .mem) (w .𝓡 .run) (a .0) (a .1 .0) (a .1 .1 .0) (a .1 .1 .1 .0) (a
-      .1 .1 .1 .1 .0) (a .1 .1 .1 .1 .1 .0) (a .1 .1 .1 .1 .1 .1 .0) record { entry = a .0; exit = s .0 } record { entry = a .1 .0; exit = s .1 .0 } record {
-        entry = a .1 .1 .0;
-        exit = s .1 .1 .0;
-      } record { entry = a .1 .1 .1 .0; exit = s .1 .1 .1 .0 } record { entry = a .1 .1 .1 .1 .0; exit = s .1 .1 .1 .1 .0 } record {
-        entry = a .1 .1 .1 .1 .1 .0;
-        exit = s .1 .1 .1 .1 .1 .0;
-      } record { entry = a .1 .1 .1 .1 .1 .1 .0; exit = s .1 .1 .1 .1 .1 .1 .0 } r) (Logic.sep (w .𝓤) (winterhasp_header_records.ensures-4 (w .𝓤) (w .H)
-      κs (w .𝓖 .A) (w .𝓜 .mem) (w .𝓡 .run) (a .0) (a .1 .0) (a .1 .1 .0) (a .1 .1 .1 .0) (a .1 .1 .1 .1 .0) (a .1 .1 .1 .1 .1 .0) (a .1 .1 .1 .1 .1 .1 .0) record {
+        exit = s .1 .1 .1 .1 .1
+            .1 .0;
+      } record { entry = a .1 .1 .1 .1 .1 .1 .1 .0; exit = s .1 .1 .1 .1 .1 .1 .1 .0 } r) (Logic.sep (w .𝓤) (winterhasp_header_records.ensures-5 (w .𝓤) (w .H) κs (w .𝓖 .A) (w
+      .𝓜 .mem) (w .𝓡 .run) (a .0) (a .1 .0) (a .1 .1 .0) (a .1 .1 .1 .0) (a .1 .1 .1 .1 .0) (a .1 .1 .1 .1 .1 .0) (a .1 .1 .1 .1 .1 .1 .0) (a .1 .1 .1 .1 .1 .1 .1 .0) record {
         entry = a .0;
         exit = s .0;
-      } record { entry = a .1 .0; exit = s .1 .0 } record { entry = a .1 .1 .0; exit = s .1 .1 .0 } record { entry = a .1 .1 .1 .0; exit = s .1 .1 .1 .0 } record {
-        entry = a .1 .1 .1 .1 .0;
-        exit = s .1 .1 .1 .1 .0;
-      } record { entry = a .1 .1 .1 .1 .1 .0; exit = s .1 .1 .1 .1 .1 .0 } record {
+      } record { entry = a .1 .0; exit = s .1 .0 } record { entry = a .1 .1 .0; exit = s .1 .1 .0 } record { entry = a .1 .1 .1 .0; exit = s .1 .1 .1 .0 }
+      record { entry = a .1 .1 .1 .1 .0; exit = s .1 .1 .1 .1 .0 } record { entry = a .1 .1 .1 .1 .1 .0; exit = s .1 .1 .1 .1 .1 .0 } record {
         entry = a .1 .1 .1 .1 .1 .1 .0;
-        exit = s .1 .1
+        exit
+            = s .1 .1 .1 .1 .1 .1 .0;
+      } record { entry = a .1 .1 .1 .1 .1 .1 .1 .0; exit = s .1 .1 .1 .1 .1 .1 .1 .0 } r) (Logic.sep (w .𝓤) (winterhasp_header_records.ensures-6 (w .𝓤) (w
+      .H) κs (w .𝓖 .A) (w .𝓜 .mem) (w .𝓡 .run) (a .0) (a .1 .0) (a .1 .1 .0) (a .1 .1 .1 .0) (a .1 .1 .1 .1 .0) (a .1 .1 .1 .1 .1 .0) (a .1 .1 .1 .1 .1 .1 .0) (a .1 .1 .1 .1 .1 .1
+      .1 .0) record { entry = a .0; exit = s .0 } record { entry = a .1 .0; exit = s .1 .0 } record { entry = a .1 .1 .0; exit = s .1 .1 .0 } record {
+        entry = a .1 .1 .1 .0;
+        exit =
+            s .1 .1 .1 .0;
+      } record { entry = a .1 .1 .1 .1 .0; exit = s .1 .1 .1 .1 .0 } record { entry = a .1 .1 .1 .1 .1 .0; exit = s .1 .1 .1 .1 .1 .0 } record {
+        entry = a .1 .1 .1 .1
+            .1 .1 .0;
+        exit = s .1 .1 .1 .1 .1 .1 .0;
+      } record { entry = a .1 .1 .1 .1 .1 .1 .1 .0; exit = s .1 .1 .1 .1 .1 .1 .1 .0 } r) (winterhasp_header_records.ensures-7 (w .𝓤) (w .H)
+      κs (w .𝓖 .A) (w .𝓜 .mem) (w .𝓡 .run) (a .0) (a .1 .0) (a .1 .1 .0) (a .1 .1 .1 .0) (a .1 .1 .1 .1 .0) (a .1 .1 .1 .1 .1 .0) (a .1 .1 .1 .1 .1 .1 .0) (a .1 .1 .1 .1 .1 .1 .1
+      .0) record { entry = a .0; exit = s .0 } record { entry = a .1 .0; exit = s .1 .0 } record { entry = a .1 .1 .0; exit = s .1 .1 .0 } record {
+        entry = a .1 .1 .1 .0;
+        exit = s
+            .1 .1 .1 .0;
+      } record { entry = a .1 .1 .1 .1 .0; exit = s .1 .1 .1 .1 .0 } record { entry = a .1 .1 .1 .1 .1 .0; exit = s .1 .1 .1 .1 .1 .0 } record {
+        entry = a .1 .1 .1 .1
+            .1 .1 .0;
+        exit = s .1 .1 .1 .1 .1 .1 .0;
+      } record { entry = a .1 .1 .1 .1 .1 .1 .1 .0; exit = s .1 .1 .1 .1 .1 .1 .1 .0 } r))))) (ensures-2·read a g r s) (Read.read-join (λ w.
+      winterhasp_header_records.ensures-3 (w .𝓤) (w .H) κs (w .𝓖 .A) (w .𝓜 .mem) (w .𝓡 .run) (a .0) (a .1 .0) (a .1 .1 .0) (a .1 .1 .1 .0) (a .1 .1 .1 .1 .0) (a .1 .1 .1 .1 .1 .0)
+      (a .1 .1 .1 .1 .1 .1 .0) (a .1 .1 .1 .1 .1 .1 .1 .0) record { entry = a .0; exit = s .0 } record { entry = a .1 .0; exit = s .1 .0 } record {
+        entry = a .1 .1 .0;
+        exit = s .1
+            .1 .0;
+      } record { entry = a .1 .1 .1 .0; exit = s .1 .1 .1 .0 } record { entry = a .1 .1 .1 .1 .0; exit = s .1 .1 .1 .1 .0 } record {
+        entry = a .1 .1 .1 .1 .1 .0;
+        exit = s .1
+            .1 .1 .1 .1 .0;
+      } record { entry = a .1 .1 .1 .1 .1 .1 .0; exit = s .1 .1 .1 .1 .1 .1 .0 } record { entry = a .1 .1 .1 .1 .1 .1 .1 .0; exit = s .1 .1 .1 .1 .1 .1 .1 .0 } r) (λ
+      w. Logic.sep (w .𝓤) (winterhasp_header_records.ensures-4 (w .𝓤) (w .H) κs (w .𝓖 .A) (w .𝓜 .mem) (w .𝓡 .run) (a .0) (a .1 .0) (a .1 .1 .0) (a .1 .1 .1 .0) (a .1 .1 .1 .1 .0)
+      (a .1 .1 .1 .1 .1 .0) (a .1 .1 .1 .1 .1 .1 .0) (a .1 .1 .1 .1 .1 .1 .1 .0) record { entry = a .0; exit = s .0 } record { entry = a .1 .0; exit = s .1 .0 } record {
+        entry = a
+            .1 .1 .0;
+        exit = s .1 .1 .0;
+      } record { entry = a .1 .1 .1 .0; exit = s .1 .1 .1 .0 } record { entry = a .1 .1 .1 .1 .0; exit = s .1 .1 .1 .1 .0 } record {
+        entry = a .1 .1 .1
+            .1 .1 .0;
+        exit = s .1 .1 .1 .1 .1 .0;
+      } record { entry = a .1 .1 .1 .1 .1 .1 .0; exit = s .1 .1 .1 .1 .1 .1 .0 } record {
+        entry = a .1 .1 .1 .1 .1 .1 .1 .0;
+        exit = s .1 .1 .1
             .1 .1 .1 .1 .0;
       } r) (Logic.sep (w .𝓤) (winterhasp_header_records.ensures-5 (w .𝓤) (w .H) κs (w .𝓖 .A) (w .𝓜 .mem) (w .𝓡 .run) (a .0) (a .1 .0) (a .1 .1 .0) (a .1 .1 .1 .0) (a
-      .1 .1 .1 .1 .0) (a .1 .1 .1 .1 .1 .0) (a .1 .1 .1 .1 .1 .1 .0) record { entry = a .0; exit = s .0 } record { entry = a .1 .0; exit = s .1 .0 } record {
-        entry = a .1 .1 .0;
-        exit = s .1 .1 .0;
-      } record { entry = a .1 .1 .1 .0; exit = s .1 .1 .1 .0 } record { entry = a .1 .1 .1 .1 .0; exit = s .1 .1 .1 .1 .0 } record {
+      .1 .1 .1 .1 .0) (a .1 .1 .1 .1 .1 .0) (a .1 .1 .1 .1 .1 .1 .0) (a .1 .1 .1 .1 .1 .1 .1 .0) record { entry = a .0; exit = s .0 } record { entry = a .1 .0; exit = s .1 .0 }
+      record { entry = a .1 .1 .0; exit = s .1 .1 .0 } record { entry = a .1 .1 .1 .0; exit = s .1 .1 .1 .0 } record { entry = a .1 .1 .1 .1 .0; exit = s .1 .1 .1 .1 .0 } record {
         entry = a .1 .1 .1 .1 .1 .0;
         exit = s .1 .1 .1 .1 .1 .0;
-      } record { entry = a .1 .1 .1 .1 .1 .1 .0; exit = s .1 .1 .1 .1 .1 .1 .0 } r) (Logic.sep (w .𝓤) (winterhasp_header_records.ensures-6 (w .𝓤) (w .H)
-      κs (w .𝓖 .A) (w .𝓜 .mem) (w .𝓡 .run) (a .0) (a .1 .0) (a .1 .1 .0) (a .1 .1 .1 .0) (a .1 .1 .1 .1 .0) (a .1 .1 .1 .1 .1 .0) (a .1 .1 .1 .1 .1 .1 .0) record {
-        entry = a .0;
-        exit = s .0;
-      } record { entry = a .1 .0; exit = s .1 .0 } record { entry = a .1 .1 .0; exit = s .1 .1 .0 } record { entry = a .1 .1 .1 .0; exit = s .1 .1 .1 .0 } record {
-        entry = a .1 .1 .1 .1 .0;
-        exit = s .1 .1 .1 .1 .0;
-      } record { entry = a .1 .1 .1 .1 .1 .0; exit = s .1 .1 .1 .1 .1 .0 } record {
-        entry = a .1 .1 .1 .1 .1 .1 .0;
-        exit = s .1 .1
-            .1 .1 .1 .1 .0;
-      } r) (winterhasp_header_records.ensures-7 (w .𝓤) (w .H) κs (w .𝓖 .A) (w .𝓜 .mem) (w .𝓡 .run) (a .0) (a .1 .0) (a .1 .1 .0) (a .1 .1 .1 .0) (a .1 .1 .1 .1 .0)
-      (a .1 .1 .1 .1 .1 .0) (a .1 .1 .1 .1 .1 .1 .0) record { entry = a .0; exit = s .0 } record { entry = a .1 .0; exit = s .1 .0 } record {
-        entry = a .1 .1 .0;
-        exit = s .1 .1 .0;
-      } record { entry = a .1 .1 .1 .0; exit = s .1 .1 .1 .0 } record { entry = a .1 .1 .1 .1 .0; exit = s .1 .1 .1 .1 .0 } record {
-        entry = a .1 .1 .1 .1 .1 .0;
-        exit = s .1 .1 .1
-            .1 .1 .0;
-      } record { entry = a .1 .1 .1 .1 .1 .1 .0; exit = s .1 .1 .1 .1 .1 .1 .0 } r)))))) (ensures-1·read a g r s) (Read.read-join (λ w. winterhasp_header_records.ensures-2
-      (w .𝓤) (w .H) κs (w .𝓖 .A) (w .𝓜 .mem) (w .𝓡 .run) (a .0) (a .1 .0) (a .1 .1 .0) (a .1 .1 .1 .0) (a .1 .1 .1 .1 .0) (a .1 .1 .1 .1 .1 .0) (a .1 .1 .1 .1 .1 .1 .0) record {
-        entry = a .0;
-        exit = s .0;
-      } record { entry = a .1 .0; exit = s .1 .0 } record { entry = a .1 .1 .0; exit = s .1 .1 .0 } record { entry = a .1 .1 .1 .0; exit = s .1 .1 .1 .0 }
-      record { entry = a .1 .1 .1 .1 .0; exit = s .1 .1 .1 .1 .0 } record { entry = a .1 .1 .1 .1 .1 .0; exit = s .1 .1 .1 .1 .1 .0 } record {
-        entry = a .1 .1 .1 .1 .1 .1 .0;
-        exit
-            = s .1 .1 .1 .1 .1 .1 .0;
-      } r) (λ w. Logic.sep (w .𝓤) (winterhasp_header_records.ensures-3 (w .𝓤) (w .H) κs (w .𝓖 .A) (w .𝓜 .mem) (w .𝓡 .run) (a .0) (a .1 .0) (a .1 .1 .0) (a
-      .1 .1 .1 .0) (a .1 .1 .1 .1 .0) (a .1 .1 .1 .1 .1 .0) (a .1 .1 .1 .1 .1 .1 .0) record { entry = a .0; exit = s .0 } record { entry = a .1 .0; exit = s .1 .0 } record {
-        entry
-            = a .1 .1 .0;
-        exit = s .1 .1 .0;
-      } record { entry = a .1 .1 .1 .0; exit = s .1 .1 .1 .0 } record { entry = a .1 .1 .1 .1 .0; exit = s .1 .1 .1 .1 .0 } record {
-        entry = a .1 .1
-            .1 .1 .1 .0;
-        exit = s .1 .1 .1 .1 .1 .0;
-      } record { entry = a .1 .1 .1 .1 .1 .1 .0; exit = s .1 .1 .1 .1 .1 .1 .0 } r) (Logic.sep (w .𝓤) (winterhasp_header_records.ensures-4
-      (w .𝓤) (w .H) κs (w .𝓖 .A) (w .𝓜 .mem) (w .𝓡 .run) (a .0) (a .1 .0) (a .1 .1 .0) (a .1 .1 .1 .0) (a .1 .1 .1 .1 .0) (a .1 .1 .1 .1 .1 .0) (a .1 .1 .1 .1 .1 .1 .0) record {
-        entry = a .0;
-        exit = s .0;
-      } record { entry = a .1 .0; exit = s .1 .0 } record { entry = a .1 .1 .0; exit = s .1 .1 .0 } record { entry = a .1 .1 .1 .0; exit = s .1 .1 .1 .0 }
-      record { entry = a .1 .1 .1 .1 .0; exit = s .1 .1 .1 .1 .0 } record { entry = a .1 .1 .1 .1 .1 .0; exit = s .1 .1 .1 .1 .1 .0 } record {
-        entry = a .1 .1 .1 .1 .1 .1 .0;
-        exit
-            = s .1 .1 .1 .1 .1 .1 .0;
-      } r) (Logic.sep (w .𝓤) (winterhasp_header_records.ensures-5 (w .𝓤) (w .H) κs (w .𝓖 .A) (w .𝓜 .mem) (w .𝓡 .run) (a .0) (a .1 .0) (a .1 .1 .0) (a .1 .1
-      .1 .0) (a .1 .1 .1 .1 .0) (a .1 .1 .1 .1 .1 .0) (a .1 .1 .1 .1 .1 .1 .0) record { entry = a .0; exit = s .0 } record { entry = a .1 .0; exit = s .1 .0 } record {
-        entry = a .1
-            .1 .0;
-        exit = s .1 .1 .0;
-      } record { entry = a .1 .1 .1 .0; exit = s .1 .1 .1 .0 } record { entry = a .1 .1 .1 .1 .0; exit = s .1 .1 .1 .1 .0 } record {
-        entry = a .1 .1 .1 .1
-            .1 .0;
-        exit = s .1 .1 .1 .1 .1 .0;
-      } record { entry = a .1 .1 .1 .1 .1 .1 .0; exit = s .1 .1 .1 .1 .1 .1 .0 } r) (Logic.sep (w .𝓤) (winterhasp_header_records.ensures-6 (w .𝓤)
-      (w .H) κs (w .𝓖 .A) (w .𝓜 .mem) (w .𝓡 .run) (a .0) (a .1 .0) (a .1 .1 .0) (a .1 .1 .1 .0) (a .1 .1 .1 .1 .0) (a .1 .1 .1 .1 .1 .0) (a .1 .1 .1 .1 .1 .1 .0) record {
-        entry = a
-            .0;
-        exit = s .0;
-      } record { entry = a .1 .0; exit = s .1 .0 } record { entry = a .1 .1 .0; exit = s .1 .1 .0 } record { entry = a .1 .1 .1 .0; exit = s .1 .1 .1 .0 } record {
-        entry = a .1 .1 .1 .1 .0;
-        exit = s .1 .1 .1 .1 .0;
-      } record { entry = a .1 .1 .1 .1 .1 .0; exit = s .1 .1 .1 .1 .1 .0 } record {
-        entry = a .1 .1 .1 .1 .1 .1 .0;
-        exit = s .1 .1
-            .1 .1 .1 .1 .0;
-      } r) (winterhasp_header_records.ensures-7 (w .𝓤) (w .H) κs (w .𝓖 .A) (w .𝓜 .mem) (w .𝓡 .run) (a .0) (a .1 .0) (a .1 .1 .0) (a .1 .1 .1 .0) (a .1 .1 .1 .1 .0)
-      (a .1 .1 .1 .1 .1 .0) (a .1 .1 .1 .1 .1 .1 .0) record { entry = a .0; exit = s .0 } record { entry = a .1 .0; exit = s .1 .0 } record {
-        entry = a .1 .1 .0;
-        exit = s .1 .1 .0;
-      } record { entry = a .1 .1 .1 .0; exit = s .1 .1 .1 .0 } record { entry = a .1 .1 .1 .1 .0; exit = s .1 .1 .1 .1 .0 } record {
-        entry = a .1 .1 .1 .1 .1 .0;
-        exit = s .1 .1 .1
-            .1 .1 .0;
-      } record { entry = a .1 .1 .1 .1 .1 .1 .0; exit = s .1 .1 .1 .1 .1 .1 .0 } r))))) (ensures-2·read a g r s) (Read.read-join (λ w. winterhasp_header_records.ensures-3
-      (w .𝓤) (w .H) κs (w .𝓖 .A) (w .𝓜 .mem) (w .𝓡 .run) (a .0) (a .1 .0) (a .1 .1 .0) (a .1 .1 .1 .0) (a .1 .1 .1 .1 .0) (a .1 .1 .1 .1 .1 .0) (a .1 .1 .1 .1 .1 .1 .0) record {
-        entry = a .0;
-        exit = s .0;
-      } record { entry = a .1 .0; exit = s .1 .0 } record { entry = a .1 .1 .0; exit = s .1 .1 .0 } record { entry = a .1 .1 .1 .0; exit = s .1 .1 .1 .0 }
-      record { entry = a .1 .1 .1 .1 .0; exit = s .1 .1 .1 .1 .0 } record { entry = a .1 .1 .1 .1 .1 .0; exit = s .1 .1 .1 .1 .1 .0 } record {
-        entry = a .1 .1 .1 .1 .1 .1 .0;
-        exit
-            = s .1 .1 .1 .1 .1 .1 .0;
-      } r) (λ w. Logic.sep (w .𝓤) (winterhasp_header_records.ensures-4 (w .𝓤) (w .H) κs (w .𝓖 .A) (w .𝓜 .mem) (w .𝓡 .run) (a .0) (a .1 .0) (a .1 .1 .0) (a
-      .1 .1 .1 .0) (a .1 .1 .1 .1 .0) (a .1 .1 .1 .1 .1 .0) (a .1 .1 .1 .1 .1 .1 .0) record { entry = a .0; exit = s .0 } record { entry = a .1 .0; exit = s .1 .0 } record {
-        entry
-            = a .1 .1 .0;
-        exit = s .1 .1 .0;
-      } record { entry = a .1 .1 .1 .0; exit = s .1 .1 .1 .0 } record { entry = a .1 .1 .1 .1 .0; exit = s .1 .1 .1 .1 .0 } record {
-        entry = a .1 .1
-            .1 .1 .1 .0;
-        exit = s .1 .1 .1 .1 .1 .0;
-      } record { entry = a .1 .1 .1 .1 .1 .1 .0; exit = s .1 .1 .1 .1 .1 .1 .0 } r) (Logic.sep (w .𝓤) (winterhasp_header_records.ensures-5
-      (w .𝓤) (w .H) κs (w .𝓖 .A) (w .𝓜 .mem) (w .𝓡 .run) (a .0) (a .1 .0) (a .1 .1 .0) (a .1 .1 .1 .0) (a .1 .1 .1 .1 .0) (a .1 .1 .1 .1 .1 .0) (a .1 .1 .1 .1 .1 .1 .0) record {
-        entry = a .0;
-        exit = s .0;
-      } record { entry = a .1 .0; exit = s .1 .0 } record { entry = a .1 .1 .0; exit = s .1 .1 .0 } record { entry = a .1 .1 .1 .0; exit = s .1 .1 .1 .0 }
-      record { entry = a .1 .1 .1 .1 .0; exit = s .1 .1 .1 .1 .0 } record { entry = a .1 .1 .1 .1 .1 .0; exit = s .1 .1 .1 .1 .1 .0 } record {
-        entry = a .1 .1 .1 .1 .1 .1 .0;
-        exit
-            = s .1 .1 .1 .1 .1 .1 .0;
-      } r) (Logic.sep (w .𝓤) (winterhasp_header_records.ensures-6 (w .𝓤) (w .H) κs (w .𝓖 .A) (w .𝓜 .mem) (w .𝓡 .run) (a .0) (a .1 .0) (a .1 .1 .0) (a .1 .1
-      .1 .0) (a .1 .1 .1 .1 .0) (a .1 .1 .1 .1 .1 .0) (a .1 .1 .1 .1 .1 .1 .0) record { entry = a .0; exit = s .0 } record { entry = a .1 .0; exit = s .1 .0 } record {
-        entry = a .1
-            .1 .0;
-        exit = s .1 .1 .0;
-      } record { entry = a .1 .1 .1 .0; exit = s .1 .1 .1 .0 } record { entry = a .1 .1 .1 .1 .0; exit = s .1 .1 .1 .1 .0 } record {
-        entry = a .1 .1 .1 .1
-            .1 .0;
-        exit = s .1 .1 .1 .1 .1 .0;
-      } record { entry = a .1 .1 .1 .1 .1 .1 .0; exit = s .1 .1 .1 .1 .1 .1 .0 } r) (winterhasp_header_records.ensures-7 (w .𝓤) (w .H) κs (w .𝓖
-      .A) (w .𝓜 .mem) (w .𝓡 .run) (a .0) (a .1 .0) (a .1 .1 .0) (a .1 .1 .1 .0) (a .1 .1 .1 .1 .0) (a .1 .1 .1 .1 .1 .0) (a .1 .1 .1 .1 .1 .1 .0) record {
-        entry = a .0;
-        exit = s .0;
-      } record { entry = a .1 .0; exit = s .1 .0 } record { entry = a .1 .1 .0; exit = s .1 .1 .0 } record { entry = a .1 .1 .1 .0; exit = s .1 .1 .1 .0 } record {
-        entry = a .1 .1
-            .1 .1 .0;
-        exit = s .1 .1 .1 .1 .0;
-      } record { entry = a .1 .1 .1 .1 .1 .0; exit = s .1 .1 .1 .1 .1 .0 } record {
-        entry = a .1 .1 .1 .1 .1 .1 .0;
-        exit = s .1 .1 .1 .1 .1 .1 .0;
-      } r)))) (ensures-3·read a g r s) (Read.read-join (λ w. winterhasp_header_records.ensures-4 (w .𝓤) (w .H) κs (w .𝓖 .A) (w .𝓜 .mem) (w .𝓡 .run) (a .0) (a .1 .0) (a .1 .1 .0) (a
-      .1 .1 .1 .0) (a .1 .1 .1 .1 .0) (a .1 .1 .1 .1 .1 .0) (a .1 .1 .1 .1 .1 .1 .0) record { entry = a .0; exit = s .0 } record { entry = a .1 .0; exit = s .1 .0 } record {
-        entry
-            = a .1 .1 .0;
-        exit = s .1 .1 .0;
-      } record { entry = a .1 .1 .1 .0; exit = s .1 .1 .1 .0 } record { entry = a .1 .1 .1 .1 .0; exit = s .1 .1 .1 .1 .0 } record {
-        entry = a .1 .1
-            .1 .1 .1 .0;
-        exit = s .1 .1 .1 .1 .1 .0;
-      } record { entry = a .1 .1 .1 .1 .1 .1 .0; exit = s .1 .1 .1 .1 .1 .1 .0 } r) (λ w. Logic.sep (w .𝓤)
-      (winterhasp_header_records.ensures-5 (w .𝓤) (w .H) κs (w .𝓖 .A) (w .𝓜 .mem) (w .𝓡 .run) (a .0) (a .1 .0) (a .1 .1 .0) (a .1 .1 .1 .0) (a .1 .1 .1 .1 .0) (a .1 .1 .1 .1 .1 .0)
-      (a .1 .1 .1 .1 .1 .1 .0) record { entry = a .0; exit = s .0 } record { entry = a .1 .0; exit = s .1 .0 } record { entry = a .1 .1 .0; exit = s .1 .1 .0 } record {
-        entry = a
-            .1 .1 .1 .0;
-        exit = s .1 .1 .1 .0;
-      } record { entry = a .1 .1 .1 .1 .0; exit = s .1 .1 .1 .1 .0 } record { entry = a .1 .1 .1 .1 .1 .0; exit = s .1 .1 .1 .1 .1 .0 } record {
-        entry = a .1 .1 .1 .1 .1 .1 .0;
-        exit = s .1 .1 .1 .1 .1 .1 .0;
-      } r) (Logic.sep (w .𝓤) (winterhasp_header_records.ensures-6 (w .𝓤) (w .H) κs (w .𝓖 .A) (w .𝓜 .mem) (w .𝓡 .run)
-      (a .0) (a .1 .0) (a .1 .1 .0) (a .1 .1 .1 .0) (a .1 .1 .1 .1 .0) (a .1 .1 .1 .1 .1 .0) (a .1 .1 .1 .1 .1 .1 .0) record { entry = a .0; exit = s .0 } record {
+      } record { entry = a .1 .1 .1 .1 .1 .1 .0; exit = s .1 .1 .1 .1 .1 .1 .0 } record {
+        entry = a .1 .1 .1 .1 .1 .1 .1 .0;
+        exit = s .1 .1 .1 .1 .1 .1 .1 .0;
+      } r) (Logic.sep (w .𝓤) (winterhasp_header_records.ensures-6 (w .𝓤) (w .H) κs (w .𝓖 .A) (w .𝓜 .mem) (w .𝓡 .run) (a .0) (a .1 .0) (a .1 .1 .0)
+      (a .1 .1 .1 .0) (a .1 .1 .1 .1 .0) (a .1 .1 .1 .1 .1 .0) (a .1 .1 .1 .1 .1 .1 .0) (a .1 .1 .1 .1 .1 .1 .1 .0) record { entry = a .0; exit = s .0 } record {
         entry = a .1 .0;
         exit = s .1 .0;
       } record { entry = a .1 .1 .0; exit = s .1 .1 .0 } record { entry = a .1 .1 .1 .0; exit = s .1 .1 .1 .0 } record {
         entry = a .1 .1 .1 .1 .0;
         exit = s .1 .1 .1
             .1 .0;
-      } record { entry = a .1 .1 .1 .1 .1 .0; exit = s .1 .1 .1 .1 .1 .0 } record { entry = a .1 .1 .1 .1 .1 .1 .0; exit = s .1 .1 .1 .1 .1 .1 .0 } r)
-      (winterhasp_header_records.ensures-7 (w .𝓤) (w .H) κs (w .𝓖 .A) (w .𝓜 .mem) (w .𝓡 .run) (a .0) (a .1 .0) (a .1 .1 .0) (a .1 .1 .1 .0) (a .1 .1 .1 .1 .0) (a .1 .1 .1 .1 .1 .0)
-      (a .1 .1 .1 .1 .1 .1 .0) record { entry = a .0; exit = s .0 } record { entry = a .1 .0; exit = s .1 .0 } record { entry = a .1 .1 .0; exit = s .1 .1 .0 } record {
-        entry = a
-            .1 .1 .1 .0;
-        exit = s .1 .1 .1 .0;
-      } record { entry = a .1 .1 .1 .1 .0; exit = s .1 .1 .1 .1 .0 } record { entry = a .1 .1 .1 .1 .1 .0; exit = s .1 .1 .1 .1 .1 .0 } record {
-        entry = a .1 .1 .1 .1 .1 .1 .0;
-        exit = s .1 .1 .1 .1 .1 .1 .0;
-      } r))) (ensures-4·read a g r s) (Read.read-join (λ w. winterhasp_header_records.ensures-5 (w .𝓤) (w .H) κs (w .𝓖
-      .A) (w .𝓜 .mem) (w .𝓡 .run) (a .0) (a .1 .0) (a .1 .1 .0) (a .1 .1 .1 .0) (a .1 .1 .1 .1 .0) (a .1 .1 .1 .1 .1 .0) (a .1 .1 .1 .1 .1 .1 .0) record {
+      } record { entry = a .1 .1 .1 .1 .1 .0; exit = s .1 .1 .1 .1 .1 .0 } record { entry = a .1 .1 .1 .1 .1 .1 .0; exit = s .1 .1 .1 .1 .1 .1 .0 } record {
+        entry = a .1 .1
+            .1 .1 .1 .1 .1 .0;
+        exit = s .1 .1 .1 .1 .1 .1 .1 .0;
+      } r) (winterhasp_header_records.ensures-7 (w .𝓤) (w .H) κs (w .𝓖 .A) (w .𝓜 .mem) (w .𝓡 .run) (a .0) (a .1 .0) (a .1 .1 .0)
+      (a .1 .1 .1 .0) (a .1 .1 .1 .1 .0) (a .1 .1 .1 .1 .1 .0) (a .1 .1 .1 .1 .1 .1 .0) (a .1 .1 .1 .1 .1 .1 .1 .0) record { entry = a .0; exit = s .0 } record {
+        entry = a .1 .0;
+        exit = s .1 .0;
+      } record { entry = a .1 .1 .0; exit = s .1 .1 .0 } record { entry = a .1 .1 .1 .0; exit = s .1 .1 .1 .0 } record {
+        entry = a .1 .1 .1 .1 .0;
+        exit = s .1 .1 .1
+            .1 .0;
+      } record { entry = a .1 .1 .1 .1 .1 .0; exit = s .1 .1 .1 .1 .1 .0 } record { entry = a .1 .1 .1 .1 .1 .1 .0; exit = s .1 .1 .1 .1 .1 .1 .0 } record {
+        entry = a .1 .1
+            .1 .1 .1 .1 .1 .0;
+        exit = s .1 .1 .1 .1 .1 .1 .1 .0;
+      } r)))) (ensures-3·read a g r s) (Read.read-join (λ w. winterhasp_header_records.ensures-4 (w .𝓤) (w .H) κs (w .𝓖 .A) (w
+      .𝓜 .mem) (w .𝓡 .run) (a .0) (a .1 .0) (a .1 .1 .0) (a .1 .1 .1 .0) (a .1 .1 .1 .1 .0) (a .1 .1 .1 .1 .1 .0) (a .1 .1 .1 .1 .1 .1 .0) (a .1 .1 .1 .1 .1 .1 .1 .0) record {
         entry = a .0;
         exit = s .0;
-      } record { entry = a .1 .0; exit = s .1 .0 } record { entry = a .1 .1 .0; exit = s .1 .1 .0 } record { entry = a .1 .1 .1 .0; exit = s .1 .1 .1 .0 } record {
-        entry = a .1 .1
-            .1 .1 .0;
-        exit = s .1 .1 .1 .1 .0;
-      } record { entry = a .1 .1 .1 .1 .1 .0; exit = s .1 .1 .1 .1 .1 .0 } record {
+      } record { entry = a .1 .0; exit = s .1 .0 } record { entry = a .1 .1 .0; exit = s .1 .1 .0 } record { entry = a .1 .1 .1 .0; exit = s .1 .1 .1 .0 }
+      record { entry = a .1 .1 .1 .1 .0; exit = s .1 .1 .1 .1 .0 } record { entry = a .1 .1 .1 .1 .1 .0; exit = s .1 .1 .1 .1 .1 .0 } record {
         entry = a .1 .1 .1 .1 .1 .1 .0;
+        exit
+            = s .1 .1 .1 .1 .1 .1 .0;
+      } record { entry = a .1 .1 .1 .1 .1 .1 .1 .0; exit = s .1 .1 .1 .1 .1 .1 .1 .0 } r) (λ w. Logic.sep (w .𝓤) (winterhasp_header_records.ensures-5 (w
+      .𝓤) (w .H) κs (w .𝓖 .A) (w .𝓜 .mem) (w .𝓡 .run) (a .0) (a .1 .0) (a .1 .1 .0) (a .1 .1 .1 .0) (a .1 .1 .1 .1 .0) (a .1 .1 .1 .1 .1 .0) (a .1 .1 .1 .1 .1 .1 .0) (a .1 .1 .1 .1
+      .1 .1 .1 .0) record { entry = a .0; exit = s .0 } record { entry = a .1 .0; exit = s .1 .0 } record { entry = a .1 .1 .0; exit = s .1 .1 .0 } record {
+        entry = a .1 .1 .1 .0;
+        exit = s .1 .1 .1 .0;
+      } record { entry = a .1 .1 .1 .1 .0; exit = s .1 .1 .1 .1 .0 } record { entry = a .1 .1 .1 .1 .1 .0; exit = s .1 .1 .1 .1 .1 .0 } record {
+        entry = a .1
+            .1 .1 .1 .1 .1 .0;
         exit = s .1 .1 .1 .1 .1 .1 .0;
-      } r) (λ w. Logic.sep (w .𝓤) (winterhasp_header_records.ensures-6 (w .𝓤) (w .H) κs (w .𝓖 .A) (w .𝓜 .mem) (w .𝓡 .run) (a .0) (a .1 .0) (a .1 .1 .0) (a .1 .1 .1 .0) (a .1 .1 .1
-      .1 .0) (a .1 .1 .1 .1 .1 .0) (a .1 .1 .1 .1 .1 .1 .0) record { entry = a .0; exit = s .0 } record { entry = a .1 .0; exit = s .1 .0 } record {
+      } record { entry = a .1 .1 .1 .1 .1 .1 .1 .0; exit = s .1 .1 .1 .1 .1 .1 .1 .0 } r) (Logic.sep (w .𝓤)
+      (winterhasp_header_records.ensures-6 (w .𝓤) (w .H) κs (w .𝓖 .A) (w .𝓜 .mem) (w .𝓡 .run) (a .0) (a .1 .0) (a .1 .1 .0) (a .1 .1 .1 .0) (a .1 .1 .1 .1 .0) (a .1 .1 .1 .1 .1 .0)
+      (a .1 .1 .1 .1 .1 .1 .0) (a .1 .1 .1 .1 .1 .1 .1 .0) record { entry = a .0; exit = s .0 } record { entry = a .1 .0; exit = s .1 .0 } record {
         entry = a .1 .1 .0;
         exit = s .1
             .1 .0;
@@ -406,32 +416,69 @@ module _ (κs : Lifetimes.Lfts 7) where
         entry = a .1 .1 .1 .1 .1 .0;
         exit = s .1
             .1 .1 .1 .1 .0;
-      } record { entry = a .1 .1 .1 .1 .1 .1 .0; exit = s .1 .1 .1 .1 .1 .1 .0 } r) (winterhasp_header_records.ensures-7 (w .𝓤) (w .H) κs (w .𝓖 .A) (w .𝓜 .mem) (w .𝓡
-      .run) (a .0) (a .1 .0) (a .1 .1 .0) (a .1 .1 .1 .0) (a .1 .1 .1 .1 .0) (a .1 .1 .1 .1 .1 .0) (a .1 .1 .1 .1 .1 .1 .0) record { entry = a .0; exit = s .0 } record {
-        entry = a
+      } record { entry = a .1 .1 .1 .1 .1 .1 .0; exit = s .1 .1 .1 .1 .1 .1 .0 } record { entry = a .1 .1 .1 .1 .1 .1 .1 .0; exit = s .1 .1 .1 .1 .1 .1 .1 .0 } r)
+      (winterhasp_header_records.ensures-7 (w .𝓤) (w .H) κs (w .𝓖 .A) (w .𝓜 .mem) (w .𝓡 .run) (a .0) (a .1 .0) (a .1 .1 .0) (a .1 .1 .1 .0) (a .1 .1 .1 .1 .0) (a .1 .1 .1 .1 .1 .0)
+      (a .1 .1 .1 .1 .1 .1 .0) (a .1 .1 .1 .1 .1 .1 .1 .0) record { entry = a .0; exit = s .0 } record { entry = a .1 .0; exit = s .1 .0 } record {
+        entry = a .1 .1 .0;
+        exit = s .1
             .1 .0;
+      } record { entry = a .1 .1 .1 .0; exit = s .1 .1 .1 .0 } record { entry = a .1 .1 .1 .1 .0; exit = s .1 .1 .1 .1 .0 } record {
+        entry = a .1 .1 .1 .1 .1 .0;
+        exit = s .1
+            .1 .1 .1 .1 .0;
+      } record { entry = a .1 .1 .1 .1 .1 .1 .0; exit = s .1 .1 .1 .1 .1 .1 .0 } record { entry = a .1 .1 .1 .1 .1 .1 .1 .0; exit = s .1 .1 .1 .1 .1 .1 .1 .0 } r)))
+      (ensures-4·read a g r s) (Read.read-join (λ w. winterhasp_header_records.ensures-5 (w .𝓤) (w .H) κs (w .𝓖 .A) (w .𝓜 .mem) (w .𝓡 .run) (a .0) (a .1 .0) (a .1 .1 .0) (a .1 .1
+      .1 .0) (a .1 .1 .1 .1 .0) (a .1 .1 .1 .1 .1 .0) (a .1 .1 .1 .1 .1 .1 .0) (a .1 .1 .1 .1 .1 .1 .1 .0) record { entry = a .0; exit = s .0 } record {
+        entry = a .1 .0;
+        exit = s
+            .1 .0;
+      } record { entry = a .1 .1 .0; exit = s .1 .1 .0 } record { entry = a .1 .1 .1 .0; exit = s .1 .1 .1 .0 } record { entry = a .1 .1 .1 .1 .0; exit = s .1 .1 .1 .1 .0 }
+      record { entry = a .1 .1 .1 .1 .1 .0; exit = s .1 .1 .1 .1 .1 .0 } record { entry = a .1 .1 .1 .1 .1 .1 .0; exit = s .1 .1 .1 .1 .1 .1 .0 } record {
+        entry = a .1 .1 .1 .1 .1
+            .1 .1 .0;
+        exit = s .1 .1 .1 .1 .1 .1 .1 .0;
+      } r) (λ w. Logic.sep (w .𝓤) (winterhasp_header_records.ensures-6 (w .𝓤) (w .H) κs (w .𝓖 .A) (w .𝓜 .mem) (w .𝓡 .run) (a .0) (a .1
+      .0) (a .1 .1 .0) (a .1 .1 .1 .0) (a .1 .1 .1 .1 .0) (a .1 .1 .1 .1 .1 .0) (a .1 .1 .1 .1 .1 .1 .0) (a .1 .1 .1 .1 .1 .1 .1 .0) record { entry = a .0; exit = s .0 } record {
+        entry = a .1 .0;
         exit = s .1 .0;
       } record { entry = a .1 .1 .0; exit = s .1 .1 .0 } record { entry = a .1 .1 .1 .0; exit = s .1 .1 .1 .0 } record {
         entry = a .1 .1 .1 .1 .0;
-        exit = s .1
-            .1 .1 .1 .0;
-      } record { entry = a .1 .1 .1 .1 .1 .0; exit = s .1 .1 .1 .1 .1 .0 } record { entry = a .1 .1 .1 .1 .1 .1 .0; exit = s .1 .1 .1 .1 .1 .1 .0 } r)) (ensures-5·read
-      a g r s) (Read.read-join (λ w. winterhasp_header_records.ensures-6 (w .𝓤) (w .H) κs (w .𝓖 .A) (w .𝓜 .mem) (w .𝓡 .run) (a .0) (a .1 .0) (a .1 .1 .0) (a .1 .1 .1 .0) (a .1 .1
-      .1 .1 .0) (a .1 .1 .1 .1 .1 .0) (a .1 .1 .1 .1 .1 .1 .0) record { entry = a .0; exit = s .0 } record { entry = a .1 .0; exit = s .1 .0 } record {
-        entry = a .1 .1 .0;
-        exit = s
-            .1 .1 .0;
-      } record { entry = a .1 .1 .1 .0; exit = s .1 .1 .1 .0 } record { entry = a .1 .1 .1 .1 .0; exit = s .1 .1 .1 .1 .0 } record {
-        entry = a .1 .1 .1 .1 .1 .0;
-        exit = s
-            .1 .1 .1 .1 .1 .0;
-      } record { entry = a .1 .1 .1 .1 .1 .1 .0; exit = s .1 .1 .1 .1 .1 .1 .0 } r) (λ w. winterhasp_header_records.ensures-7 (w .𝓤) (w .H) κs (w .𝓖 .A) (w .𝓜
-      .mem) (w .𝓡 .run) (a .0) (a .1 .0) (a .1 .1 .0) (a .1 .1 .1 .0) (a .1 .1 .1 .1 .0) (a .1 .1 .1 .1 .1 .0) (a .1 .1 .1 .1 .1 .1 .0) record { entry = a .0; exit = s .0 } record
-      { entry = a .1 .0; exit = s .1 .0 } record { entry = a .1 .1 .0; exit = s .1 .1 .0 } record { entry = a .1 .1 .1 .0; exit = s .1 .1 .1 .0 } record {
+        exit = s .1 .1 .1 .1 .0;
+      } record { entry = a .1 .1 .1 .1 .1 .0; exit = s .1 .1 .1 .1 .1 .0 } record { entry = a .1 .1 .1 .1 .1 .1 .0; exit = s .1 .1 .1 .1 .1 .1 .0 } record {
+        entry = a .1 .1 .1 .1 .1 .1 .1 .0;
+        exit = s .1 .1 .1 .1 .1 .1 .1 .0;
+      } r) (winterhasp_header_records.ensures-7 (w .𝓤) (w .H) κs (w .𝓖 .A) (w .𝓜 .mem) (w .𝓡 .run) (a .0) (a .1
+      .0) (a .1 .1 .0) (a .1 .1 .1 .0) (a .1 .1 .1 .1 .0) (a .1 .1 .1 .1 .1 .0) (a .1 .1 .1 .1 .1 .1 .0) (a .1 .1 .1 .1 .1 .1 .1 .0) record { entry = a .0; exit = s .0 } record {
+        entry = a .1 .0;
+        exit = s .1 .0;
+      } record { entry = a .1 .1 .0; exit = s .1 .1 .0 } record { entry = a .1 .1 .1 .0; exit = s .1 .1 .1 .0 } record {
         entry = a .1 .1 .1 .1 .0;
         exit = s .1 .1 .1 .1 .0;
-      } record { entry = a .1 .1 .1 .1 .1 .0; exit = s .1 .1 .1 .1 .1 .0 } record { entry = a .1 .1 .1 .1 .1 .1 .0; exit = s .1 .1 .1 .1 .1 .1 .0 } r)
-      (ensures-6·read a g r s) (ensures-7·read a g r s))))))
+      } record { entry = a .1 .1 .1 .1 .1 .0; exit = s .1 .1 .1 .1 .1 .0 } record { entry = a .1 .1 .1 .1 .1 .1 .0; exit = s .1 .1 .1 .1 .1 .1 .0 } record {
+        entry = a .1 .1 .1 .1 .1 .1 .1 .0;
+        exit = s .1 .1 .1 .1 .1 .1 .1 .0;
+      } r)) (ensures-5·read a g r s) (Read.read-join (λ w. winterhasp_header_records.ensures-6 (w .𝓤) (w .H) κs
+      (w .𝓖 .A) (w .𝓜 .mem) (w .𝓡 .run) (a .0) (a .1 .0) (a .1 .1 .0) (a .1 .1 .1 .0) (a .1 .1 .1 .1 .0) (a .1 .1 .1 .1 .1 .0) (a .1 .1 .1 .1 .1 .1 .0) (a .1 .1 .1 .1 .1 .1 .1 .0)
+      record { entry = a .0; exit = s .0 } record { entry = a .1 .0; exit = s .1 .0 } record { entry = a .1 .1 .0; exit = s .1 .1 .0 } record {
+        entry = a .1 .1 .1 .0;
+        exit = s .1
+            .1 .1 .0;
+      } record { entry = a .1 .1 .1 .1 .0; exit = s .1 .1 .1 .1 .0 } record { entry = a .1 .1 .1 .1 .1 .0; exit = s .1 .1 .1 .1 .1 .0 } record {
+        entry = a .1 .1 .1 .1 .1
+            .1 .0;
+        exit = s .1 .1 .1 .1 .1 .1 .0;
+      } record { entry = a .1 .1 .1 .1 .1 .1 .1 .0; exit = s .1 .1 .1 .1 .1 .1 .1 .0 } r) (λ w. winterhasp_header_records.ensures-7 (w .𝓤) (w
+      .H) κs (w .𝓖 .A) (w .𝓜 .mem) (w .𝓡 .run) (a .0) (a .1 .0) (a .1 .1 .0) (a .1 .1 .1 .0) (a .1 .1 .1 .1 .0) (a .1 .1 .1 .1 .1 .0) (a .1 .1 .1 .1 .1 .1 .0) (a .1 .1 .1 .1 .1 .1
+      .1 .0) record { entry = a .0; exit = s .0 } record { entry = a .1 .0; exit = s .1 .0 } record { entry = a .1 .1 .0; exit = s .1 .1 .0 } record {
+        entry = a .1 .1 .1 .0;
+        exit =
+            s .1 .1 .1 .0;
+      } record { entry = a .1 .1 .1 .1 .0; exit = s .1 .1 .1 .1 .0 } record { entry = a .1 .1 .1 .1 .1 .0; exit = s .1 .1 .1 .1 .1 .0 } record {
+        entry = a .1 .1 .1 .1
+            .1 .1 .0;
+        exit = s .1 .1 .1 .1 .1 .1 .0;
+      } record { entry = a .1 .1 .1 .1 .1 .1 .1 .0; exit = s .1 .1 .1 .1 .1 .1 .1 .0 } r) (ensures-6·read a g r s) (ensures-7·read a g r
+      s))))))
 
 abbrev pub Pre : Kinds'.In 7 Kinds.ps
 Pre = Written.Pre 7 Kinds.ps Kinds.r Ghost requires ensures pre-read Pinned Owned post-read tt

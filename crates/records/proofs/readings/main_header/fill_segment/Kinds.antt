@@ -17,25 +17,27 @@ use mathlib.Core.Path as Path'
 use mir.Syntax
 
 abbrev pub ps : List.List (Kinds.PK 2)
-ps = List._∷_ (ShrSlice.pShrS (Referent.rtF (Referent.fInt Syntax.w8)) 0 tt) (List._∷_ (Kinds.pNum Syntax.w64) (List._∷_ (Kinds.pNum Syntax.w64) (List._∷_ (Value.pVal record {
-  ty =
-      Declared.row CodestreamOffset.the-type;
-  one = Path'.refl;
-  val = Laws'.val CodestreamOffset.the-type Laws.the-laws;
-  tells = Laws'.tells CodestreamOffset.the-type Laws.the-laws;
-  still = Laws'.still CodestreamOffset.the-type Laws.the-copy Exit.yes;
-  row = Rows.whole (Declared.row CodestreamOffset.the-type);
-  rd = λ x. x;
-  mk = λ x. x;
-} λ M 𝓤 H A W. record {
-  copies = Laws'.copy CodestreamOffset.the-type Laws.the-copy 𝓤 H A W;
-  lawful = Laws'.lawful CodestreamOffset.the-type Laws.the-laws 𝓤 H A W;
-  makes = Laws'.makes
-      CodestreamOffset.the-type Laws.the-plain 𝓤 H A;
-  in-mem = Local.mem-whole 𝓤 H A W (Declared.row CodestreamOffset.the-type);
-  of-mem = Local.whole-mem 𝓤 H A W (Declared.row
-      CodestreamOffset.the-type);
-}) (List._∷_ (MutSlice.pMutS LentTilePartEntry.row 1 tt) (List._∷_ (Kinds.pNum Syntax.w64) List.[])))))
+ps = List._∷_ (ShrSlice.pShrS (Referent.rtF (Referent.fInt Syntax.w8)) 0 tt) (List._∷_ (Kinds.pNum Syntax.w64) (List._∷_ (Kinds.pNum Syntax.w64) (List._∷_ (Kinds.pNum Syntax.w64)
+    (List._∷_ (Value.pVal record {
+      ty = Declared.row CodestreamOffset.the-type;
+      one = Path'.refl;
+      val = Laws'.val CodestreamOffset.the-type Laws.the-laws;
+      tells = Laws'.tells
+          CodestreamOffset.the-type Laws.the-laws;
+      still = Laws'.still CodestreamOffset.the-type Laws.the-copy Exit.yes;
+      row = Rows.whole (Declared.row CodestreamOffset.the-type);
+      rd = λ
+          x. x;
+      mk = λ x. x;
+    } λ M 𝓤 H A W. record {
+      copies = Laws'.copy CodestreamOffset.the-type Laws.the-copy 𝓤 H A W;
+      lawful = Laws'.lawful CodestreamOffset.the-type Laws.the-laws 𝓤
+          H A W;
+      makes = Laws'.makes CodestreamOffset.the-type Laws.the-plain 𝓤 H A;
+      in-mem = Local.mem-whole 𝓤 H A W (Declared.row CodestreamOffset.the-type);
+      of-mem = Local.whole-mem 𝓤
+          H A W (Declared.row CodestreamOffset.the-type);
+    }) (List._∷_ (MutSlice.pMutS LentTilePartEntry.row 1 tt) (List._∷_ (Kinds.pNum Syntax.w64) List.[]))))))
 
 abbrev pub r : Kinds.RK 2
 r = Value.rVal record {

@@ -40,85 +40,120 @@ module _ (κs : Lifetimes.Lfts 2) where
   ensures = λ a g r s w. fill_segment.clauses (w .𝓤) (w .H) (w .𝓖 .A) (w .𝓜 .mem) (w .𝓡 .run) κs a .ensures g r s
 
   abbrev pub requires-1·read : (a : World.ArgsD fill_segment.signature κs) → (g : Ghost) → Read.Read (World.In fill_segment.signature κs a) Read.no-know λ w.
-      fill_segment.requires-1 (w .𝓤) (w .H) κs (w .𝓖 .A) (w .𝓜 .mem) (w .𝓡 .run) (a .0) (a .1 .0) (a .1 .1 .0) (a .1 .1 .1 .0) (a .1 .1 .1 .1 .0) (a .1 .1 .1 .1 .1 .0)
+      fill_segment.requires-1 (w .𝓤) (w .H) κs (w .𝓖 .A) (w .𝓜 .mem) (w .𝓡 .run) (a .0) (a .1 .0) (a .1 .1 .0) (a .1 .1 .1 .0) (a .1 .1 .1 .1 .0) (a .1 .1 .1 .1 .1 .0) (a .1 .1 .1
+      .1 .1 .1 .0)
   requires-1·read = λ a g. Read.all-models (λ w. fill_segment.requires-1 (w .𝓤) (w .H) κs (w .𝓖 .A) (w .𝓜 .mem) (w .𝓡 .run) (a .0) (a .1 .0) (a .1 .1 .0) (a .1 .1 .1 .0) (a .1 .1
-      .1 .1 .0) (a .1 .1 .1 .1 .1 .0)) (λ w. search Read.reads) (λ w. Path'.refl) (λ w. Path'.refl) λ w. Path'.refl
+      .1 .1 .0) (a .1 .1 .1 .1 .1 .0) (a .1 .1 .1 .1 .1 .1 .0)) (λ w. search Read.reads) (λ w. Path'.refl) (λ w. Path'.refl) λ w. Path'.refl
 
   abbrev pub requires-2·read : (a : World.ArgsD fill_segment.signature κs) → (g : Ghost) → Read.Read (World.In fill_segment.signature κs a) Read.no-know λ w.
-      fill_segment.requires-2 (w .𝓤) (w .H) κs (w .𝓖 .A) (w .𝓜 .mem) (w .𝓡 .run) (a .0) (a .1 .0) (a .1 .1 .0) (a .1 .1 .1 .0) (a .1 .1 .1 .1 .0) (a .1 .1 .1 .1 .1 .0)
+      fill_segment.requires-2 (w .𝓤) (w .H) κs (w .𝓖 .A) (w .𝓜 .mem) (w .𝓡 .run) (a .0) (a .1 .0) (a .1 .1 .0) (a .1 .1 .1 .0) (a .1 .1 .1 .1 .0) (a .1 .1 .1 .1 .1 .0) (a .1 .1 .1
+      .1 .1 .1 .0)
   requires-2·read = λ a g. Read.all-models (λ w. fill_segment.requires-2 (w .𝓤) (w .H) κs (w .𝓖 .A) (w .𝓜 .mem) (w .𝓡 .run) (a .0) (a .1 .0) (a .1 .1 .0) (a .1 .1 .1 .0) (a .1 .1
-      .1 .1 .0) (a .1 .1 .1 .1 .1 .0)) (λ w. search Read.reads) (λ w. Path'.refl) (λ w. Path'.refl) λ w. Path'.refl
+      .1 .1 .0) (a .1 .1 .1 .1 .1 .0) (a .1 .1 .1 .1 .1 .1 .0)) (λ w. search Read.reads) (λ w. Path'.refl) (λ w. Path'.refl) λ w. Path'.refl
 
   abbrev pub requires-3·read : (a : World.ArgsD fill_segment.signature κs) → (g : Ghost) → Read.Read (World.In fill_segment.signature κs a) Read.no-know λ w.
-      fill_segment.requires-3 (w .𝓤) (w .H) κs (w .𝓖 .A) (w .𝓜 .mem) (w .𝓡 .run) (a .0) (a .1 .0) (a .1 .1 .0) (a .1 .1 .1 .0) (a .1 .1 .1 .1 .0) (a .1 .1 .1 .1 .1 .0)
+      fill_segment.requires-3 (w .𝓤) (w .H) κs (w .𝓖 .A) (w .𝓜 .mem) (w .𝓡 .run) (a .0) (a .1 .0) (a .1 .1 .0) (a .1 .1 .1 .0) (a .1 .1 .1 .1 .0) (a .1 .1 .1 .1 .1 .0) (a .1 .1 .1
+      .1 .1 .1 .0)
   requires-3·read = λ a g. Read.all-models (λ w. fill_segment.requires-3 (w .𝓤) (w .H) κs (w .𝓖 .A) (w .𝓜 .mem) (w .𝓡 .run) (a .0) (a .1 .0) (a .1 .1 .0) (a .1 .1 .1 .0) (a .1 .1
-      .1 .1 .0) (a .1 .1 .1 .1 .1 .0)) (λ w. search Read.reads) (λ w. Path'.refl) (λ w. Path'.refl) λ w. Path'.refl
+      .1 .1 .0) (a .1 .1 .1 .1 .1 .0) (a .1 .1 .1 .1 .1 .1 .0)) (λ w. search Read.reads) (λ w. Path'.refl) (λ w. Path'.refl) λ w. Path'.refl
 
   abbrev pub requires-4·read : (a : World.ArgsD fill_segment.signature κs) → (g : Ghost) → Read.Read (World.In fill_segment.signature κs a) Read.no-know λ w.
-      fill_segment.requires-4 (w .𝓤) (w .H) κs (w .𝓖 .A) (w .𝓜 .mem) (w .𝓡 .run) (a .0) (a .1 .0) (a .1 .1 .0) (a .1 .1 .1 .0) (a .1 .1 .1 .1 .0) (a .1 .1 .1 .1 .1 .0)
+      fill_segment.requires-4 (w .𝓤) (w .H) κs (w .𝓖 .A) (w .𝓜 .mem) (w .𝓡 .run) (a .0) (a .1 .0) (a .1 .1 .0) (a .1 .1 .1 .0) (a .1 .1 .1 .1 .0) (a .1 .1 .1 .1 .1 .0) (a .1 .1 .1
+      .1 .1 .1 .0)
   requires-4·read = λ a g. Read.all-models (λ w. fill_segment.requires-4 (w .𝓤) (w .H) κs (w .𝓖 .A) (w .𝓜 .mem) (w .𝓡 .run) (a .0) (a .1 .0) (a .1 .1 .0) (a .1 .1 .1 .0) (a .1 .1
-      .1 .1 .0) (a .1 .1 .1 .1 .1 .0)) (λ w. search Read.reads) (λ w. Path'.refl) (λ w. Path'.refl) λ w. Path'.refl
+      .1 .1 .0) (a .1 .1 .1 .1 .1 .0) (a .1 .1 .1 .1 .1 .1 .0)) (λ w. search Read.reads) (λ w. Path'.refl) (λ w. Path'.refl) λ w. Path'.refl
+
+  abbrev pub requires-5·read : (a : World.ArgsD fill_segment.signature κs) → (g : Ghost) → Read.Read (World.In fill_segment.signature κs a) Read.no-know λ w.
+      fill_segment.requires-5 (w .𝓤) (w .H) κs (w .𝓖 .A) (w .𝓜 .mem) (w .𝓡 .run) (a .0) (a .1 .0) (a .1 .1 .0) (a .1 .1 .1 .0) (a .1 .1 .1 .1 .0) (a .1 .1 .1 .1 .1 .0) (a .1 .1 .1
+      .1 .1 .1 .0)
+  requires-5·read = λ a g. Read.all-models (λ w. fill_segment.requires-5 (w .𝓤) (w .H) κs (w .𝓖 .A) (w .𝓜 .mem) (w .𝓡 .run) (a .0) (a .1 .0) (a .1 .1 .0) (a .1 .1 .1 .0) (a .1 .1
+      .1 .1 .0) (a .1 .1 .1 .1 .1 .0) (a .1 .1 .1 .1 .1 .1 .0)) (λ w. search Read.reads) (λ w. Path'.refl) (λ w. Path'.refl) λ w. Path'.refl
 
   abbrev pub pre-read : (a : World.ArgsD fill_segment.signature κs) → (g : Ghost) → Read.Read (World.In fill_segment.signature κs a) Read.no-know (requires a g)
   pre-read = λ a g. Read.read-join (λ w. fill_segment.requires-1 (w .𝓤) (w .H) κs (w .𝓖 .A) (w .𝓜 .mem) (w .𝓡 .run) (a .0) (a .1 .0) (a .1 .1 .0) (a .1 .1 .1 .0) (a .1 .1 .1 .1 .0)
-      (a .1 .1 .1 .1 .1 .0)) (λ w. Logic.sep (w .𝓤) (fill_segment.requires-2 (w .𝓤) (w .H) κs (w .𝓖 .A) (w .𝓜 .mem) (w .𝓡 .run) (a .0) (a .1 .0) (a .1 .1 .0) (a .1 .1 .1 .0) (a .1
-      .1 .1 .1 .0) (a .1 .1 .1 .1 .1 .0)) (Logic.sep (w .𝓤) (fill_segment.requires-3 (w .𝓤) (w .H) κs (w .𝓖 .A) (w .𝓜 .mem) (w .𝓡 .run) (a .0) (a .1 .0) (a .1 .1 .0) (a .1 .1 .1
-      .0) (a .1 .1 .1 .1 .0) (a .1 .1 .1 .1 .1 .0)) (fill_segment.requires-4 (w .𝓤) (w .H) κs (w .𝓖 .A) (w .𝓜 .mem) (w .𝓡 .run) (a .0) (a .1 .0) (a .1 .1 .0) (a .1 .1 .1 .0) (a .1
-      .1 .1 .1 .0) (a .1 .1 .1 .1 .1 .0)))) (requires-1·read a g) (Read.read-join (λ w. fill_segment.requires-2 (w .𝓤) (w .H) κs (w .𝓖 .A) (w .𝓜 .mem) (w .𝓡 .run) (a .0) (a .1 .0)
-      (a .1 .1 .0) (a .1 .1 .1 .0) (a .1 .1 .1 .1 .0) (a .1 .1 .1 .1 .1 .0)) (λ w. Logic.sep (w .𝓤) (fill_segment.requires-3 (w .𝓤) (w .H) κs (w .𝓖 .A) (w .𝓜 .mem) (w .𝓡 .run) (a
-      .0) (a .1 .0) (a .1 .1 .0) (a .1 .1 .1 .0) (a .1 .1 .1 .1 .0) (a .1 .1 .1 .1 .1 .0)) (fill_segment.requires-4 (w .𝓤) (w .H) κs (w .𝓖 .A) (w .𝓜 .mem) (w .𝓡 .run) (a .0) (a .1
-      .0) (a .1 .1 .0) (a .1 .1 .1 .0) (a .1 .1 .1 .1 .0) (a .1 .1 .1 .1 .1 .0))) (requires-2·read a g) (Read.read-join (λ w. fill_segment.requires-3 (w .𝓤) (w .H) κs (w .𝓖 .A) (w
-      .𝓜 .mem) (w .𝓡 .run) (a .0) (a .1 .0) (a .1 .1 .0) (a .1 .1 .1 .0) (a .1 .1 .1 .1 .0) (a .1 .1 .1 .1 .1 .0)) (λ w. fill_segment.requires-4 (w .𝓤) (w .H) κs (w .𝓖 .A) (w .𝓜
-      .mem) (w .𝓡 .run) (a .0) (a .1 .0) (a .1 .1 .0) (a .1 .1 .1 .0) (a .1 .1 .1 .1 .0) (a .1 .1 .1 .1 .1 .0)) (requires-3·read a g) (requires-4·read a g)))
+      (a .1 .1 .1 .1 .1 .0) (a .1 .1 .1 .1 .1 .1 .0)) (λ w. Logic.sep (w .𝓤) (fill_segment.requires-2 (w .𝓤) (w .H) κs (w .𝓖 .A) (w .𝓜 .mem) (w .𝓡 .run) (a .0) (a .1 .0) (a .1 .1
+      .0) (a .1 .1 .1 .0) (a .1 .1 .1 .1 .0) (a .1 .1 .1 .1 .1 .0) (a .1 .1 .1 .1 .1 .1 .0)) (Logic.sep (w .𝓤) (fill_segment.requires-3 (w .𝓤) (w .H) κs (w .𝓖 .A) (w .𝓜 .mem) (w .𝓡
+      .run) (a .0) (a .1 .0) (a .1 .1 .0) (a .1 .1 .1 .0) (a .1 .1 .1 .1 .0) (a .1 .1 .1 .1 .1 .0) (a .1 .1 .1 .1 .1 .1 .0)) (Logic.sep (w .𝓤) (fill_segment.requires-4 (w .𝓤) (w
+      .H) κs (w .𝓖 .A) (w .𝓜 .mem) (w .𝓡 .run) (a .0) (a .1 .0) (a .1 .1 .0) (a .1 .1 .1 .0) (a .1 .1 .1 .1 .0) (a .1 .1 .1 .1 .1 .0) (a .1 .1 .1 .1 .1 .1 .0))
+      (fill_segment.requires-5 (w .𝓤) (w .H) κs (w .𝓖 .A) (w .𝓜 .mem) (w .𝓡 .run) (a .0) (a .1 .0) (a .1 .1 .0) (a .1 .1 .1 .0) (a .1 .1 .1 .1 .0) (a .1 .1 .1 .1 .1 .0) (a .1 .1 .1
+      .1 .1 .1 .0))))) (requires-1·read a g) (Read.read-join (λ w. fill_segment.requires-2 (w .𝓤) (w .H) κs (w .𝓖 .A) (w .𝓜 .mem) (w .𝓡 .run) (a .0) (a .1 .0) (a .1 .1 .0) (a .1 .1
+      .1 .0) (a .1 .1 .1 .1 .0) (a .1 .1 .1 .1 .1 .0) (a .1 .1 .1 .1 .1 .1 .0)) (λ w. Logic.sep (w .𝓤) (fill_segment.requires-3 (w .𝓤) (w .H) κs (w .𝓖 .A) (w .𝓜 .mem) (w .𝓡 .run)
+      (a .0) (a .1 .0) (a .1 .1 .0) (a .1 .1 .1 .0) (a .1 .1 .1 .1 .0) (a .1 .1 .1 .1 .1 .0) (a .1 .1 .1 .1 .1 .1 .0)) (Logic.sep (w .𝓤) (fill_segment.requires-4 (w .𝓤) (w .H) κs
+      (w .𝓖 .A) (w .𝓜 .mem) (w .𝓡 .run) (a .0) (a .1 .0) (a .1 .1 .0) (a .1 .1 .1 .0) (a .1 .1 .1 .1 .0) (a .1 .1 .1 .1 .1 .0) (a .1 .1 .1 .1 .1 .1 .0)) (fill_segment.requires-5 (w
+      .𝓤) (w .H) κs (w .𝓖 .A) (w .𝓜 .mem) (w .𝓡 .run) (a .0) (a .1 .0) (a .1 .1 .0) (a .1 .1 .1 .0) (a .1 .1 .1 .1 .0) (a .1 .1 .1 .1 .1 .0) (a .1 .1 .1 .1 .1 .1 .0))))
+      (requires-2·read a g) (Read.read-join (λ w. fill_segment.requires-3 (w .𝓤) (w .H) κs (w .𝓖 .A) (w .𝓜 .mem) (w .𝓡 .run) (a .0) (a .1 .0) (a .1 .1 .0) (a .1 .1 .1 .0) (a .1 .1
+      .1 .1 .0) (a .1 .1 .1 .1 .1 .0) (a .1 .1 .1 .1 .1 .1 .0)) (λ w. Logic.sep (w .𝓤) (fill_segment.requires-4 (w .𝓤) (w .H) κs (w .𝓖 .A) (w .𝓜 .mem) (w .𝓡 .run) (a .0) (a .1 .0)
+      (a .1 .1 .0) (a .1 .1 .1 .0) (a .1 .1 .1 .1 .0) (a .1 .1 .1 .1 .1 .0) (a .1 .1 .1 .1 .1 .1 .0)) (fill_segment.requires-5 (w .𝓤) (w .H) κs (w .𝓖 .A) (w .𝓜 .mem) (w .𝓡 .run) (a
+      .0) (a .1 .0) (a .1 .1 .0) (a .1 .1 .1 .0) (a .1 .1 .1 .1 .0) (a .1 .1 .1 .1 .1 .0) (a .1 .1 .1 .1 .1 .1 .0))) (requires-3·read a g) (Read.read-join (λ w.
+      fill_segment.requires-4 (w .𝓤) (w .H) κs (w .𝓖 .A) (w .𝓜 .mem) (w .𝓡 .run) (a .0) (a .1 .0) (a .1 .1 .0) (a .1 .1 .1 .0) (a .1 .1 .1 .1 .0) (a .1 .1 .1 .1 .1 .0) (a .1 .1 .1
+      .1 .1 .1 .0)) (λ w. fill_segment.requires-5 (w .𝓤) (w .H) κs (w .𝓖 .A) (w .𝓜 .mem) (w .𝓡 .run) (a .0) (a .1 .0) (a .1 .1 .0) (a .1 .1 .1 .0) (a .1 .1 .1 .1 .0) (a .1 .1 .1 .1
+      .1 .0) (a .1 .1 .1 .1 .1 .1 .0)) (requires-4·read a g) (requires-5·read a g))))
 
   abbrev pub ensures-1·read : (a : World.ArgsD fill_segment.signature κs) → (g : Ghost) → (r : World.ResD fill_segment.signature κs) → (s : Clauses.AtExit (Kinds'.endedOf 2
       Kinds.ps Kinds.r) κs) → Read.Read (Base a) (Owned r s) λ w. fill_segment.ensures-1 (w .𝓤) (w .H) κs (w .𝓖 .A) (w .𝓜 .mem) (w .𝓡 .run) (a .0) (a .1 .0) (a .1 .1 .0) (a .1 .1
-      .1 .0) (a .1 .1 .1 .1 .0) (a .1 .1 .1 .1 .1 .0) record { entry = a .0; exit = s .0 } record { entry = a .1 .0; exit = s .1 .0 } record {
-        entry = a .1 .1 .0;
+      .1 .0) (a .1 .1 .1 .1 .0) (a .1 .1 .1 .1 .1 .0) (a .1 .1 .1 .1 .1 .1 .0) record { entry = a .0; exit = s .0 } record { entry = a .1 .0; exit = s .1 .0 } record {
+        entry = a .1
+            .1 .0;
         exit = s .1 .1 .0;
       } record { entry = a .1 .1 .1 .0; exit = s .1 .1 .1 .0 } record { entry = a .1 .1 .1 .1 .0; exit = s .1 .1 .1 .1 .0 } record {
-        entry = a .1 .1 .1 .1 .1 .0;
-        exit = s .1 .1 .1
-            .1 .1 .0;
-      } r
+        entry = a .1 .1 .1 .1
+            .1 .0;
+        exit = s .1 .1 .1 .1 .1 .0;
+      } record { entry = a .1 .1 .1 .1 .1 .1 .0; exit = s .1 .1 .1 .1 .1 .1 .0 } r
   ensures-1·read = λ a g r s. Read.all-models (λ w. fill_segment.ensures-1 (w .𝓤) (w .H) κs (w .𝓖 .A) (w .𝓜 .mem) (w .𝓡 .run) (a .0) (a .1 .0) (a .1 .1 .0) (a .1 .1 .1 .0) (a .1 .1
-      .1 .1 .0) (a .1 .1 .1 .1 .1 .0) record { entry = a .0; exit = s .0 } record { entry = a .1 .0; exit = s .1 .0 } record { entry = a .1 .1 .0; exit = s .1 .1 .0 } record {
-        entry = a .1 .1 .1 .0;
-        exit = s .1 .1 .1 .0;
-      } record { entry = a .1 .1 .1 .1 .0; exit = s .1 .1 .1 .1 .0 } record { entry = a .1 .1 .1 .1 .1 .0; exit = s .1 .1 .1 .1 .1 .0 }
-      r) (λ w. search Read.reads) (λ w. Path'.refl) (λ w. Path'.refl) λ w. Path'.refl
+      .1 .1 .0) (a .1 .1 .1 .1 .1 .0) (a .1 .1 .1 .1 .1 .1 .0) record { entry = a .0; exit = s .0 } record { entry = a .1 .0; exit = s .1 .0 } record {
+        entry = a .1 .1 .0;
+        exit = s
+            .1 .1 .0;
+      } record { entry = a .1 .1 .1 .0; exit = s .1 .1 .1 .0 } record { entry = a .1 .1 .1 .1 .0; exit = s .1 .1 .1 .1 .0 } record {
+        entry = a .1 .1 .1 .1 .1 .0;
+        exit = s
+            .1 .1 .1 .1 .1 .0;
+      } record { entry = a .1 .1 .1 .1 .1 .1 .0; exit = s .1 .1 .1 .1 .1 .1 .0 } r) (λ w. search Read.reads) (λ w. Path'.refl) (λ w. Path'.refl) λ w. Path'.refl
 
   abbrev pub ensures-2·read : (a : World.ArgsD fill_segment.signature κs) → (g : Ghost) → (r : World.ResD fill_segment.signature κs) → (s : Clauses.AtExit (Kinds'.endedOf 2
       Kinds.ps Kinds.r) κs) → Read.Read (Base a) (Owned r s) λ w. fill_segment.ensures-2 (w .𝓤) (w .H) κs (w .𝓖 .A) (w .𝓜 .mem) (w .𝓡 .run) (a .0) (a .1 .0) (a .1 .1 .0) (a .1 .1
-      .1 .0) (a .1 .1 .1 .1 .0) (a .1 .1 .1 .1 .1 .0) record { entry = a .0; exit = s .0 } record { entry = a .1 .0; exit = s .1 .0 } record {
-        entry = a .1 .1 .0;
+      .1 .0) (a .1 .1 .1 .1 .0) (a .1 .1 .1 .1 .1 .0) (a .1 .1 .1 .1 .1 .1 .0) record { entry = a .0; exit = s .0 } record { entry = a .1 .0; exit = s .1 .0 } record {
+        entry = a .1
+            .1 .0;
         exit = s .1 .1 .0;
       } record { entry = a .1 .1 .1 .0; exit = s .1 .1 .1 .0 } record { entry = a .1 .1 .1 .1 .0; exit = s .1 .1 .1 .1 .0 } record {
-        entry = a .1 .1 .1 .1 .1 .0;
-        exit = s .1 .1 .1
-            .1 .1 .0;
-      } r
+        entry = a .1 .1 .1 .1
+            .1 .0;
+        exit = s .1 .1 .1 .1 .1 .0;
+      } record { entry = a .1 .1 .1 .1 .1 .1 .0; exit = s .1 .1 .1 .1 .1 .1 .0 } r
   ensures-2·read = λ a g r s. Read.all-models (λ w. fill_segment.ensures-2 (w .𝓤) (w .H) κs (w .𝓖 .A) (w .𝓜 .mem) (w .𝓡 .run) (a .0) (a .1 .0) (a .1 .1 .0) (a .1 .1 .1 .0) (a .1 .1
-      .1 .1 .0) (a .1 .1 .1 .1 .1 .0) record { entry = a .0; exit = s .0 } record { entry = a .1 .0; exit = s .1 .0 } record { entry = a .1 .1 .0; exit = s .1 .1 .0 } record {
-        entry = a .1 .1 .1 .0;
-        exit = s .1 .1 .1 .0;
-      } record { entry = a .1 .1 .1 .1 .0; exit = s .1 .1 .1 .1 .0 } record { entry = a .1 .1 .1 .1 .1 .0; exit = s .1 .1 .1 .1 .1 .0 }
-      r) (λ w. search Read.reads) (λ w. Path'.refl) (λ w. Path'.refl) λ w. Path'.refl
+      .1 .1 .0) (a .1 .1 .1 .1 .1 .0) (a .1 .1 .1 .1 .1 .1 .0) record { entry = a .0; exit = s .0 } record { entry = a .1 .0; exit = s .1 .0 } record {
+        entry = a .1 .1 .0;
+        exit = s
+            .1 .1 .0;
+      } record { entry = a .1 .1 .1 .0; exit = s .1 .1 .1 .0 } record { entry = a .1 .1 .1 .1 .0; exit = s .1 .1 .1 .1 .0 } record {
+        entry = a .1 .1 .1 .1 .1 .0;
+        exit = s
+            .1 .1 .1 .1 .1 .0;
+      } record { entry = a .1 .1 .1 .1 .1 .1 .0; exit = s .1 .1 .1 .1 .1 .1 .0 } r) (λ w. search Read.reads) (λ w. Path'.refl) (λ w. Path'.refl) λ w. Path'.refl
 
   abbrev pub post-read : (a : World.ArgsD fill_segment.signature κs) → (g : Ghost) → (r : World.ResD fill_segment.signature κs) → (s : Clauses.AtExit (Kinds'.endedOf 2 Kinds.ps
       Kinds.r) κs) → Read.Read (Base a) (Owned r s) (ensures a g r s)
   post-read = λ a g r s. Read.read-join (λ w. fill_segment.ensures-1 (w .𝓤) (w .H) κs (w .𝓖 .A) (w .𝓜 .mem) (w .𝓡 .run) (a .0) (a .1 .0) (a .1 .1 .0) (a .1 .1 .1 .0) (a .1 .1 .1 .1
-      .0) (a .1 .1 .1 .1 .1 .0) record { entry = a .0; exit = s .0 } record { entry = a .1 .0; exit = s .1 .0 } record { entry = a .1 .1 .0; exit = s .1 .1 .0 } record {
-        entry = a
+      .0) (a .1 .1 .1 .1 .1 .0) (a .1 .1 .1 .1 .1 .1 .0) record { entry = a .0; exit = s .0 } record { entry = a .1 .0; exit = s .1 .0 } record {
+        entry = a .1 .1 .0;
+        exit = s .1 .1
+            .0;
+      } record { entry = a .1 .1 .1 .0; exit = s .1 .1 .1 .0 } record { entry = a .1 .1 .1 .1 .0; exit = s .1 .1 .1 .1 .0 } record {
+        entry = a .1 .1 .1 .1 .1 .0;
+        exit = s .1 .1
             .1 .1 .1 .0;
-        exit = s .1 .1 .1 .0;
-      } record { entry = a .1 .1 .1 .1 .0; exit = s .1 .1 .1 .1 .0 } record { entry = a .1 .1 .1 .1 .1 .0; exit = s .1 .1 .1 .1 .1 .0 } r) (λ w.
-      fill_segment.ensures-2 (w .𝓤) (w .H) κs (w .𝓖 .A) (w .𝓜 .mem) (w .𝓡 .run) (a .0) (a .1 .0) (a .1 .1 .0) (a .1 .1 .1 .0) (a .1 .1 .1 .1 .0) (a .1 .1 .1 .1 .1 .0) record {
-        entry = a .0;
-        exit = s .0;
-      } record { entry = a .1 .0; exit = s .1 .0 } record { entry = a .1 .1 .0; exit = s .1 .1 .0 } record { entry = a .1 .1 .1 .0; exit = s .1 .1 .1 .0 }
-      record { entry = a .1 .1 .1 .1 .0; exit = s .1 .1 .1 .1 .0 } record { entry = a .1 .1 .1 .1 .1 .0; exit = s .1 .1 .1 .1 .1 .0 } r) (ensures-1·read a g r s) (ensures-2·read a
-      g r s)
+      } record { entry = a .1 .1 .1 .1 .1 .1 .0; exit = s .1 .1 .1 .1 .1 .1 .0 } r) (λ w. fill_segment.ensures-2 (w .𝓤) (w .H) κs (w .𝓖 .A) (w .𝓜 .mem) (w .𝓡 .run) (a
+      .0) (a .1 .0) (a .1 .1 .0) (a .1 .1 .1 .0) (a .1 .1 .1 .1 .0) (a .1 .1 .1 .1 .1 .0) (a .1 .1 .1 .1 .1 .1 .0) record { entry = a .0; exit = s .0 } record {
+        entry = a .1 .0;
+        exit = s .1 .0;
+      } record { entry = a .1 .1 .0; exit = s .1 .1 .0 } record { entry = a .1 .1 .1 .0; exit = s .1 .1 .1 .0 } record {
+        entry = a .1 .1 .1 .1 .0;
+        exit = s .1 .1 .1
+            .1 .0;
+      } record { entry = a .1 .1 .1 .1 .1 .0; exit = s .1 .1 .1 .1 .1 .0 } record { entry = a .1 .1 .1 .1 .1 .1 .0; exit = s .1 .1 .1 .1 .1 .1 .0 } r) (ensures-1·read a g r
+      s) (ensures-2·read a g r s)
 
 abbrev pub Pre : Kinds'.In 2 Kinds.ps
 Pre = Written.Pre 2 Kinds.ps Kinds.r Ghost requires ensures pre-read Pinned Owned post-read tt

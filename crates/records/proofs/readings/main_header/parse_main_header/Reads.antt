@@ -43,55 +43,68 @@ module _ (κs : Lifetimes.Lfts 3) where
   pre-read = λ a g. Read.all-models (requires a g) (λ w. search Read.reads) (λ w. Path'.refl) (λ w. Path'.refl) λ w. Path'.refl
 
   abbrev pub ensures-1·read : (a : World.ArgsD parse_main_header.signature κs) → (g : Ghost) → (r : World.ResD parse_main_header.signature κs) → (s : Clauses.AtExit (Kinds'.endedOf
-      3 Kinds.ps Kinds.r) κs) → Read.Read (Base a) (Owned r s) λ w. parse_main_header.ensures-1 (w .𝓤) (w .H) κs (w .𝓖 .A) (w .𝓜 .mem) (w .𝓡 .run) (a .0) (a .1 .0) (a .1 .1 .0)
-      record { entry = a .0; exit = s .0 } record { entry = a .1 .0; exit = s .1 .0 } record { entry = a .1 .1 .0; exit = s .1 .1 .0 } r
-  ensures-1·read = λ a g r s. Read.all-models (λ w. parse_main_header.ensures-1 (w .𝓤) (w .H) κs (w .𝓖 .A) (w .𝓜 .mem) (w .𝓡 .run) (a .0) (a .1 .0) (a .1 .1 .0) record {
-    entry = a
-        .0;
-    exit = s .0;
-  } record { entry = a .1 .0; exit = s .1 .0 } record { entry = a .1 .1 .0; exit = s .1 .1 .0 } r) (λ w. search Read.reads) (λ w. Path'.refl) (λ w. Path'.refl)
-      λ w. Path'.refl
+      3 Kinds.ps Kinds.r) κs) → Read.Read (Base a) (Owned r s) λ w. parse_main_header.ensures-1 (w .𝓤) (w .H) κs (w .𝓖 .A) (w .𝓜 .mem) (w .𝓡 .run) (a .0) (a .1 .0) (a .1 .1 .0) (a
+      .1 .1 .1 .0) record { entry = a .0; exit = s .0 } record { entry = a .1 .0; exit = s .1 .0 } record { entry = a .1 .1 .0; exit = s .1 .1 .0 } record {
+        entry = a .1 .1 .1 .0;
+        exit = s .1 .1 .1 .0;
+      } r
+  ensures-1·read = λ a g r s. Read.all-models (λ w. parse_main_header.ensures-1 (w .𝓤) (w .H) κs (w .𝓖 .A) (w .𝓜 .mem) (w .𝓡 .run) (a .0) (a .1 .0) (a .1 .1 .0) (a .1 .1 .1 .0)
+      record { entry = a .0; exit = s .0 } record { entry = a .1 .0; exit = s .1 .0 } record { entry = a .1 .1 .0; exit = s .1 .1 .0 } record {
+        entry = a .1 .1 .1 .0;
+        exit = s .1
+            .1 .1 .0;
+      } r) (λ w. search Read.reads) (λ w. Path'.refl) (λ w. Path'.refl) λ w. Path'.refl
 
   abbrev pub ensures-2·read : (a : World.ArgsD parse_main_header.signature κs) → (g : Ghost) → (r : World.ResD parse_main_header.signature κs) → (s : Clauses.AtExit (Kinds'.endedOf
-      3 Kinds.ps Kinds.r) κs) → Read.Read (Base a) (Owned r s) λ w. parse_main_header.ensures-2 (w .𝓤) (w .H) κs (w .𝓖 .A) (w .𝓜 .mem) (w .𝓡 .run) (a .0) (a .1 .0) (a .1 .1 .0)
-      record { entry = a .0; exit = s .0 } record { entry = a .1 .0; exit = s .1 .0 } record { entry = a .1 .1 .0; exit = s .1 .1 .0 } r
-  ensures-2·read = λ a g r s. Read.all-models (λ w. parse_main_header.ensures-2 (w .𝓤) (w .H) κs (w .𝓖 .A) (w .𝓜 .mem) (w .𝓡 .run) (a .0) (a .1 .0) (a .1 .1 .0) record {
-    entry = a
-        .0;
-    exit = s .0;
-  } record { entry = a .1 .0; exit = s .1 .0 } record { entry = a .1 .1 .0; exit = s .1 .1 .0 } r) (λ w. search Read.reads) (λ w. Path'.refl) (λ w. Path'.refl)
-      λ w. Path'.refl
+      3 Kinds.ps Kinds.r) κs) → Read.Read (Base a) (Owned r s) λ w. parse_main_header.ensures-2 (w .𝓤) (w .H) κs (w .𝓖 .A) (w .𝓜 .mem) (w .𝓡 .run) (a .0) (a .1 .0) (a .1 .1 .0) (a
+      .1 .1 .1 .0) record { entry = a .0; exit = s .0 } record { entry = a .1 .0; exit = s .1 .0 } record { entry = a .1 .1 .0; exit = s .1 .1 .0 } record {
+        entry = a .1 .1 .1 .0;
+        exit = s .1 .1 .1 .0;
+      } r
+  ensures-2·read = λ a g r s. Read.all-models (λ w. parse_main_header.ensures-2 (w .𝓤) (w .H) κs (w .𝓖 .A) (w .𝓜 .mem) (w .𝓡 .run) (a .0) (a .1 .0) (a .1 .1 .0) (a .1 .1 .1 .0)
+      record { entry = a .0; exit = s .0 } record { entry = a .1 .0; exit = s .1 .0 } record { entry = a .1 .1 .0; exit = s .1 .1 .0 } record {
+        entry = a .1 .1 .1 .0;
+        exit = s .1
+            .1 .1 .0;
+      } r) (λ w. search Read.reads) (λ w. Path'.refl) (λ w. Path'.refl) λ w. Path'.refl
 
   abbrev pub ensures-3·read : (a : World.ArgsD parse_main_header.signature κs) → (g : Ghost) → (r : World.ResD parse_main_header.signature κs) → (s : Clauses.AtExit (Kinds'.endedOf
-      3 Kinds.ps Kinds.r) κs) → Read.Read (Base a) (Owned r s) λ w. parse_main_header.ensures-3 (w .𝓤) (w .H) κs (w .𝓖 .A) (w .𝓜 .mem) (w .𝓡 .run) (a .0) (a .1 .0) (a .1 .1 .0)
-      record { entry = a .0; exit = s .0 } record { entry = a .1 .0; exit = s .1 .0 } record { entry = a .1 .1 .0; exit = s .1 .1 .0 } r
-  ensures-3·read = λ a g r s. Read.all-models (λ w. parse_main_header.ensures-3 (w .𝓤) (w .H) κs (w .𝓖 .A) (w .𝓜 .mem) (w .𝓡 .run) (a .0) (a .1 .0) (a .1 .1 .0) record {
-    entry = a
-        .0;
-    exit = s .0;
-  } record { entry = a .1 .0; exit = s .1 .0 } record { entry = a .1 .1 .0; exit = s .1 .1 .0 } r) (λ w. search Read.reads) (λ w. Path'.refl) (λ w. Path'.refl)
-      λ w. Path'.refl
+      3 Kinds.ps Kinds.r) κs) → Read.Read (Base a) (Owned r s) λ w. parse_main_header.ensures-3 (w .𝓤) (w .H) κs (w .𝓖 .A) (w .𝓜 .mem) (w .𝓡 .run) (a .0) (a .1 .0) (a .1 .1 .0) (a
+      .1 .1 .1 .0) record { entry = a .0; exit = s .0 } record { entry = a .1 .0; exit = s .1 .0 } record { entry = a .1 .1 .0; exit = s .1 .1 .0 } record {
+        entry = a .1 .1 .1 .0;
+        exit = s .1 .1 .1 .0;
+      } r
+  ensures-3·read = λ a g r s. Read.all-models (λ w. parse_main_header.ensures-3 (w .𝓤) (w .H) κs (w .𝓖 .A) (w .𝓜 .mem) (w .𝓡 .run) (a .0) (a .1 .0) (a .1 .1 .0) (a .1 .1 .1 .0)
+      record { entry = a .0; exit = s .0 } record { entry = a .1 .0; exit = s .1 .0 } record { entry = a .1 .1 .0; exit = s .1 .1 .0 } record {
+        entry = a .1 .1 .1 .0;
+        exit = s .1
+            .1 .1 .0;
+      } r) (λ w. search Read.reads) (λ w. Path'.refl) (λ w. Path'.refl) λ w. Path'.refl
 
   abbrev pub post-read : (a : World.ArgsD parse_main_header.signature κs) → (g : Ghost) → (r : World.ResD parse_main_header.signature κs) → (s : Clauses.AtExit (Kinds'.endedOf 3
       Kinds.ps Kinds.r) κs) → Read.Read (Base a) (Owned r s) (ensures a g r s)
-  post-read = λ a g r s. Read.read-join (λ w. parse_main_header.ensures-1 (w .𝓤) (w .H) κs (w .𝓖 .A) (w .𝓜 .mem) (w .𝓡 .run) (a .0) (a .1 .0) (a .1 .1 .0) record {
+  post-read = λ a g r s. Read.read-join (λ w. parse_main_header.ensures-1 (w .𝓤) (w .H) κs (w .𝓖 .A) (w .𝓜 .mem) (w .𝓡 .run) (a .0) (a .1 .0) (a .1 .1 .0) (a .1 .1 .1 .0) record {
     entry = a .0;
     exit = s .0;
-  } record { entry = a .1 .0; exit = s .1 .0 } record { entry = a .1 .1 .0; exit = s .1 .1 .0 } r) (λ w. Logic.sep (w .𝓤) (parse_main_header.ensures-2 (w .𝓤) (w .H)
-      κs (w .𝓖 .A) (w .𝓜 .mem) (w .𝓡 .run) (a .0) (a .1 .0) (a .1 .1 .0) record { entry = a .0; exit = s .0 } record { entry = a .1 .0; exit = s .1 .0 } record {
-        entry = a .1 .1
-            .0;
-        exit = s .1 .1 .0;
-      } r) (parse_main_header.ensures-3 (w .𝓤) (w .H) κs (w .𝓖 .A) (w .𝓜 .mem) (w .𝓡 .run) (a .0) (a .1 .0) (a .1 .1 .0) record { entry = a .0; exit = s .0 }
-      record { entry = a .1 .0; exit = s .1 .0 } record { entry = a .1 .1 .0; exit = s .1 .1 .0 } r)) (ensures-1·read a g r s) (Read.read-join (λ w. parse_main_header.ensures-2 (w
-      .𝓤) (w .H) κs (w .𝓖 .A) (w .𝓜 .mem) (w .𝓡 .run) (a .0) (a .1 .0) (a .1 .1 .0) record { entry = a .0; exit = s .0 } record { entry = a .1 .0; exit = s .1 .0 } record {
-        entry =
-            a .1 .1 .0;
-        exit = s .1 .1 .0;
-      } r) (λ w. parse_main_header.ensures-3 (w .𝓤) (w .H) κs (w .𝓖 .A) (w .𝓜 .mem) (w .𝓡 .run) (a .0) (a .1 .0) (a .1 .1 .0) record {
+  } record { entry = a .1 .0; exit = s .1 .0 } record { entry = a .1 .1 .0; exit = s .1 .1 .0 } record { entry = a .1 .1 .1 .0; exit = s .1 .1 .1 .0 }
+      r) (λ w. Logic.sep (w .𝓤) (parse_main_header.ensures-2 (w .𝓤) (w .H) κs (w .𝓖 .A) (w .𝓜 .mem) (w .𝓡 .run) (a .0) (a .1 .0) (a .1 .1 .0) (a .1 .1 .1 .0) record {
         entry = a .0;
         exit = s .0;
-      } record { entry = a .1 .0; exit = s .1 .0 } record { entry = a .1 .1 .0; exit = s .1 .1 .0 } r) (ensures-2·read a g r s) (ensures-3·read a g r s))
+      } record { entry = a .1 .0; exit = s .1 .0 } record { entry = a .1 .1 .0; exit = s .1 .1 .0 } record { entry = a .1 .1 .1 .0; exit = s .1 .1 .1 .0 } r)
+      (parse_main_header.ensures-3 (w .𝓤) (w .H) κs (w .𝓖 .A) (w .𝓜 .mem) (w .𝓡 .run) (a .0) (a .1 .0) (a .1 .1 .0) (a .1 .1 .1 .0) record { entry = a .0; exit = s .0 } record {
+        entry = a .1 .0;
+        exit = s .1 .0;
+      } record { entry = a .1 .1 .0; exit = s .1 .1 .0 } record { entry = a .1 .1 .1 .0; exit = s .1 .1 .1 .0 } r)) (ensures-1·read a g r s)
+      (Read.read-join (λ w. parse_main_header.ensures-2 (w .𝓤) (w .H) κs (w .𝓖 .A) (w .𝓜 .mem) (w .𝓡 .run) (a .0) (a .1 .0) (a .1 .1 .0) (a .1 .1 .1 .0) record {
+        entry = a .0;
+        exit
+            = s .0;
+      } record { entry = a .1 .0; exit = s .1 .0 } record { entry = a .1 .1 .0; exit = s .1 .1 .0 } record { entry = a .1 .1 .1 .0; exit = s .1 .1 .1 .0 } r) (λ w.
+      parse_main_header.ensures-3 (w .𝓤) (w .H) κs (w .𝓖 .A) (w .𝓜 .mem) (w .𝓡 .run) (a .0) (a .1 .0) (a .1 .1 .0) (a .1 .1 .1 .0) record { entry = a .0; exit = s .0 } record {
+        entry = a .1 .0;
+        exit = s .1 .0;
+      } record { entry = a .1 .1 .0; exit = s .1 .1 .0 } record { entry = a .1 .1 .1 .0; exit = s .1 .1 .1 .0 } r) (ensures-2·read a g r s)
+      (ensures-3·read a g r s))
 
 abbrev pub Pre : Kinds'.In 3 Kinds.ps
 Pre = Written.Pre 3 Kinds.ps Kinds.r Ghost requires ensures pre-read Pinned Owned post-read tt

@@ -1,10 +1,12 @@
 -- `Lts` of `records::tables/header_table`, written by tools/twin.py from twins/records.twin: change that, and not this.
 use Rattle.types.proofs.lent.TilePartEntry as LentTilePartEntry
 use Prim.Native.Nat
+use Rattle.header.proofs.numbering.Numbering
+use Rattle.header.proofs.numbering.Numbering.Laws
 use Rattle.header.proofs.parse.MainHeader
-use Rattle.header.proofs.parse.MainHeader.Laws
+use Rattle.header.proofs.parse.MainHeader.Laws as Laws'
 use Rattle.records.proofs.tables.HeaderTable
-use Rattle.records.proofs.tables.HeaderTable.Laws as Laws'
+use Rattle.records.proofs.tables.HeaderTable.Laws as Laws''
 use borrow.Author.Called
 use borrow.Fn.Any
 use borrow.Fn.Call
@@ -40,10 +42,10 @@ use borrow.Table.Typed
 use contract.Lifetimes
 use denote.Array as Array'
 use denote.Enum.Declared
-use denote.Enum.Laws as Laws''
+use denote.Enum.Laws as Laws'3
 use denote.Exit
 use denote.Struct.Declared as Declared'
-use denote.Struct.Laws as Laws'3
+use denote.Struct.Laws as Laws'4
 use denote.Triple.Clauses
 use denote.Triple.Statement
 use ghost.Atoms
@@ -57,25 +59,43 @@ use prog.Wp
 use types.Kit
 
 abbrev pub ps : List.List (Kinds.PK 2)
-ps = List._∷_ (ShrSlice.pShrS (Referent.rtF (Referent.fInt Syntax.w8)) 0 tt) (List._∷_ (MutSlice.pMutS (Referent.rtF (Referent.fInt Syntax.w8)) 1 tt) List.[])
+ps = List._∷_ (ShrSlice.pShrS (Referent.rtF (Referent.fInt Syntax.w8)) 0 tt) (List._∷_ (Value.pVal record {
+  ty = Declared.row Numbering.the-type;
+  one = Path'.refl;
+  val = Laws'3.val
+      Numbering.the-type Laws.the-laws;
+  tells = Laws'3.tells Numbering.the-type Laws.the-laws;
+  still = Laws'3.still Numbering.the-type Laws.the-copy Exit.yes;
+  row = Rows'.whole
+      (Declared.row Numbering.the-type);
+  rd = λ x. x;
+  mk = λ x. x;
+} λ M 𝓤 H A W. record {
+  copies = Laws'3.copy Numbering.the-type Laws.the-copy 𝓤 H A W;
+  lawful = Laws'3.lawful
+      Numbering.the-type Laws.the-laws 𝓤 H A W tt;
+  makes = Laws'3.makes Numbering.the-type Laws.the-plain 𝓤 H A;
+  in-mem = Local.mem-whole 𝓤 H A W (Declared.row Numbering.the-type);
+  of-mem = Local.whole-mem 𝓤 H A W (Declared.row Numbering.the-type);
+}) (List._∷_ (MutSlice.pMutS (Referent.rtF (Referent.fInt Syntax.w8)) 1 tt) List.[]))
 
 abbrev pub r : Kinds.RK 2
 r = Value.rVal record {
   ty = Declared'.row HeaderTable.the-type;
   one = Path'.refl;
-  val = Laws'3.val HeaderTable.the-type Laws'.the-laws;
-  tells = Laws'3.tells HeaderTable.the-type
-      Laws'.the-laws;
-  still = Laws'3.still HeaderTable.the-type Laws'.the-copy Exit.yes;
+  val = Laws'4.val HeaderTable.the-type Laws''.the-laws;
+  tells = Laws'4.tells HeaderTable.the-type
+      Laws''.the-laws;
+  still = Laws'4.still HeaderTable.the-type Laws''.the-copy Exit.yes;
   row = Rows'.whole (Declared'.row HeaderTable.the-type);
   rd = λ x. x;
   mk = λ x. x;
-} λ M 𝓤 H A
-    W. record {
-      copies = Laws'3.copy HeaderTable.the-type Laws'.the-copy 𝓤 H A W;
-      lawful = Laws'3.lawful HeaderTable.the-type Laws'.the-laws 𝓤 H A W;
-      makes = Laws'3.makes
-          HeaderTable.the-type Laws'.the-plain 𝓤 H A;
+} λ M 𝓤 H
+    A W. record {
+      copies = Laws'4.copy HeaderTable.the-type Laws''.the-copy 𝓤 H A W;
+      lawful = Laws'4.lawful HeaderTable.the-type Laws''.the-laws 𝓤 H A W;
+      makes = Laws'4.makes
+          HeaderTable.the-type Laws''.the-plain 𝓤 H A;
       in-mem = Local.mem-whole 𝓤 H A W (Declared'.row HeaderTable.the-type);
       of-mem = Local.whole-mem 𝓤 H A W (Declared'.row
           HeaderTable.the-type);
@@ -108,26 +128,45 @@ abbrev pub r·0 : Kinds.RK 0
 r·0 = Array.rArr LentTilePartEntry.elem LentTilePartEntry.elem-laws 2048
 
 abbrev pub ps·1 : List.List (Kinds.PK 3)
-ps·1 = List._∷_ (ShrSlice.pShrS (Referent.rtF (Referent.fInt Syntax.w8)) 0 tt) (List._∷_ (MutSlice.pMutS LentTilePartEntry.row 1 tt) (List._∷_ (MutSlice.pMutS (Referent.rtF
-    (Referent.fInt Syntax.w8)) 2 tt) List.[]))
+ps·1 = List._∷_ (ShrSlice.pShrS (Referent.rtF (Referent.fInt Syntax.w8)) 0 tt) (List._∷_ (Value.pVal record {
+  ty = Declared.row Numbering.the-type;
+  one = Path'.refl;
+  val =
+      Laws'3.val Numbering.the-type Laws.the-laws;
+  tells = Laws'3.tells Numbering.the-type Laws.the-laws;
+  still = Laws'3.still Numbering.the-type Laws.the-copy Exit.yes;
+  row =
+      Rows'.whole (Declared.row Numbering.the-type);
+  rd = λ x. x;
+  mk = λ x. x;
+} λ M 𝓤 H A W. record {
+  copies = Laws'3.copy Numbering.the-type Laws.the-copy 𝓤 H A W;
+  lawful =
+      Laws'3.lawful Numbering.the-type Laws.the-laws 𝓤 H A W tt;
+  makes = Laws'3.makes Numbering.the-type Laws.the-plain 𝓤 H A;
+  in-mem = Local.mem-whole 𝓤 H A W (Declared.row
+      Numbering.the-type);
+  of-mem = Local.whole-mem 𝓤 H A W (Declared.row Numbering.the-type);
+}) (List._∷_ (MutSlice.pMutS LentTilePartEntry.row 1 tt) (List._∷_ (MutSlice.pMutS
+    (Referent.rtF (Referent.fInt Syntax.w8)) 2 tt) List.[])))
 
 abbrev pub r·1 : Kinds.RK 3
 r·1 = Value.rVal record {
   ty = Declared.row MainHeader.the-type;
   one = Path'.refl;
-  val = Laws''.val MainHeader.the-type Laws.the-laws;
-  tells = Laws''.tells MainHeader.the-type
-      Laws.the-laws;
-  still = Laws''.still MainHeader.the-type Laws.the-copy Exit.yes;
+  val = Laws'3.val MainHeader.the-type Laws'.the-laws;
+  tells = Laws'3.tells MainHeader.the-type
+      Laws'.the-laws;
+  still = Laws'3.still MainHeader.the-type Laws'.the-copy Exit.yes;
   row = Rows'.whole (Declared.row MainHeader.the-type);
   rd = λ x. x;
   mk = λ x. x;
 } λ M 𝓤 H A W.
     record {
-      copies = Laws''.copy MainHeader.the-type Laws.the-copy 𝓤 H A W;
-      lawful = Laws''.lawful MainHeader.the-type Laws.the-laws 𝓤 H A W tt;
-      makes = Laws''.makes
-          MainHeader.the-type Laws.the-plain 𝓤 H A;
+      copies = Laws'3.copy MainHeader.the-type Laws'.the-copy 𝓤 H A W;
+      lawful = Laws'3.lawful MainHeader.the-type Laws'.the-laws 𝓤 H A W tt;
+      makes = Laws'3.makes
+          MainHeader.the-type Laws'.the-plain 𝓤 H A;
       in-mem = Local.mem-whole 𝓤 H A W (Declared.row MainHeader.the-type);
       of-mem = Local.whole-mem 𝓤 H A W (Declared.row
           MainHeader.the-type);
@@ -137,19 +176,19 @@ abbrev pub ps·2 : List.List (Kinds.PK 0)
 ps·2 = List._∷_ (Value.pVal record {
   ty = Declared.row MainHeader.the-type;
   one = Path'.refl;
-  val = Laws''.val MainHeader.the-type Laws.the-laws;
-  tells = Laws''.tells
-      MainHeader.the-type Laws.the-laws;
-  still = Laws''.still MainHeader.the-type Laws.the-copy Exit.yes;
+  val = Laws'3.val MainHeader.the-type Laws'.the-laws;
+  tells = Laws'3.tells
+      MainHeader.the-type Laws'.the-laws;
+  still = Laws'3.still MainHeader.the-type Laws'.the-copy Exit.yes;
   row = Rows'.whole (Declared.row MainHeader.the-type);
   rd = λ x. x;
-  mk = λ x.
-      x;
+  mk = λ
+      x. x;
 } λ M 𝓤 H A W. record {
-  copies = Laws''.copy MainHeader.the-type Laws.the-copy 𝓤 H A W;
-  lawful = Laws''.lawful MainHeader.the-type Laws.the-laws 𝓤 H A W tt;
+  copies = Laws'3.copy MainHeader.the-type Laws'.the-copy 𝓤 H A W;
+  lawful = Laws'3.lawful MainHeader.the-type Laws'.the-laws 𝓤 H A W tt;
   makes =
-      Laws''.makes MainHeader.the-type Laws.the-plain 𝓤 H A;
+      Laws'3.makes MainHeader.the-type Laws'.the-plain 𝓤 H A;
   in-mem = Local.mem-whole 𝓤 H A W (Declared.row MainHeader.the-type);
   of-mem = Local.whole-mem 𝓤 H A W (Declared.row
       MainHeader.the-type);
@@ -159,56 +198,54 @@ abbrev pub r·2 : Kinds.RK 0
 r·2 = Value.rVal record {
   ty = Declared'.row HeaderTable.the-type;
   one = Path'.refl;
-  val = Laws'3.val HeaderTable.the-type Laws'.the-laws;
-  tells = Laws'3.tells HeaderTable.the-type
-      Laws'.the-laws;
-  still = Laws'3.still HeaderTable.the-type Laws'.the-copy Exit.yes;
+  val = Laws'4.val HeaderTable.the-type Laws''.the-laws;
+  tells = Laws'4.tells
+      HeaderTable.the-type Laws''.the-laws;
+  still = Laws'4.still HeaderTable.the-type Laws''.the-copy Exit.yes;
   row = Rows'.whole (Declared'.row HeaderTable.the-type);
   rd = λ x. x;
   mk = λ x. x;
-} λ M 𝓤 H A
-    W. record {
-      copies = Laws'3.copy HeaderTable.the-type Laws'.the-copy 𝓤 H A W;
-      lawful = Laws'3.lawful HeaderTable.the-type Laws'.the-laws 𝓤 H A W;
-      makes = Laws'3.makes
-          HeaderTable.the-type Laws'.the-plain 𝓤 H A;
-      in-mem = Local.mem-whole 𝓤 H A W (Declared'.row HeaderTable.the-type);
-      of-mem = Local.whole-mem 𝓤 H A W (Declared'.row
-          HeaderTable.the-type);
-    }
+} λ M 𝓤 H A W. record {
+  copies = Laws'4.copy HeaderTable.the-type Laws''.the-copy 𝓤 H A W;
+  lawful = Laws'4.lawful HeaderTable.the-type Laws''.the-laws 𝓤 H A W;
+  makes = Laws'4.makes HeaderTable.the-type Laws''.the-plain 𝓤 H A;
+  in-mem = Local.mem-whole 𝓤 H A W (Declared'.row HeaderTable.the-type);
+  of-mem = Local.whole-mem 𝓤 H A W
+      (Declared'.row HeaderTable.the-type);
+}
 
 abbrev pub hs : List.List Syntax.Home
-hs = List._∷_ Syntax.valueLocal (List._∷_ Syntax.valueLocal (List._∷_ Syntax.valueLocal (List._∷_ Syntax.memorySlot (List._∷_ Syntax.valueLocal (List._∷_ Syntax.valueLocal
-    (List._∷_ Syntax.valueLocal (List._∷_ Syntax.valueLocal (List._∷_ Syntax.valueLocal (List._∷_ Syntax.valueLocal List.[])))))))))
+hs = List._∷_ Syntax.valueLocal (List._∷_ Syntax.valueLocal (List._∷_ Syntax.valueLocal (List._∷_ Syntax.valueLocal (List._∷_ Syntax.memorySlot (List._∷_ Syntax.valueLocal
+    (List._∷_ Syntax.valueLocal (List._∷_ Syntax.valueLocal (List._∷_ Syntax.valueLocal (List._∷_ Syntax.valueLocal (List._∷_ Syntax.valueLocal List.[]))))))))))
 
 abbrev b0 : Syntax.Body
-b0 = Syntax.call "records::tables::new_table" List.[] (Syntax.place 5 List.[])
+b0 = Syntax.call "records::tables::new_table" List.[] (Syntax.place 6 List.[])
 
 abbrev b1 : Syntax.Body
-b1 = Syntax.assign (Syntax.place 3 List.[]) (Syntax.rvOpd (Syntax.copy (Syntax.place 5 List.[])))
+b1 = Syntax.assign (Syntax.place 4 List.[]) (Syntax.rvOpd (Syntax.copy (Syntax.place 6 List.[])))
 
 abbrev b2 : Syntax.Body
-b2 = Syntax.assign (Syntax.place 6 List.[]) (Syntax.addrOf (Syntax.place 3 List.[]))
+b2 = Syntax.assign (Syntax.place 7 List.[]) (Syntax.addrOf (Syntax.place 4 List.[]))
 
 abbrev b3 : Syntax.Body
-b3 = Syntax.assign (Syntax.place 7 List.[]) (Syntax.aggregate (List._∷_ (Syntax.copy (Syntax.place 6 List.[])) (List._∷_ (Syntax.intBig Syntax.w64 2048) List.[])))
+b3 = Syntax.assign (Syntax.place 8 List.[]) (Syntax.aggregate (List._∷_ (Syntax.copy (Syntax.place 7 List.[])) (List._∷_ (Syntax.intBig Syntax.w64 2048) List.[])))
 
 abbrev b4 : Syntax.Body
-b4 = Syntax.assign (Syntax.place 8 List.[]) (Syntax.addrOf (Syntax.place 2 (List._∷_ (Syntax.field 0) (List._∷_ (Syntax.deref (Syntax.tyInt Syntax.w8)) List.[]))))
+b4 = Syntax.assign (Syntax.place 9 List.[]) (Syntax.addrOf (Syntax.place 3 (List._∷_ (Syntax.field 0) (List._∷_ (Syntax.deref (Syntax.tyInt Syntax.w8)) List.[]))))
 
 abbrev b5 : Syntax.Body
-b5 = Syntax.assign (Syntax.place 9 List.[]) (Syntax.aggregate (List._∷_ (Syntax.copy (Syntax.place 8 List.[])) (List._∷_ (Syntax.copy (Syntax.place 2 (List._∷_ (Syntax.field 1)
+b5 = Syntax.assign (Syntax.place 10 List.[]) (Syntax.aggregate (List._∷_ (Syntax.copy (Syntax.place 9 List.[])) (List._∷_ (Syntax.copy (Syntax.place 3 (List._∷_ (Syntax.field 1)
     List.[]))) List.[])))
 
 abbrev b6 : Syntax.Body
-b6 = Syntax.call "records::main_header::parse_main_header" (List._∷_ (Syntax.copy (Syntax.place 1 List.[])) (List._∷_ (Syntax.copy (Syntax.place 7 List.[])) (List._∷_ (Syntax.copy
-    (Syntax.place 9 List.[])) List.[]))) (Syntax.place 4 List.[])
+b6 = Syntax.call "records::main_header::parse_main_header" (List._∷_ (Syntax.copy (Syntax.place 1 List.[])) (List._∷_ (Syntax.copy (Syntax.place 2 List.[])) (List._∷_ (Syntax.copy
+    (Syntax.place 8 List.[])) (List._∷_ (Syntax.copy (Syntax.place 10 List.[])) List.[])))) (Syntax.place 5 List.[])
 
 abbrev b7 : Syntax.Body
-b7 = Syntax.assign (Syntax.place 5 List.[]) (Syntax.rvOpd (Syntax.copy (Syntax.place 3 List.[])))
+b7 = Syntax.assign (Syntax.place 6 List.[]) (Syntax.rvOpd (Syntax.copy (Syntax.place 4 List.[])))
 
 abbrev b8 : Syntax.Body
-b8 = Syntax.call "records::tables::header_with" (List._∷_ (Syntax.copy (Syntax.place 4 List.[])) (List._∷_ (Syntax.copy (Syntax.place 5 List.[])) List.[])) (Syntax.place 0 List.[])
+b8 = Syntax.call "records::tables::header_with" (List._∷_ (Syntax.copy (Syntax.place 5 List.[])) (List._∷_ (Syntax.copy (Syntax.place 6 List.[])) List.[])) (Syntax.place 0 List.[])
 
 abbrev b9 : Syntax.Body
 b9 = Syntax.return
@@ -272,76 +309,84 @@ t0 = List._∷_ (
   1,
   Rows'.sslice (Referent.rtF (Referent.fInt Syntax.w8))
       (Syntax.tyRef (Syntax.named 0) Syntax.imm (Syntax.tyInt Syntax.w8)) 0,
-) (List._∷_ (
-  2,
-  Mut.mslice (Referent.rtF (Referent.fInt Syntax.w8)) (Syntax.tyRef (Syntax.named 1)
-      Syntax.mut (Syntax.tyInt Syntax.w8)) 1,
-) (List._∷_ (3, Rows'.any-gone (Syntax.tyArray LentTilePartEntry.spelled 2048)) (List._∷_ (
-  4,
-  Rows'.any-gone (Syntax.tyEnum (List._∷_ 104
-      (List._∷_ 101 (List._∷_ 97 (List._∷_ 100 (List._∷_ 101 (List._∷_ 114 (List._∷_ 58 (List._∷_ 58 (List._∷_ 112 (List._∷_ 97 (List._∷_ 114 (List._∷_ 115 (List._∷_ 101 (List._∷_ 58
-      (List._∷_ 58 (List._∷_ 77 (List._∷_ 97 (List._∷_ 105 (List._∷_ 110 (List._∷_ 72 (List._∷_ 101 (List._∷_ 97 (List._∷_ 100 (List._∷_ 101 (List._∷_ 114
-      List.[]))))))))))))))))))))))))) (Syntax.ttcons (Syntax.tcons (Syntax.tyStruct (List._∷_ 104 (List._∷_ 101 (List._∷_ 97 (List._∷_ 100 (List._∷_ 101 (List._∷_ 114 (List._∷_ 58
-      (List._∷_ 58 (List._∷_ 112 (List._∷_ 97 (List._∷_ 114 (List._∷_ 115 (List._∷_ 101 (List._∷_ 58 (List._∷_ 58 (List._∷_ 77 (List._∷_ 97 (List._∷_ 105 (List._∷_ 110 (List._∷_ 72
-      (List._∷_ 101 (List._∷_ 97 (List._∷_ 100 (List._∷_ 101 (List._∷_ 114 (List._∷_ 73 (List._∷_ 110 (List._∷_ 102 (List._∷_ 111 List.[]))))))))))))))))))))))))))))) (Syntax.tcons
-      (Syntax.tyStruct (List._∷_ 116 (List._∷_ 121 (List._∷_ 112 (List._∷_ 101 (List._∷_ 115 (List._∷_ 58 (List._∷_ 58 (List._∷_ 67 (List._∷_ 111 (List._∷_ 100 (List._∷_ 101
-      (List._∷_ 115 (List._∷_ 116 (List._∷_ 114 (List._∷_ 101 (List._∷_ 97 (List._∷_ 109 (List._∷_ 79 (List._∷_ 102 (List._∷_ 102 (List._∷_ 115 (List._∷_ 101 (List._∷_ 116
-      List.[]))))))))))))))))))))))) (Syntax.tcons (Syntax.tyInt Syntax.w64) Syntax.tnil)) (Syntax.tcons (Syntax.tyInt Syntax.w64) (Syntax.tcons (Syntax.tyInt Syntax.w64)
-      (Syntax.tcons (Syntax.tyInt Syntax.w64) Syntax.tnil))))) Syntax.tnil) (Syntax.ttcons (Syntax.tcons (Syntax.tyStruct (List._∷_ 116 (List._∷_ 121 (List._∷_ 112 (List._∷_ 101
-      (List._∷_ 115 (List._∷_ 58 (List._∷_ 58 (List._∷_ 82 (List._∷_ 101 (List._∷_ 102 (List._∷_ 117 (List._∷_ 115 (List._∷_ 97 (List._∷_ 108 List.[])))))))))))))) (Syntax.tcons
-      (Syntax.tyInt Syntax.w32) (Syntax.tcons (Syntax.tyInt Syntax.w64) Syntax.tnil))) Syntax.tnil) Syntax.ttnil))),
-) (List._∷_ (
-  5,
-  Rows'.any-gone (Syntax.tyArray
-      LentTilePartEntry.spelled 2048),
-) (List._∷_ (6, Rows'.any-gone (Syntax.tyRef Syntax.erased Syntax.mut (Syntax.tyArray LentTilePartEntry.pointee 2048))) (List._∷_ (
-  7,
-  Rows'.any-gone (Syntax.tyStruct (List._∷_ 38 (List._∷_ 91 (List._∷_ 93 List.[]))) (Syntax.tcons (Syntax.tyRef Syntax.erased Syntax.mut LentTilePartEntry.pointee) (Syntax.tcons
-      (Syntax.tyInt Syntax.w64) Syntax.tnil))),
-) (List._∷_ (8, Rows'.any-gone (Syntax.tyRef Syntax.erased Syntax.mut (Syntax.tyInt Syntax.w8))) (List._∷_ (
-  9,
-  Rows'.any-gone
-      (Syntax.tyStruct (List._∷_ 38 (List._∷_ 91 (List._∷_ 93 List.[]))) (Syntax.tcons (Syntax.tyRef Syntax.erased Syntax.mut (Syntax.tyInt Syntax.w8)) (Syntax.tcons (Syntax.tyInt
-      Syntax.w64) Syntax.tnil))),
-) List.[])))))))))
+) (List._∷_ (2, Rows'.whole (Declared.row Numbering.the-type)) (List._∷_ (
+  3,
+  Mut.mslice (Referent.rtF
+      (Referent.fInt Syntax.w8)) (Syntax.tyRef (Syntax.named 1) Syntax.mut (Syntax.tyInt Syntax.w8)) 1,
+) (List._∷_ (4, Rows'.any-gone (Syntax.tyArray LentTilePartEntry.spelled 2048))
+    (List._∷_ (
+      5,
+      Rows'.any-gone (Syntax.tyEnum (List._∷_ 104 (List._∷_ 101 (List._∷_ 97 (List._∷_ 100 (List._∷_ 101 (List._∷_ 114 (List._∷_ 58 (List._∷_ 58 (List._∷_ 112 (List._∷_
+          97 (List._∷_ 114 (List._∷_ 115 (List._∷_ 101 (List._∷_ 58 (List._∷_ 58 (List._∷_ 77 (List._∷_ 97 (List._∷_ 105 (List._∷_ 110 (List._∷_ 72 (List._∷_ 101 (List._∷_ 97 (List._∷_
+          100 (List._∷_ 101 (List._∷_ 114 List.[]))))))))))))))))))))))))) (Syntax.ttcons (Syntax.tcons (Syntax.tyStruct (List._∷_ 104 (List._∷_ 101 (List._∷_ 97 (List._∷_ 100 (List._∷_
+          101 (List._∷_ 114 (List._∷_ 58 (List._∷_ 58 (List._∷_ 112 (List._∷_ 97 (List._∷_ 114 (List._∷_ 115 (List._∷_ 101 (List._∷_ 58 (List._∷_ 58 (List._∷_ 77 (List._∷_ 97 (List._∷_
+          105 (List._∷_ 110 (List._∷_ 72 (List._∷_ 101 (List._∷_ 97 (List._∷_ 100 (List._∷_ 101 (List._∷_ 114 (List._∷_ 73 (List._∷_ 110 (List._∷_ 102 (List._∷_ 111
+          List.[]))))))))))))))))))))))))))))) (Syntax.tcons (Syntax.tyStruct (List._∷_ 116 (List._∷_ 121 (List._∷_ 112 (List._∷_ 101 (List._∷_ 115 (List._∷_ 58 (List._∷_ 58 (List._∷_ 67
+          (List._∷_ 111 (List._∷_ 100 (List._∷_ 101 (List._∷_ 115 (List._∷_ 116 (List._∷_ 114 (List._∷_ 101 (List._∷_ 97 (List._∷_ 109 (List._∷_ 79 (List._∷_ 102 (List._∷_ 102 (List._∷_
+          115 (List._∷_ 101 (List._∷_ 116 List.[]))))))))))))))))))))))) (Syntax.tcons (Syntax.tyInt Syntax.w64) Syntax.tnil)) (Syntax.tcons (Syntax.tyInt Syntax.w64) (Syntax.tcons
+          (Syntax.tyInt Syntax.w64) (Syntax.tcons (Syntax.tyInt Syntax.w64) Syntax.tnil))))) Syntax.tnil) (Syntax.ttcons (Syntax.tcons (Syntax.tyStruct (List._∷_ 116 (List._∷_ 121
+          (List._∷_ 112 (List._∷_ 101 (List._∷_ 115 (List._∷_ 58 (List._∷_ 58 (List._∷_ 82 (List._∷_ 101 (List._∷_ 102 (List._∷_ 117 (List._∷_ 115 (List._∷_ 97 (List._∷_ 108
+          List.[])))))))))))))) (Syntax.tcons (Syntax.tyInt Syntax.w32) (Syntax.tcons (Syntax.tyInt Syntax.w64) Syntax.tnil))) Syntax.tnil) Syntax.ttnil))),
+    ) (List._∷_ (
+      6,
+      Rows'.any-gone
+          (Syntax.tyArray LentTilePartEntry.spelled 2048),
+    ) (List._∷_ (7, Rows'.any-gone (Syntax.tyRef Syntax.erased Syntax.mut (Syntax.tyArray LentTilePartEntry.pointee 2048))) (List._∷_ (
+      8,
+      Rows'.any-gone (Syntax.tyStruct (List._∷_ 38 (List._∷_ 91 (List._∷_ 93 List.[]))) (Syntax.tcons (Syntax.tyRef Syntax.erased Syntax.mut LentTilePartEntry.pointee)
+          (Syntax.tcons (Syntax.tyInt Syntax.w64) Syntax.tnil))),
+    ) (List._∷_ (9, Rows'.any-gone (Syntax.tyRef Syntax.erased Syntax.mut (Syntax.tyInt Syntax.w8))) (List._∷_ (
+      10,
+      Rows'.any-gone (Syntax.tyStruct (List._∷_ 38 (List._∷_ 91 (List._∷_ 93 List.[]))) (Syntax.tcons (Syntax.tyRef Syntax.erased Syntax.mut (Syntax.tyInt Syntax.w8)) (Syntax.tcons
+          (Syntax.tyInt Syntax.w64) Syntax.tnil))),
+    ) List.[]))))))))))
 
 abbrev pub t1 : List.List Row.Entry
 t1 = List._∷_ (0, Rows'.whole (Declared'.row HeaderTable.the-type)) (List._∷_ (
   1,
   Rows'.sslice (Referent.rtF (Referent.fInt Syntax.w8)) (Syntax.tyRef (Syntax.named 0) Syntax.imm
       (Syntax.tyInt Syntax.w8)) 0,
-) (List._∷_ (2, Mut.mslice (Referent.rtF (Referent.fInt Syntax.w8)) (Syntax.tyRef (Syntax.named 1) Syntax.mut (Syntax.tyInt Syntax.w8)) 1) (List._∷_
-    (3, Rows'.any-gone (Syntax.tyArray LentTilePartEntry.spelled 2048)) (List._∷_ (
-      4,
-      Rows'.any-gone (Syntax.tyEnum (List._∷_ 104 (List._∷_ 101 (List._∷_ 97 (List._∷_ 100 (List._∷_
-          101 (List._∷_ 114 (List._∷_ 58 (List._∷_ 58 (List._∷_ 112 (List._∷_ 97 (List._∷_ 114 (List._∷_ 115 (List._∷_ 101 (List._∷_ 58 (List._∷_ 58 (List._∷_ 77 (List._∷_ 97 (List._∷_
-          105 (List._∷_ 110 (List._∷_ 72 (List._∷_ 101 (List._∷_ 97 (List._∷_ 100 (List._∷_ 101 (List._∷_ 114 List.[]))))))))))))))))))))))))) (Syntax.ttcons (Syntax.tcons
-          (Syntax.tyStruct (List._∷_ 104 (List._∷_ 101 (List._∷_ 97 (List._∷_ 100 (List._∷_ 101 (List._∷_ 114 (List._∷_ 58 (List._∷_ 58 (List._∷_ 112 (List._∷_ 97 (List._∷_ 114 (List._∷_
-          115 (List._∷_ 101 (List._∷_ 58 (List._∷_ 58 (List._∷_ 77 (List._∷_ 97 (List._∷_ 105 (List._∷_ 110 (List._∷_ 72 (List._∷_ 101 (List._∷_ 97 (List._∷_ 100 (List._∷_ 101 (List._∷_
-          114 (List._∷_ 73 (List._∷_ 110 (List._∷_ 102 (List._∷_ 111 List.[]))))))))))))))))))))))))))))) (Syntax.tcons (Syntax.tyStruct (List._∷_ 116 (List._∷_ 121 (List._∷_ 112
-          (List._∷_ 101 (List._∷_ 115 (List._∷_ 58 (List._∷_ 58 (List._∷_ 67 (List._∷_ 111 (List._∷_ 100 (List._∷_ 101 (List._∷_ 115 (List._∷_ 116 (List._∷_ 114 (List._∷_ 101 (List._∷_
-          97 (List._∷_ 109 (List._∷_ 79 (List._∷_ 102 (List._∷_ 102 (List._∷_ 115 (List._∷_ 101 (List._∷_ 116 List.[]))))))))))))))))))))))) (Syntax.tcons (Syntax.tyInt Syntax.w64)
-          Syntax.tnil)) (Syntax.tcons (Syntax.tyInt Syntax.w64) (Syntax.tcons (Syntax.tyInt Syntax.w64) (Syntax.tcons (Syntax.tyInt Syntax.w64) Syntax.tnil))))) Syntax.tnil)
-          (Syntax.ttcons (Syntax.tcons (Syntax.tyStruct (List._∷_ 116 (List._∷_ 121 (List._∷_ 112 (List._∷_ 101 (List._∷_ 115 (List._∷_ 58 (List._∷_ 58 (List._∷_ 82 (List._∷_ 101
-          (List._∷_ 102 (List._∷_ 117 (List._∷_ 115 (List._∷_ 97 (List._∷_ 108 List.[])))))))))))))) (Syntax.tcons (Syntax.tyInt Syntax.w32) (Syntax.tcons (Syntax.tyInt Syntax.w64)
-          Syntax.tnil))) Syntax.tnil) Syntax.ttnil))),
-    ) (List._∷_ (5, Rows'.any-gone (Syntax.tyArray LentTilePartEntry.spelled 2048)) (List._∷_ (
-      6,
-      Rows'.any-gone (Syntax.tyRef
-          Syntax.erased Syntax.mut (Syntax.tyArray LentTilePartEntry.pointee 2048)),
-    ) (List._∷_ (
-      7,
-      Rows'.any-gone (Syntax.tyStruct (List._∷_ 38 (List._∷_ 91 (List._∷_ 93 List.[])))
-          (Syntax.tcons (Syntax.tyRef Syntax.erased Syntax.mut LentTilePartEntry.pointee) (Syntax.tcons (Syntax.tyInt Syntax.w64) Syntax.tnil))),
-    ) (List._∷_ (
-      8,
-      Rows'.any-gone
-          (Syntax.tyRef Syntax.erased Syntax.mut (Syntax.tyInt Syntax.w8)),
-    ) (List._∷_ (
-      9,
-      Rows'.any-gone (Syntax.tyStruct (List._∷_ 38 (List._∷_ 91 (List._∷_ 93 List.[]))) (Syntax.tcons
-          (Syntax.tyRef Syntax.erased Syntax.mut (Syntax.tyInt Syntax.w8)) (Syntax.tcons (Syntax.tyInt Syntax.w64) Syntax.tnil))),
-    ) List.[])))))))))
+) (List._∷_ (
+  2,
+  Rows'.any-gone (Syntax.tyEnum (List._∷_ 104 (List._∷_ 101 (List._∷_ 97 (List._∷_ 100 (List._∷_ 101 (List._∷_ 114 (List._∷_ 58
+      (List._∷_ 58 (List._∷_ 110 (List._∷_ 117 (List._∷_ 109 (List._∷_ 98 (List._∷_ 101 (List._∷_ 114 (List._∷_ 105 (List._∷_ 110 (List._∷_ 103 (List._∷_ 58 (List._∷_ 58 (List._∷_ 78
+      (List._∷_ 117 (List._∷_ 109 (List._∷_ 98 (List._∷_ 101 (List._∷_ 114 (List._∷_ 105 (List._∷_ 110 (List._∷_ 103 List.[])))))))))))))))))))))))))))) (Syntax.ttcons Syntax.tnil
+      (Syntax.ttcons Syntax.tnil Syntax.ttnil))),
+) (List._∷_ (
+  3,
+  Mut.mslice (Referent.rtF (Referent.fInt Syntax.w8)) (Syntax.tyRef (Syntax.named 1) Syntax.mut (Syntax.tyInt
+      Syntax.w8)) 1,
+) (List._∷_ (4, Rows'.any-gone (Syntax.tyArray LentTilePartEntry.spelled 2048)) (List._∷_ (
+  5,
+  Rows'.any-gone (Syntax.tyEnum (List._∷_ 104 (List._∷_ 101 (List._∷_
+      97 (List._∷_ 100 (List._∷_ 101 (List._∷_ 114 (List._∷_ 58 (List._∷_ 58 (List._∷_ 112 (List._∷_ 97 (List._∷_ 114 (List._∷_ 115 (List._∷_ 101 (List._∷_ 58 (List._∷_ 58 (List._∷_
+      77 (List._∷_ 97 (List._∷_ 105 (List._∷_ 110 (List._∷_ 72 (List._∷_ 101 (List._∷_ 97 (List._∷_ 100 (List._∷_ 101 (List._∷_ 114 List.[]))))))))))))))))))))))))) (Syntax.ttcons
+      (Syntax.tcons (Syntax.tyStruct (List._∷_ 104 (List._∷_ 101 (List._∷_ 97 (List._∷_ 100 (List._∷_ 101 (List._∷_ 114 (List._∷_ 58 (List._∷_ 58 (List._∷_ 112 (List._∷_ 97 (List._∷_
+      114 (List._∷_ 115 (List._∷_ 101 (List._∷_ 58 (List._∷_ 58 (List._∷_ 77 (List._∷_ 97 (List._∷_ 105 (List._∷_ 110 (List._∷_ 72 (List._∷_ 101 (List._∷_ 97 (List._∷_ 100 (List._∷_
+      101 (List._∷_ 114 (List._∷_ 73 (List._∷_ 110 (List._∷_ 102 (List._∷_ 111 List.[]))))))))))))))))))))))))))))) (Syntax.tcons (Syntax.tyStruct (List._∷_ 116 (List._∷_ 121
+      (List._∷_ 112 (List._∷_ 101 (List._∷_ 115 (List._∷_ 58 (List._∷_ 58 (List._∷_ 67 (List._∷_ 111 (List._∷_ 100 (List._∷_ 101 (List._∷_ 115 (List._∷_ 116 (List._∷_ 114 (List._∷_
+      101 (List._∷_ 97 (List._∷_ 109 (List._∷_ 79 (List._∷_ 102 (List._∷_ 102 (List._∷_ 115 (List._∷_ 101 (List._∷_ 116 List.[]))))))))))))))))))))))) (Syntax.tcons (Syntax.tyInt
+      Syntax.w64) Syntax.tnil)) (Syntax.tcons (Syntax.tyInt Syntax.w64) (Syntax.tcons (Syntax.tyInt Syntax.w64) (Syntax.tcons (Syntax.tyInt Syntax.w64) Syntax.tnil))))) Syntax.tnil)
+      (Syntax.ttcons (Syntax.tcons (Syntax.tyStruct (List._∷_ 116 (List._∷_ 121 (List._∷_ 112 (List._∷_ 101 (List._∷_ 115 (List._∷_ 58 (List._∷_ 58 (List._∷_ 82 (List._∷_ 101
+      (List._∷_ 102 (List._∷_ 117 (List._∷_ 115 (List._∷_ 97 (List._∷_ 108 List.[])))))))))))))) (Syntax.tcons (Syntax.tyInt Syntax.w32) (Syntax.tcons (Syntax.tyInt Syntax.w64)
+      Syntax.tnil))) Syntax.tnil) Syntax.ttnil))),
+) (List._∷_ (6, Rows'.any-gone (Syntax.tyArray LentTilePartEntry.spelled 2048)) (List._∷_ (
+  7,
+  Rows'.any-gone (Syntax.tyRef
+      Syntax.erased Syntax.mut (Syntax.tyArray LentTilePartEntry.pointee 2048)),
+) (List._∷_ (
+  8,
+  Rows'.any-gone (Syntax.tyStruct (List._∷_ 38 (List._∷_ 91 (List._∷_ 93 List.[])))
+      (Syntax.tcons (Syntax.tyRef Syntax.erased Syntax.mut LentTilePartEntry.pointee) (Syntax.tcons (Syntax.tyInt Syntax.w64) Syntax.tnil))),
+) (List._∷_ (
+  9,
+  Rows'.any-gone
+      (Syntax.tyRef Syntax.erased Syntax.mut (Syntax.tyInt Syntax.w8)),
+) (List._∷_ (
+  10,
+  Rows'.any-gone (Syntax.tyStruct (List._∷_ 38 (List._∷_ 91 (List._∷_ 93 List.[]))) (Syntax.tcons
+      (Syntax.tyRef Syntax.erased Syntax.mut (Syntax.tyInt Syntax.w8)) (Syntax.tcons (Syntax.tyInt Syntax.w64) Syntax.tnil))),
+) List.[]))))))))))
 
 abbrev pub t2 : List.List Row.Entry
 t2 = List._∷_ (
@@ -369,37 +414,39 @@ t2 = List._∷_ (
   1,
   Rows'.sslice (Referent.rtF (Referent.fInt Syntax.w8))
       (Syntax.tyRef (Syntax.named 0) Syntax.imm (Syntax.tyInt Syntax.w8)) 0,
-) (List._∷_ (
-  2,
-  Mut.mslice (Referent.rtF (Referent.fInt Syntax.w8)) (Syntax.tyRef (Syntax.named 1)
-      Syntax.mut (Syntax.tyInt Syntax.w8)) 1,
-) (List._∷_ (3, Rows'.any-gone (Syntax.tyArray LentTilePartEntry.spelled 2048)) (List._∷_ (
-  4,
-  Rows'.any-gone (Syntax.tyEnum (List._∷_ 104
-      (List._∷_ 101 (List._∷_ 97 (List._∷_ 100 (List._∷_ 101 (List._∷_ 114 (List._∷_ 58 (List._∷_ 58 (List._∷_ 112 (List._∷_ 97 (List._∷_ 114 (List._∷_ 115 (List._∷_ 101 (List._∷_ 58
-      (List._∷_ 58 (List._∷_ 77 (List._∷_ 97 (List._∷_ 105 (List._∷_ 110 (List._∷_ 72 (List._∷_ 101 (List._∷_ 97 (List._∷_ 100 (List._∷_ 101 (List._∷_ 114
-      List.[]))))))))))))))))))))))))) (Syntax.ttcons (Syntax.tcons (Syntax.tyStruct (List._∷_ 104 (List._∷_ 101 (List._∷_ 97 (List._∷_ 100 (List._∷_ 101 (List._∷_ 114 (List._∷_ 58
-      (List._∷_ 58 (List._∷_ 112 (List._∷_ 97 (List._∷_ 114 (List._∷_ 115 (List._∷_ 101 (List._∷_ 58 (List._∷_ 58 (List._∷_ 77 (List._∷_ 97 (List._∷_ 105 (List._∷_ 110 (List._∷_ 72
-      (List._∷_ 101 (List._∷_ 97 (List._∷_ 100 (List._∷_ 101 (List._∷_ 114 (List._∷_ 73 (List._∷_ 110 (List._∷_ 102 (List._∷_ 111 List.[]))))))))))))))))))))))))))))) (Syntax.tcons
-      (Syntax.tyStruct (List._∷_ 116 (List._∷_ 121 (List._∷_ 112 (List._∷_ 101 (List._∷_ 115 (List._∷_ 58 (List._∷_ 58 (List._∷_ 67 (List._∷_ 111 (List._∷_ 100 (List._∷_ 101
-      (List._∷_ 115 (List._∷_ 116 (List._∷_ 114 (List._∷_ 101 (List._∷_ 97 (List._∷_ 109 (List._∷_ 79 (List._∷_ 102 (List._∷_ 102 (List._∷_ 115 (List._∷_ 101 (List._∷_ 116
-      List.[]))))))))))))))))))))))) (Syntax.tcons (Syntax.tyInt Syntax.w64) Syntax.tnil)) (Syntax.tcons (Syntax.tyInt Syntax.w64) (Syntax.tcons (Syntax.tyInt Syntax.w64)
-      (Syntax.tcons (Syntax.tyInt Syntax.w64) Syntax.tnil))))) Syntax.tnil) (Syntax.ttcons (Syntax.tcons (Syntax.tyStruct (List._∷_ 116 (List._∷_ 121 (List._∷_ 112 (List._∷_ 101
-      (List._∷_ 115 (List._∷_ 58 (List._∷_ 58 (List._∷_ 82 (List._∷_ 101 (List._∷_ 102 (List._∷_ 117 (List._∷_ 115 (List._∷_ 97 (List._∷_ 108 List.[])))))))))))))) (Syntax.tcons
-      (Syntax.tyInt Syntax.w32) (Syntax.tcons (Syntax.tyInt Syntax.w64) Syntax.tnil))) Syntax.tnil) Syntax.ttnil))),
-) (List._∷_ (5, Rows.arrF LentTilePartEntry.row 2048 0) (List._∷_
-    (6, Rows'.any-gone (Syntax.tyRef Syntax.erased Syntax.mut (Syntax.tyArray LentTilePartEntry.pointee 2048))) (List._∷_ (
-      7,
-      Rows'.any-gone (Syntax.tyStruct (List._∷_ 38 (List._∷_
-          91 (List._∷_ 93 List.[]))) (Syntax.tcons (Syntax.tyRef Syntax.erased Syntax.mut LentTilePartEntry.pointee) (Syntax.tcons (Syntax.tyInt Syntax.w64) Syntax.tnil))),
+) (List._∷_ (2, Rows'.whole (Declared.row Numbering.the-type)) (List._∷_ (
+  3,
+  Mut.mslice (Referent.rtF
+      (Referent.fInt Syntax.w8)) (Syntax.tyRef (Syntax.named 1) Syntax.mut (Syntax.tyInt Syntax.w8)) 1,
+) (List._∷_ (4, Rows'.any-gone (Syntax.tyArray LentTilePartEntry.spelled 2048))
+    (List._∷_ (
+      5,
+      Rows'.any-gone (Syntax.tyEnum (List._∷_ 104 (List._∷_ 101 (List._∷_ 97 (List._∷_ 100 (List._∷_ 101 (List._∷_ 114 (List._∷_ 58 (List._∷_ 58 (List._∷_ 112 (List._∷_
+          97 (List._∷_ 114 (List._∷_ 115 (List._∷_ 101 (List._∷_ 58 (List._∷_ 58 (List._∷_ 77 (List._∷_ 97 (List._∷_ 105 (List._∷_ 110 (List._∷_ 72 (List._∷_ 101 (List._∷_ 97 (List._∷_
+          100 (List._∷_ 101 (List._∷_ 114 List.[]))))))))))))))))))))))))) (Syntax.ttcons (Syntax.tcons (Syntax.tyStruct (List._∷_ 104 (List._∷_ 101 (List._∷_ 97 (List._∷_ 100 (List._∷_
+          101 (List._∷_ 114 (List._∷_ 58 (List._∷_ 58 (List._∷_ 112 (List._∷_ 97 (List._∷_ 114 (List._∷_ 115 (List._∷_ 101 (List._∷_ 58 (List._∷_ 58 (List._∷_ 77 (List._∷_ 97 (List._∷_
+          105 (List._∷_ 110 (List._∷_ 72 (List._∷_ 101 (List._∷_ 97 (List._∷_ 100 (List._∷_ 101 (List._∷_ 114 (List._∷_ 73 (List._∷_ 110 (List._∷_ 102 (List._∷_ 111
+          List.[]))))))))))))))))))))))))))))) (Syntax.tcons (Syntax.tyStruct (List._∷_ 116 (List._∷_ 121 (List._∷_ 112 (List._∷_ 101 (List._∷_ 115 (List._∷_ 58 (List._∷_ 58 (List._∷_ 67
+          (List._∷_ 111 (List._∷_ 100 (List._∷_ 101 (List._∷_ 115 (List._∷_ 116 (List._∷_ 114 (List._∷_ 101 (List._∷_ 97 (List._∷_ 109 (List._∷_ 79 (List._∷_ 102 (List._∷_ 102 (List._∷_
+          115 (List._∷_ 101 (List._∷_ 116 List.[]))))))))))))))))))))))) (Syntax.tcons (Syntax.tyInt Syntax.w64) Syntax.tnil)) (Syntax.tcons (Syntax.tyInt Syntax.w64) (Syntax.tcons
+          (Syntax.tyInt Syntax.w64) (Syntax.tcons (Syntax.tyInt Syntax.w64) Syntax.tnil))))) Syntax.tnil) (Syntax.ttcons (Syntax.tcons (Syntax.tyStruct (List._∷_ 116 (List._∷_ 121
+          (List._∷_ 112 (List._∷_ 101 (List._∷_ 115 (List._∷_ 58 (List._∷_ 58 (List._∷_ 82 (List._∷_ 101 (List._∷_ 102 (List._∷_ 117 (List._∷_ 115 (List._∷_ 97 (List._∷_ 108
+          List.[])))))))))))))) (Syntax.tcons (Syntax.tyInt Syntax.w32) (Syntax.tcons (Syntax.tyInt Syntax.w64) Syntax.tnil))) Syntax.tnil) Syntax.ttnil))),
     ) (List._∷_ (
+      6,
+      Rows.arrF
+          LentTilePartEntry.row 2048 0,
+    ) (List._∷_ (7, Rows'.any-gone (Syntax.tyRef Syntax.erased Syntax.mut (Syntax.tyArray LentTilePartEntry.pointee 2048))) (List._∷_ (
       8,
-      Rows'.any-gone (Syntax.tyRef Syntax.erased Syntax.mut (Syntax.tyInt Syntax.w8)),
-    ) (List._∷_ (
-      9,
-      Rows'.any-gone (Syntax.tyStruct (List._∷_ 38 (List._∷_ 91 (List._∷_ 93 List.[])))
-          (Syntax.tcons (Syntax.tyRef Syntax.erased Syntax.mut (Syntax.tyInt Syntax.w8)) (Syntax.tcons (Syntax.tyInt Syntax.w64) Syntax.tnil))),
-    ) List.[])))))))))
+      Rows'.any-gone
+          (Syntax.tyStruct (List._∷_ 38 (List._∷_ 91 (List._∷_ 93 List.[]))) (Syntax.tcons (Syntax.tyRef Syntax.erased Syntax.mut LentTilePartEntry.pointee) (Syntax.tcons (Syntax.tyInt
+          Syntax.w64) Syntax.tnil))),
+    ) (List._∷_ (9, Rows'.any-gone (Syntax.tyRef Syntax.erased Syntax.mut (Syntax.tyInt Syntax.w8))) (List._∷_ (
+      10,
+      Rows'.any-gone (Syntax.tyStruct
+          (List._∷_ 38 (List._∷_ 91 (List._∷_ 93 List.[]))) (Syntax.tcons (Syntax.tyRef Syntax.erased Syntax.mut (Syntax.tyInt Syntax.w8)) (Syntax.tcons (Syntax.tyInt Syntax.w64)
+          Syntax.tnil))),
+    ) List.[]))))))))))
 
 abbrev pub t3 : List.List Row.Entry
 t3 = List._∷_ (
@@ -427,41 +474,38 @@ t3 = List._∷_ (
   1,
   Rows'.sslice (Referent.rtF (Referent.fInt Syntax.w8))
       (Syntax.tyRef (Syntax.named 0) Syntax.imm (Syntax.tyInt Syntax.w8)) 0,
-) (List._∷_ (
-  2,
-  Mut.mslice (Referent.rtF (Referent.fInt Syntax.w8)) (Syntax.tyRef (Syntax.named 1)
-      Syntax.mut (Syntax.tyInt Syntax.w8)) 1,
-) (List._∷_ (3, Rows.arrF LentTilePartEntry.row 2048 0) (List._∷_ (
-  4,
-  Rows'.any-gone (Syntax.tyEnum (List._∷_ 104 (List._∷_ 101 (List._∷_
-      97 (List._∷_ 100 (List._∷_ 101 (List._∷_ 114 (List._∷_ 58 (List._∷_ 58 (List._∷_ 112 (List._∷_ 97 (List._∷_ 114 (List._∷_ 115 (List._∷_ 101 (List._∷_ 58 (List._∷_ 58 (List._∷_
-      77 (List._∷_ 97 (List._∷_ 105 (List._∷_ 110 (List._∷_ 72 (List._∷_ 101 (List._∷_ 97 (List._∷_ 100 (List._∷_ 101 (List._∷_ 114 List.[]))))))))))))))))))))))))) (Syntax.ttcons
-      (Syntax.tcons (Syntax.tyStruct (List._∷_ 104 (List._∷_ 101 (List._∷_ 97 (List._∷_ 100 (List._∷_ 101 (List._∷_ 114 (List._∷_ 58 (List._∷_ 58 (List._∷_ 112 (List._∷_ 97 (List._∷_
+) (List._∷_ (2, Rows'.whole (Declared.row Numbering.the-type)) (List._∷_ (
+  3,
+  Mut.mslice (Referent.rtF
+      (Referent.fInt Syntax.w8)) (Syntax.tyRef (Syntax.named 1) Syntax.mut (Syntax.tyInt Syntax.w8)) 1,
+) (List._∷_ (4, Rows.arrF LentTilePartEntry.row 2048 0) (List._∷_ (
+  5,
+  Rows'.any-gone (Syntax.tyEnum (List._∷_ 104 (List._∷_ 101 (List._∷_ 97 (List._∷_ 100 (List._∷_ 101 (List._∷_ 114 (List._∷_ 58 (List._∷_ 58 (List._∷_ 112 (List._∷_ 97 (List._∷_
       114 (List._∷_ 115 (List._∷_ 101 (List._∷_ 58 (List._∷_ 58 (List._∷_ 77 (List._∷_ 97 (List._∷_ 105 (List._∷_ 110 (List._∷_ 72 (List._∷_ 101 (List._∷_ 97 (List._∷_ 100 (List._∷_
-      101 (List._∷_ 114 (List._∷_ 73 (List._∷_ 110 (List._∷_ 102 (List._∷_ 111 List.[]))))))))))))))))))))))))))))) (Syntax.tcons (Syntax.tyStruct (List._∷_ 116 (List._∷_ 121
-      (List._∷_ 112 (List._∷_ 101 (List._∷_ 115 (List._∷_ 58 (List._∷_ 58 (List._∷_ 67 (List._∷_ 111 (List._∷_ 100 (List._∷_ 101 (List._∷_ 115 (List._∷_ 116 (List._∷_ 114 (List._∷_
-      101 (List._∷_ 97 (List._∷_ 109 (List._∷_ 79 (List._∷_ 102 (List._∷_ 102 (List._∷_ 115 (List._∷_ 101 (List._∷_ 116 List.[]))))))))))))))))))))))) (Syntax.tcons (Syntax.tyInt
-      Syntax.w64) Syntax.tnil)) (Syntax.tcons (Syntax.tyInt Syntax.w64) (Syntax.tcons (Syntax.tyInt Syntax.w64) (Syntax.tcons (Syntax.tyInt Syntax.w64) Syntax.tnil))))) Syntax.tnil)
-      (Syntax.ttcons (Syntax.tcons (Syntax.tyStruct (List._∷_ 116 (List._∷_ 121 (List._∷_ 112 (List._∷_ 101 (List._∷_ 115 (List._∷_ 58 (List._∷_ 58 (List._∷_ 82 (List._∷_ 101
-      (List._∷_ 102 (List._∷_ 117 (List._∷_ 115 (List._∷_ 97 (List._∷_ 108 List.[])))))))))))))) (Syntax.tcons (Syntax.tyInt Syntax.w32) (Syntax.tcons (Syntax.tyInt Syntax.w64)
-      Syntax.tnil))) Syntax.tnil) Syntax.ttnil))),
-) (List._∷_ (5, Rows.arrF LentTilePartEntry.row 2048 0) (List._∷_ (
+      101 (List._∷_ 114 List.[]))))))))))))))))))))))))) (Syntax.ttcons (Syntax.tcons (Syntax.tyStruct (List._∷_ 104 (List._∷_ 101 (List._∷_ 97 (List._∷_ 100 (List._∷_ 101 (List._∷_
+      114 (List._∷_ 58 (List._∷_ 58 (List._∷_ 112 (List._∷_ 97 (List._∷_ 114 (List._∷_ 115 (List._∷_ 101 (List._∷_ 58 (List._∷_ 58 (List._∷_ 77 (List._∷_ 97 (List._∷_ 105 (List._∷_
+      110 (List._∷_ 72 (List._∷_ 101 (List._∷_ 97 (List._∷_ 100 (List._∷_ 101 (List._∷_ 114 (List._∷_ 73 (List._∷_ 110 (List._∷_ 102 (List._∷_ 111
+      List.[]))))))))))))))))))))))))))))) (Syntax.tcons (Syntax.tyStruct (List._∷_ 116 (List._∷_ 121 (List._∷_ 112 (List._∷_ 101 (List._∷_ 115 (List._∷_ 58 (List._∷_ 58 (List._∷_ 67
+      (List._∷_ 111 (List._∷_ 100 (List._∷_ 101 (List._∷_ 115 (List._∷_ 116 (List._∷_ 114 (List._∷_ 101 (List._∷_ 97 (List._∷_ 109 (List._∷_ 79 (List._∷_ 102 (List._∷_ 102 (List._∷_
+      115 (List._∷_ 101 (List._∷_ 116 List.[]))))))))))))))))))))))) (Syntax.tcons (Syntax.tyInt Syntax.w64) Syntax.tnil)) (Syntax.tcons (Syntax.tyInt Syntax.w64) (Syntax.tcons
+      (Syntax.tyInt Syntax.w64) (Syntax.tcons (Syntax.tyInt Syntax.w64) Syntax.tnil))))) Syntax.tnil) (Syntax.ttcons (Syntax.tcons (Syntax.tyStruct (List._∷_ 116 (List._∷_ 121
+      (List._∷_ 112 (List._∷_ 101 (List._∷_ 115 (List._∷_ 58 (List._∷_ 58 (List._∷_ 82 (List._∷_ 101 (List._∷_ 102 (List._∷_ 117 (List._∷_ 115 (List._∷_ 97 (List._∷_ 108
+      List.[])))))))))))))) (Syntax.tcons (Syntax.tyInt Syntax.w32) (Syntax.tcons (Syntax.tyInt Syntax.w64) Syntax.tnil))) Syntax.tnil) Syntax.ttnil))),
+) (List._∷_ (
   6,
-  Rows'.any-gone (Syntax.tyRef Syntax.erased Syntax.mut
-      (Syntax.tyArray LentTilePartEntry.pointee 2048)),
-) (List._∷_ (
-  7,
-  Rows'.any-gone (Syntax.tyStruct (List._∷_ 38 (List._∷_ 91 (List._∷_ 93 List.[]))) (Syntax.tcons (Syntax.tyRef
-      Syntax.erased Syntax.mut LentTilePartEntry.pointee) (Syntax.tcons (Syntax.tyInt Syntax.w64) Syntax.tnil))),
-) (List._∷_ (
+  Rows.arrF
+      LentTilePartEntry.row 2048 0,
+) (List._∷_ (7, Rows'.any-gone (Syntax.tyRef Syntax.erased Syntax.mut (Syntax.tyArray LentTilePartEntry.pointee 2048))) (List._∷_ (
   8,
-  Rows'.any-gone (Syntax.tyRef Syntax.erased Syntax.mut
-      (Syntax.tyInt Syntax.w8)),
-) (List._∷_ (
-  9,
-  Rows'.any-gone (Syntax.tyStruct (List._∷_ 38 (List._∷_ 91 (List._∷_ 93 List.[]))) (Syntax.tcons (Syntax.tyRef Syntax.erased Syntax.mut
-      (Syntax.tyInt Syntax.w8)) (Syntax.tcons (Syntax.tyInt Syntax.w64) Syntax.tnil))),
-) List.[])))))))))
+  Rows'.any-gone
+      (Syntax.tyStruct (List._∷_ 38 (List._∷_ 91 (List._∷_ 93 List.[]))) (Syntax.tcons (Syntax.tyRef Syntax.erased Syntax.mut LentTilePartEntry.pointee) (Syntax.tcons (Syntax.tyInt
+      Syntax.w64) Syntax.tnil))),
+) (List._∷_ (9, Rows'.any-gone (Syntax.tyRef Syntax.erased Syntax.mut (Syntax.tyInt Syntax.w8))) (List._∷_ (
+  10,
+  Rows'.any-gone (Syntax.tyStruct
+      (List._∷_ 38 (List._∷_ 91 (List._∷_ 93 List.[]))) (Syntax.tcons (Syntax.tyRef Syntax.erased Syntax.mut (Syntax.tyInt Syntax.w8)) (Syntax.tcons (Syntax.tyInt Syntax.w64)
+      Syntax.tnil))),
+) List.[]))))))))))
 
 abbrev pub t4 : List.List Row.Entry
 t4 = List._∷_ (
@@ -489,41 +533,36 @@ t4 = List._∷_ (
   1,
   Rows'.sslice (Referent.rtF (Referent.fInt Syntax.w8))
       (Syntax.tyRef (Syntax.named 0) Syntax.imm (Syntax.tyInt Syntax.w8)) 0,
-) (List._∷_ (
-  2,
-  Mut.mslice (Referent.rtF (Referent.fInt Syntax.w8)) (Syntax.tyRef (Syntax.named 1)
-      Syntax.mut (Syntax.tyInt Syntax.w8)) 1,
-) (List._∷_ (3, Rows.arrF LentTilePartEntry.row 2048 0) (List._∷_ (
-  4,
-  Rows'.any-gone (Syntax.tyEnum (List._∷_ 104 (List._∷_ 101 (List._∷_
-      97 (List._∷_ 100 (List._∷_ 101 (List._∷_ 114 (List._∷_ 58 (List._∷_ 58 (List._∷_ 112 (List._∷_ 97 (List._∷_ 114 (List._∷_ 115 (List._∷_ 101 (List._∷_ 58 (List._∷_ 58 (List._∷_
-      77 (List._∷_ 97 (List._∷_ 105 (List._∷_ 110 (List._∷_ 72 (List._∷_ 101 (List._∷_ 97 (List._∷_ 100 (List._∷_ 101 (List._∷_ 114 List.[]))))))))))))))))))))))))) (Syntax.ttcons
-      (Syntax.tcons (Syntax.tyStruct (List._∷_ 104 (List._∷_ 101 (List._∷_ 97 (List._∷_ 100 (List._∷_ 101 (List._∷_ 114 (List._∷_ 58 (List._∷_ 58 (List._∷_ 112 (List._∷_ 97 (List._∷_
+) (List._∷_ (2, Rows'.whole (Declared.row Numbering.the-type)) (List._∷_ (
+  3,
+  Mut.mslice (Referent.rtF
+      (Referent.fInt Syntax.w8)) (Syntax.tyRef (Syntax.named 1) Syntax.mut (Syntax.tyInt Syntax.w8)) 1,
+) (List._∷_ (4, Rows.arrF LentTilePartEntry.row 2048 0) (List._∷_ (
+  5,
+  Rows'.any-gone (Syntax.tyEnum (List._∷_ 104 (List._∷_ 101 (List._∷_ 97 (List._∷_ 100 (List._∷_ 101 (List._∷_ 114 (List._∷_ 58 (List._∷_ 58 (List._∷_ 112 (List._∷_ 97 (List._∷_
       114 (List._∷_ 115 (List._∷_ 101 (List._∷_ 58 (List._∷_ 58 (List._∷_ 77 (List._∷_ 97 (List._∷_ 105 (List._∷_ 110 (List._∷_ 72 (List._∷_ 101 (List._∷_ 97 (List._∷_ 100 (List._∷_
-      101 (List._∷_ 114 (List._∷_ 73 (List._∷_ 110 (List._∷_ 102 (List._∷_ 111 List.[]))))))))))))))))))))))))))))) (Syntax.tcons (Syntax.tyStruct (List._∷_ 116 (List._∷_ 121
-      (List._∷_ 112 (List._∷_ 101 (List._∷_ 115 (List._∷_ 58 (List._∷_ 58 (List._∷_ 67 (List._∷_ 111 (List._∷_ 100 (List._∷_ 101 (List._∷_ 115 (List._∷_ 116 (List._∷_ 114 (List._∷_
-      101 (List._∷_ 97 (List._∷_ 109 (List._∷_ 79 (List._∷_ 102 (List._∷_ 102 (List._∷_ 115 (List._∷_ 101 (List._∷_ 116 List.[]))))))))))))))))))))))) (Syntax.tcons (Syntax.tyInt
-      Syntax.w64) Syntax.tnil)) (Syntax.tcons (Syntax.tyInt Syntax.w64) (Syntax.tcons (Syntax.tyInt Syntax.w64) (Syntax.tcons (Syntax.tyInt Syntax.w64) Syntax.tnil))))) Syntax.tnil)
-      (Syntax.ttcons (Syntax.tcons (Syntax.tyStruct (List._∷_ 116 (List._∷_ 121 (List._∷_ 112 (List._∷_ 101 (List._∷_ 115 (List._∷_ 58 (List._∷_ 58 (List._∷_ 82 (List._∷_ 101
-      (List._∷_ 102 (List._∷_ 117 (List._∷_ 115 (List._∷_ 97 (List._∷_ 108 List.[])))))))))))))) (Syntax.tcons (Syntax.tyInt Syntax.w32) (Syntax.tcons (Syntax.tyInt Syntax.w64)
-      Syntax.tnil))) Syntax.tnil) Syntax.ttnil))),
-) (List._∷_ (5, Rows'.any-gone (Syntax.tyArray LentTilePartEntry.spelled 2048)) (List._∷_ (
+      101 (List._∷_ 114 List.[]))))))))))))))))))))))))) (Syntax.ttcons (Syntax.tcons (Syntax.tyStruct (List._∷_ 104 (List._∷_ 101 (List._∷_ 97 (List._∷_ 100 (List._∷_ 101 (List._∷_
+      114 (List._∷_ 58 (List._∷_ 58 (List._∷_ 112 (List._∷_ 97 (List._∷_ 114 (List._∷_ 115 (List._∷_ 101 (List._∷_ 58 (List._∷_ 58 (List._∷_ 77 (List._∷_ 97 (List._∷_ 105 (List._∷_
+      110 (List._∷_ 72 (List._∷_ 101 (List._∷_ 97 (List._∷_ 100 (List._∷_ 101 (List._∷_ 114 (List._∷_ 73 (List._∷_ 110 (List._∷_ 102 (List._∷_ 111
+      List.[]))))))))))))))))))))))))))))) (Syntax.tcons (Syntax.tyStruct (List._∷_ 116 (List._∷_ 121 (List._∷_ 112 (List._∷_ 101 (List._∷_ 115 (List._∷_ 58 (List._∷_ 58 (List._∷_ 67
+      (List._∷_ 111 (List._∷_ 100 (List._∷_ 101 (List._∷_ 115 (List._∷_ 116 (List._∷_ 114 (List._∷_ 101 (List._∷_ 97 (List._∷_ 109 (List._∷_ 79 (List._∷_ 102 (List._∷_ 102 (List._∷_
+      115 (List._∷_ 101 (List._∷_ 116 List.[]))))))))))))))))))))))) (Syntax.tcons (Syntax.tyInt Syntax.w64) Syntax.tnil)) (Syntax.tcons (Syntax.tyInt Syntax.w64) (Syntax.tcons
+      (Syntax.tyInt Syntax.w64) (Syntax.tcons (Syntax.tyInt Syntax.w64) Syntax.tnil))))) Syntax.tnil) (Syntax.ttcons (Syntax.tcons (Syntax.tyStruct (List._∷_ 116 (List._∷_ 121
+      (List._∷_ 112 (List._∷_ 101 (List._∷_ 115 (List._∷_ 58 (List._∷_ 58 (List._∷_ 82 (List._∷_ 101 (List._∷_ 102 (List._∷_ 117 (List._∷_ 115 (List._∷_ 97 (List._∷_ 108
+      List.[])))))))))))))) (Syntax.tcons (Syntax.tyInt Syntax.w32) (Syntax.tcons (Syntax.tyInt Syntax.w64) Syntax.tnil))) Syntax.tnil) Syntax.ttnil))),
+) (List._∷_ (
   6,
-  Rows'.any-gone (Syntax.tyRef
-      Syntax.erased Syntax.mut (Syntax.tyArray LentTilePartEntry.pointee 2048)),
-) (List._∷_ (
-  7,
-  Rows'.any-gone (Syntax.tyStruct (List._∷_ 38 (List._∷_ 91 (List._∷_ 93 List.[])))
-      (Syntax.tcons (Syntax.tyRef Syntax.erased Syntax.mut LentTilePartEntry.pointee) (Syntax.tcons (Syntax.tyInt Syntax.w64) Syntax.tnil))),
-) (List._∷_ (
-  8,
   Rows'.any-gone
-      (Syntax.tyRef Syntax.erased Syntax.mut (Syntax.tyInt Syntax.w8)),
-) (List._∷_ (
-  9,
-  Rows'.any-gone (Syntax.tyStruct (List._∷_ 38 (List._∷_ 91 (List._∷_ 93 List.[]))) (Syntax.tcons
-      (Syntax.tyRef Syntax.erased Syntax.mut (Syntax.tyInt Syntax.w8)) (Syntax.tcons (Syntax.tyInt Syntax.w64) Syntax.tnil))),
-) List.[])))))))))
+      (Syntax.tyArray LentTilePartEntry.spelled 2048),
+) (List._∷_ (7, Rows'.any-gone (Syntax.tyRef Syntax.erased Syntax.mut (Syntax.tyArray LentTilePartEntry.pointee 2048))) (List._∷_ (
+  8,
+  Rows'.any-gone (Syntax.tyStruct (List._∷_ 38 (List._∷_ 91 (List._∷_ 93 List.[]))) (Syntax.tcons (Syntax.tyRef Syntax.erased Syntax.mut LentTilePartEntry.pointee)
+      (Syntax.tcons (Syntax.tyInt Syntax.w64) Syntax.tnil))),
+) (List._∷_ (9, Rows'.any-gone (Syntax.tyRef Syntax.erased Syntax.mut (Syntax.tyInt Syntax.w8))) (List._∷_ (
+  10,
+  Rows'.any-gone (Syntax.tyStruct (List._∷_ 38 (List._∷_ 91 (List._∷_ 93 List.[]))) (Syntax.tcons (Syntax.tyRef Syntax.erased Syntax.mut (Syntax.tyInt Syntax.w8)) (Syntax.tcons
+      (Syntax.tyInt Syntax.w64) Syntax.tnil))),
+) List.[]))))))))))
 
 abbrev pub t5 : List.List Row.Entry
 t5 = List._∷_ (
@@ -551,38 +590,44 @@ t5 = List._∷_ (
   1,
   Rows'.sslice (Referent.rtF (Referent.fInt Syntax.w8))
       (Syntax.tyRef (Syntax.named 0) Syntax.imm (Syntax.tyInt Syntax.w8)) 0,
+) (List._∷_ (2, Rows'.whole (Declared.row Numbering.the-type)) (List._∷_ (
+  3,
+  Mut.mslice (Referent.rtF
+      (Referent.fInt Syntax.w8)) (Syntax.tyRef (Syntax.named 1) Syntax.mut (Syntax.tyInt Syntax.w8)) 1,
+) (List._∷_ (4, Rows.arr-owed LentTilePartEntry.row 2048 2) (List._∷_ (
+  5,
+  Rows'.any-gone (Syntax.tyEnum (List._∷_ 104 (List._∷_ 101 (List._∷_ 97 (List._∷_ 100 (List._∷_ 101 (List._∷_ 114 (List._∷_ 58 (List._∷_ 58 (List._∷_ 112 (List._∷_ 97 (List._∷_
+      114 (List._∷_ 115 (List._∷_ 101 (List._∷_ 58 (List._∷_ 58 (List._∷_ 77 (List._∷_ 97 (List._∷_ 105 (List._∷_ 110 (List._∷_ 72 (List._∷_ 101 (List._∷_ 97 (List._∷_ 100 (List._∷_
+      101 (List._∷_ 114 List.[]))))))))))))))))))))))))) (Syntax.ttcons (Syntax.tcons (Syntax.tyStruct (List._∷_ 104 (List._∷_ 101 (List._∷_ 97 (List._∷_ 100 (List._∷_ 101 (List._∷_
+      114 (List._∷_ 58 (List._∷_ 58 (List._∷_ 112 (List._∷_ 97 (List._∷_ 114 (List._∷_ 115 (List._∷_ 101 (List._∷_ 58 (List._∷_ 58 (List._∷_ 77 (List._∷_ 97 (List._∷_ 105 (List._∷_
+      110 (List._∷_ 72 (List._∷_ 101 (List._∷_ 97 (List._∷_ 100 (List._∷_ 101 (List._∷_ 114 (List._∷_ 73 (List._∷_ 110 (List._∷_ 102 (List._∷_ 111
+      List.[]))))))))))))))))))))))))))))) (Syntax.tcons (Syntax.tyStruct (List._∷_ 116 (List._∷_ 121 (List._∷_ 112 (List._∷_ 101 (List._∷_ 115 (List._∷_ 58 (List._∷_ 58 (List._∷_ 67
+      (List._∷_ 111 (List._∷_ 100 (List._∷_ 101 (List._∷_ 115 (List._∷_ 116 (List._∷_ 114 (List._∷_ 101 (List._∷_ 97 (List._∷_ 109 (List._∷_ 79 (List._∷_ 102 (List._∷_ 102 (List._∷_
+      115 (List._∷_ 101 (List._∷_ 116 List.[]))))))))))))))))))))))) (Syntax.tcons (Syntax.tyInt Syntax.w64) Syntax.tnil)) (Syntax.tcons (Syntax.tyInt Syntax.w64) (Syntax.tcons
+      (Syntax.tyInt Syntax.w64) (Syntax.tcons (Syntax.tyInt Syntax.w64) Syntax.tnil))))) Syntax.tnil) (Syntax.ttcons (Syntax.tcons (Syntax.tyStruct (List._∷_ 116 (List._∷_ 121
+      (List._∷_ 112 (List._∷_ 101 (List._∷_ 115 (List._∷_ 58 (List._∷_ 58 (List._∷_ 82 (List._∷_ 101 (List._∷_ 102 (List._∷_ 117 (List._∷_ 115 (List._∷_ 97 (List._∷_ 108
+      List.[])))))))))))))) (Syntax.tcons (Syntax.tyInt Syntax.w32) (Syntax.tcons (Syntax.tyInt Syntax.w64) Syntax.tnil))) Syntax.tnil) Syntax.ttnil))),
 ) (List._∷_ (
-  2,
-  Mut.mslice (Referent.rtF (Referent.fInt Syntax.w8)) (Syntax.tyRef (Syntax.named 1)
-      Syntax.mut (Syntax.tyInt Syntax.w8)) 1,
-) (List._∷_ (3, Rows.arr-owed LentTilePartEntry.row 2048 2) (List._∷_ (
-  4,
-  Rows'.any-gone (Syntax.tyEnum (List._∷_ 104 (List._∷_ 101
-      (List._∷_ 97 (List._∷_ 100 (List._∷_ 101 (List._∷_ 114 (List._∷_ 58 (List._∷_ 58 (List._∷_ 112 (List._∷_ 97 (List._∷_ 114 (List._∷_ 115 (List._∷_ 101 (List._∷_ 58 (List._∷_ 58
-      (List._∷_ 77 (List._∷_ 97 (List._∷_ 105 (List._∷_ 110 (List._∷_ 72 (List._∷_ 101 (List._∷_ 97 (List._∷_ 100 (List._∷_ 101 (List._∷_ 114 List.[])))))))))))))))))))))))))
-      (Syntax.ttcons (Syntax.tcons (Syntax.tyStruct (List._∷_ 104 (List._∷_ 101 (List._∷_ 97 (List._∷_ 100 (List._∷_ 101 (List._∷_ 114 (List._∷_ 58 (List._∷_ 58 (List._∷_ 112
-      (List._∷_ 97 (List._∷_ 114 (List._∷_ 115 (List._∷_ 101 (List._∷_ 58 (List._∷_ 58 (List._∷_ 77 (List._∷_ 97 (List._∷_ 105 (List._∷_ 110 (List._∷_ 72 (List._∷_ 101 (List._∷_ 97
-      (List._∷_ 100 (List._∷_ 101 (List._∷_ 114 (List._∷_ 73 (List._∷_ 110 (List._∷_ 102 (List._∷_ 111 List.[]))))))))))))))))))))))))))))) (Syntax.tcons (Syntax.tyStruct (List._∷_
-      116 (List._∷_ 121 (List._∷_ 112 (List._∷_ 101 (List._∷_ 115 (List._∷_ 58 (List._∷_ 58 (List._∷_ 67 (List._∷_ 111 (List._∷_ 100 (List._∷_ 101 (List._∷_ 115 (List._∷_ 116
-      (List._∷_ 114 (List._∷_ 101 (List._∷_ 97 (List._∷_ 109 (List._∷_ 79 (List._∷_ 102 (List._∷_ 102 (List._∷_ 115 (List._∷_ 101 (List._∷_ 116 List.[])))))))))))))))))))))))
-      (Syntax.tcons (Syntax.tyInt Syntax.w64) Syntax.tnil)) (Syntax.tcons (Syntax.tyInt Syntax.w64) (Syntax.tcons (Syntax.tyInt Syntax.w64) (Syntax.tcons (Syntax.tyInt Syntax.w64)
-      Syntax.tnil))))) Syntax.tnil) (Syntax.ttcons (Syntax.tcons (Syntax.tyStruct (List._∷_ 116 (List._∷_ 121 (List._∷_ 112 (List._∷_ 101 (List._∷_ 115 (List._∷_ 58 (List._∷_ 58
-      (List._∷_ 82 (List._∷_ 101 (List._∷_ 102 (List._∷_ 117 (List._∷_ 115 (List._∷_ 97 (List._∷_ 108 List.[])))))))))))))) (Syntax.tcons (Syntax.tyInt Syntax.w32) (Syntax.tcons
-      (Syntax.tyInt Syntax.w64) Syntax.tnil))) Syntax.tnil) Syntax.ttnil))),
-) (List._∷_ (5, Rows'.any-gone (Syntax.tyArray LentTilePartEntry.spelled 2048)) (List._∷_ (
   6,
-  Relend.msptr
-      LentTilePartEntry.row (Syntax.tyRef Syntax.erased Syntax.mut (Syntax.tyArray LentTilePartEntry.pointee 2048)) 2,
+  Rows'.any-gone
+      (Syntax.tyArray LentTilePartEntry.spelled 2048),
 ) (List._∷_ (
   7,
-  Rows'.any-gone (Syntax.tyStruct (List._∷_ 38
-      (List._∷_ 91 (List._∷_ 93 List.[]))) (Syntax.tcons (Syntax.tyRef Syntax.erased Syntax.mut LentTilePartEntry.pointee) (Syntax.tcons (Syntax.tyInt Syntax.w64) Syntax.tnil))),
-)
-    (List._∷_ (8, Rows'.any-gone (Syntax.tyRef Syntax.erased Syntax.mut (Syntax.tyInt Syntax.w8))) (List._∷_ (
-      9,
-      Rows'.any-gone (Syntax.tyStruct (List._∷_ 38 (List._∷_ 91 (List._∷_
-          93 List.[]))) (Syntax.tcons (Syntax.tyRef Syntax.erased Syntax.mut (Syntax.tyInt Syntax.w8)) (Syntax.tcons (Syntax.tyInt Syntax.w64) Syntax.tnil))),
-    ) List.[])))))))))
+  Relend.msptr LentTilePartEntry.row (Syntax.tyRef Syntax.erased Syntax.mut (Syntax.tyArray
+      LentTilePartEntry.pointee 2048)) 2,
+) (List._∷_ (
+  8,
+  Rows'.any-gone (Syntax.tyStruct (List._∷_ 38 (List._∷_ 91 (List._∷_ 93 List.[]))) (Syntax.tcons (Syntax.tyRef Syntax.erased
+      Syntax.mut LentTilePartEntry.pointee) (Syntax.tcons (Syntax.tyInt Syntax.w64) Syntax.tnil))),
+) (List._∷_ (
+  9,
+  Rows'.any-gone (Syntax.tyRef Syntax.erased Syntax.mut (Syntax.tyInt
+      Syntax.w8)),
+) (List._∷_ (
+  10,
+  Rows'.any-gone (Syntax.tyStruct (List._∷_ 38 (List._∷_ 91 (List._∷_ 93 List.[]))) (Syntax.tcons (Syntax.tyRef Syntax.erased Syntax.mut (Syntax.tyInt
+      Syntax.w8)) (Syntax.tcons (Syntax.tyInt Syntax.w64) Syntax.tnil))),
+) List.[]))))))))))
 
 abbrev pub t6 : List.List Row.Entry
 t6 = List._∷_ (
@@ -610,36 +655,37 @@ t6 = List._∷_ (
   1,
   Rows'.sslice (Referent.rtF (Referent.fInt Syntax.w8))
       (Syntax.tyRef (Syntax.named 0) Syntax.imm (Syntax.tyInt Syntax.w8)) 0,
+) (List._∷_ (2, Rows'.whole (Declared.row Numbering.the-type)) (List._∷_ (
+  3,
+  Mut.mslice (Referent.rtF
+      (Referent.fInt Syntax.w8)) (Syntax.tyRef (Syntax.named 1) Syntax.mut (Syntax.tyInt Syntax.w8)) 1,
+) (List._∷_ (4, Rows.arr-owed LentTilePartEntry.row 2048 2) (List._∷_ (
+  5,
+  Rows'.any-gone (Syntax.tyEnum (List._∷_ 104 (List._∷_ 101 (List._∷_ 97 (List._∷_ 100 (List._∷_ 101 (List._∷_ 114 (List._∷_ 58 (List._∷_ 58 (List._∷_ 112 (List._∷_ 97 (List._∷_
+      114 (List._∷_ 115 (List._∷_ 101 (List._∷_ 58 (List._∷_ 58 (List._∷_ 77 (List._∷_ 97 (List._∷_ 105 (List._∷_ 110 (List._∷_ 72 (List._∷_ 101 (List._∷_ 97 (List._∷_ 100 (List._∷_
+      101 (List._∷_ 114 List.[]))))))))))))))))))))))))) (Syntax.ttcons (Syntax.tcons (Syntax.tyStruct (List._∷_ 104 (List._∷_ 101 (List._∷_ 97 (List._∷_ 100 (List._∷_ 101 (List._∷_
+      114 (List._∷_ 58 (List._∷_ 58 (List._∷_ 112 (List._∷_ 97 (List._∷_ 114 (List._∷_ 115 (List._∷_ 101 (List._∷_ 58 (List._∷_ 58 (List._∷_ 77 (List._∷_ 97 (List._∷_ 105 (List._∷_
+      110 (List._∷_ 72 (List._∷_ 101 (List._∷_ 97 (List._∷_ 100 (List._∷_ 101 (List._∷_ 114 (List._∷_ 73 (List._∷_ 110 (List._∷_ 102 (List._∷_ 111
+      List.[]))))))))))))))))))))))))))))) (Syntax.tcons (Syntax.tyStruct (List._∷_ 116 (List._∷_ 121 (List._∷_ 112 (List._∷_ 101 (List._∷_ 115 (List._∷_ 58 (List._∷_ 58 (List._∷_ 67
+      (List._∷_ 111 (List._∷_ 100 (List._∷_ 101 (List._∷_ 115 (List._∷_ 116 (List._∷_ 114 (List._∷_ 101 (List._∷_ 97 (List._∷_ 109 (List._∷_ 79 (List._∷_ 102 (List._∷_ 102 (List._∷_
+      115 (List._∷_ 101 (List._∷_ 116 List.[]))))))))))))))))))))))) (Syntax.tcons (Syntax.tyInt Syntax.w64) Syntax.tnil)) (Syntax.tcons (Syntax.tyInt Syntax.w64) (Syntax.tcons
+      (Syntax.tyInt Syntax.w64) (Syntax.tcons (Syntax.tyInt Syntax.w64) Syntax.tnil))))) Syntax.tnil) (Syntax.ttcons (Syntax.tcons (Syntax.tyStruct (List._∷_ 116 (List._∷_ 121
+      (List._∷_ 112 (List._∷_ 101 (List._∷_ 115 (List._∷_ 58 (List._∷_ 58 (List._∷_ 82 (List._∷_ 101 (List._∷_ 102 (List._∷_ 117 (List._∷_ 115 (List._∷_ 97 (List._∷_ 108
+      List.[])))))))))))))) (Syntax.tcons (Syntax.tyInt Syntax.w32) (Syntax.tcons (Syntax.tyInt Syntax.w64) Syntax.tnil))) Syntax.tnil) Syntax.ttnil))),
 ) (List._∷_ (
-  2,
-  Mut.mslice (Referent.rtF (Referent.fInt Syntax.w8)) (Syntax.tyRef (Syntax.named 1)
-      Syntax.mut (Syntax.tyInt Syntax.w8)) 1,
-) (List._∷_ (3, Rows.arr-owed LentTilePartEntry.row 2048 2) (List._∷_ (
-  4,
-  Rows'.any-gone (Syntax.tyEnum (List._∷_ 104 (List._∷_ 101
-      (List._∷_ 97 (List._∷_ 100 (List._∷_ 101 (List._∷_ 114 (List._∷_ 58 (List._∷_ 58 (List._∷_ 112 (List._∷_ 97 (List._∷_ 114 (List._∷_ 115 (List._∷_ 101 (List._∷_ 58 (List._∷_ 58
-      (List._∷_ 77 (List._∷_ 97 (List._∷_ 105 (List._∷_ 110 (List._∷_ 72 (List._∷_ 101 (List._∷_ 97 (List._∷_ 100 (List._∷_ 101 (List._∷_ 114 List.[])))))))))))))))))))))))))
-      (Syntax.ttcons (Syntax.tcons (Syntax.tyStruct (List._∷_ 104 (List._∷_ 101 (List._∷_ 97 (List._∷_ 100 (List._∷_ 101 (List._∷_ 114 (List._∷_ 58 (List._∷_ 58 (List._∷_ 112
-      (List._∷_ 97 (List._∷_ 114 (List._∷_ 115 (List._∷_ 101 (List._∷_ 58 (List._∷_ 58 (List._∷_ 77 (List._∷_ 97 (List._∷_ 105 (List._∷_ 110 (List._∷_ 72 (List._∷_ 101 (List._∷_ 97
-      (List._∷_ 100 (List._∷_ 101 (List._∷_ 114 (List._∷_ 73 (List._∷_ 110 (List._∷_ 102 (List._∷_ 111 List.[]))))))))))))))))))))))))))))) (Syntax.tcons (Syntax.tyStruct (List._∷_
-      116 (List._∷_ 121 (List._∷_ 112 (List._∷_ 101 (List._∷_ 115 (List._∷_ 58 (List._∷_ 58 (List._∷_ 67 (List._∷_ 111 (List._∷_ 100 (List._∷_ 101 (List._∷_ 115 (List._∷_ 116
-      (List._∷_ 114 (List._∷_ 101 (List._∷_ 97 (List._∷_ 109 (List._∷_ 79 (List._∷_ 102 (List._∷_ 102 (List._∷_ 115 (List._∷_ 101 (List._∷_ 116 List.[])))))))))))))))))))))))
-      (Syntax.tcons (Syntax.tyInt Syntax.w64) Syntax.tnil)) (Syntax.tcons (Syntax.tyInt Syntax.w64) (Syntax.tcons (Syntax.tyInt Syntax.w64) (Syntax.tcons (Syntax.tyInt Syntax.w64)
-      Syntax.tnil))))) Syntax.tnil) (Syntax.ttcons (Syntax.tcons (Syntax.tyStruct (List._∷_ 116 (List._∷_ 121 (List._∷_ 112 (List._∷_ 101 (List._∷_ 115 (List._∷_ 58 (List._∷_ 58
-      (List._∷_ 82 (List._∷_ 101 (List._∷_ 102 (List._∷_ 117 (List._∷_ 115 (List._∷_ 97 (List._∷_ 108 List.[])))))))))))))) (Syntax.tcons (Syntax.tyInt Syntax.w32) (Syntax.tcons
-      (Syntax.tyInt Syntax.w64) Syntax.tnil))) Syntax.tnil) Syntax.ttnil))),
-) (List._∷_ (5, Rows'.any-gone (Syntax.tyArray LentTilePartEntry.spelled 2048)) (List._∷_ (
   6,
-  Rows'.any-gone (Syntax.tyRef Syntax.erased Syntax.mut (Syntax.tyArray LentTilePartEntry.pointee 2048)),
-) (List._∷_ (
-  7,
-  Mut.mslice LentTilePartEntry.row (Syntax.tyRef
-      Syntax.erased Syntax.mut LentTilePartEntry.pointee) 2,
-) (List._∷_ (8, Rows'.any-gone (Syntax.tyRef Syntax.erased Syntax.mut (Syntax.tyInt Syntax.w8))) (List._∷_ (
-  9,
-  Rows'.any-gone (Syntax.tyStruct (List._∷_ 38 (List._∷_ 91 (List._∷_ 93 List.[]))) (Syntax.tcons (Syntax.tyRef Syntax.erased Syntax.mut (Syntax.tyInt Syntax.w8)) (Syntax.tcons
-      (Syntax.tyInt Syntax.w64) Syntax.tnil))),
-) List.[])))))))))
+  Rows'.any-gone
+      (Syntax.tyArray LentTilePartEntry.spelled 2048),
+) (List._∷_ (7, Rows'.any-gone (Syntax.tyRef Syntax.erased Syntax.mut (Syntax.tyArray LentTilePartEntry.pointee 2048))) (List._∷_
+    (8, Mut.mslice LentTilePartEntry.row (Syntax.tyRef Syntax.erased Syntax.mut LentTilePartEntry.pointee) 2) (List._∷_ (
+      9,
+      Rows'.any-gone (Syntax.tyRef Syntax.erased Syntax.mut
+          (Syntax.tyInt Syntax.w8)),
+    ) (List._∷_ (
+      10,
+      Rows'.any-gone (Syntax.tyStruct (List._∷_ 38 (List._∷_ 91 (List._∷_ 93 List.[]))) (Syntax.tcons (Syntax.tyRef Syntax.erased Syntax.mut
+          (Syntax.tyInt Syntax.w8)) (Syntax.tcons (Syntax.tyInt Syntax.w64) Syntax.tnil))),
+    ) List.[]))))))))))
 
 abbrev pub t7 : List.List Row.Entry
 t7 = List._∷_ (
@@ -667,40 +713,41 @@ t7 = List._∷_ (
   1,
   Rows'.sslice (Referent.rtF (Referent.fInt Syntax.w8))
       (Syntax.tyRef (Syntax.named 0) Syntax.imm (Syntax.tyInt Syntax.w8)) 0,
+) (List._∷_ (2, Rows'.whole (Declared.row Numbering.the-type)) (List._∷_ (
+  3,
+  Relend.mslice-owed
+      (Referent.rtF (Referent.fInt Syntax.w8)) (Syntax.tyRef (Syntax.named 1) Syntax.mut (Syntax.tyInt Syntax.w8)) 1 3 Row.off,
 ) (List._∷_ (
-  2,
-  Relend.mslice-owed (Referent.rtF (Referent.fInt Syntax.w8)) (Syntax.tyRef (Syntax.named 1)
-      Syntax.mut (Syntax.tyInt Syntax.w8)) 1 3 Row.off,
-) (List._∷_ (3, Rows.arr-owed LentTilePartEntry.row 2048 2) (List._∷_ (
   4,
-  Rows'.any-gone (Syntax.tyEnum (List._∷_ 104 (List._∷_
-      101 (List._∷_ 97 (List._∷_ 100 (List._∷_ 101 (List._∷_ 114 (List._∷_ 58 (List._∷_ 58 (List._∷_ 112 (List._∷_ 97 (List._∷_ 114 (List._∷_ 115 (List._∷_ 101 (List._∷_ 58 (List._∷_
-      58 (List._∷_ 77 (List._∷_ 97 (List._∷_ 105 (List._∷_ 110 (List._∷_ 72 (List._∷_ 101 (List._∷_ 97 (List._∷_ 100 (List._∷_ 101 (List._∷_ 114 List.[])))))))))))))))))))))))))
-      (Syntax.ttcons (Syntax.tcons (Syntax.tyStruct (List._∷_ 104 (List._∷_ 101 (List._∷_ 97 (List._∷_ 100 (List._∷_ 101 (List._∷_ 114 (List._∷_ 58 (List._∷_ 58 (List._∷_ 112
+  Rows.arr-owed LentTilePartEntry.row 2048
+      2,
+) (List._∷_ (
+  5,
+  Rows'.any-gone (Syntax.tyEnum (List._∷_ 104 (List._∷_ 101 (List._∷_ 97 (List._∷_ 100 (List._∷_ 101 (List._∷_ 114 (List._∷_ 58 (List._∷_ 58 (List._∷_ 112
       (List._∷_ 97 (List._∷_ 114 (List._∷_ 115 (List._∷_ 101 (List._∷_ 58 (List._∷_ 58 (List._∷_ 77 (List._∷_ 97 (List._∷_ 105 (List._∷_ 110 (List._∷_ 72 (List._∷_ 101 (List._∷_ 97
-      (List._∷_ 100 (List._∷_ 101 (List._∷_ 114 (List._∷_ 73 (List._∷_ 110 (List._∷_ 102 (List._∷_ 111 List.[]))))))))))))))))))))))))))))) (Syntax.tcons (Syntax.tyStruct (List._∷_
-      116 (List._∷_ 121 (List._∷_ 112 (List._∷_ 101 (List._∷_ 115 (List._∷_ 58 (List._∷_ 58 (List._∷_ 67 (List._∷_ 111 (List._∷_ 100 (List._∷_ 101 (List._∷_ 115 (List._∷_ 116
-      (List._∷_ 114 (List._∷_ 101 (List._∷_ 97 (List._∷_ 109 (List._∷_ 79 (List._∷_ 102 (List._∷_ 102 (List._∷_ 115 (List._∷_ 101 (List._∷_ 116 List.[])))))))))))))))))))))))
-      (Syntax.tcons (Syntax.tyInt Syntax.w64) Syntax.tnil)) (Syntax.tcons (Syntax.tyInt Syntax.w64) (Syntax.tcons (Syntax.tyInt Syntax.w64) (Syntax.tcons (Syntax.tyInt Syntax.w64)
-      Syntax.tnil))))) Syntax.tnil) (Syntax.ttcons (Syntax.tcons (Syntax.tyStruct (List._∷_ 116 (List._∷_ 121 (List._∷_ 112 (List._∷_ 101 (List._∷_ 115 (List._∷_ 58 (List._∷_ 58
-      (List._∷_ 82 (List._∷_ 101 (List._∷_ 102 (List._∷_ 117 (List._∷_ 115 (List._∷_ 97 (List._∷_ 108 List.[])))))))))))))) (Syntax.tcons (Syntax.tyInt Syntax.w32) (Syntax.tcons
-      (Syntax.tyInt Syntax.w64) Syntax.tnil))) Syntax.tnil) Syntax.ttnil))),
-) (List._∷_ (5, Rows'.any-gone (Syntax.tyArray LentTilePartEntry.spelled 2048)) (List._∷_ (
+      (List._∷_ 100 (List._∷_ 101 (List._∷_ 114 List.[]))))))))))))))))))))))))) (Syntax.ttcons (Syntax.tcons (Syntax.tyStruct (List._∷_ 104 (List._∷_ 101 (List._∷_ 97 (List._∷_ 100
+      (List._∷_ 101 (List._∷_ 114 (List._∷_ 58 (List._∷_ 58 (List._∷_ 112 (List._∷_ 97 (List._∷_ 114 (List._∷_ 115 (List._∷_ 101 (List._∷_ 58 (List._∷_ 58 (List._∷_ 77 (List._∷_ 97
+      (List._∷_ 105 (List._∷_ 110 (List._∷_ 72 (List._∷_ 101 (List._∷_ 97 (List._∷_ 100 (List._∷_ 101 (List._∷_ 114 (List._∷_ 73 (List._∷_ 110 (List._∷_ 102 (List._∷_ 111
+      List.[]))))))))))))))))))))))))))))) (Syntax.tcons (Syntax.tyStruct (List._∷_ 116 (List._∷_ 121 (List._∷_ 112 (List._∷_ 101 (List._∷_ 115 (List._∷_ 58 (List._∷_ 58 (List._∷_ 67
+      (List._∷_ 111 (List._∷_ 100 (List._∷_ 101 (List._∷_ 115 (List._∷_ 116 (List._∷_ 114 (List._∷_ 101 (List._∷_ 97 (List._∷_ 109 (List._∷_ 79 (List._∷_ 102 (List._∷_ 102 (List._∷_
+      115 (List._∷_ 101 (List._∷_ 116 List.[]))))))))))))))))))))))) (Syntax.tcons (Syntax.tyInt Syntax.w64) Syntax.tnil)) (Syntax.tcons (Syntax.tyInt Syntax.w64) (Syntax.tcons
+      (Syntax.tyInt Syntax.w64) (Syntax.tcons (Syntax.tyInt Syntax.w64) Syntax.tnil))))) Syntax.tnil) (Syntax.ttcons (Syntax.tcons (Syntax.tyStruct (List._∷_ 116 (List._∷_ 121
+      (List._∷_ 112 (List._∷_ 101 (List._∷_ 115 (List._∷_ 58 (List._∷_ 58 (List._∷_ 82 (List._∷_ 101 (List._∷_ 102 (List._∷_ 117 (List._∷_ 115 (List._∷_ 97 (List._∷_ 108
+      List.[])))))))))))))) (Syntax.tcons (Syntax.tyInt Syntax.w32) (Syntax.tcons (Syntax.tyInt Syntax.w64) Syntax.tnil))) Syntax.tnil) Syntax.ttnil))),
+) (List._∷_ (
   6,
-  Rows'.any-gone (Syntax.tyRef Syntax.erased Syntax.mut (Syntax.tyArray LentTilePartEntry.pointee 2048)),
-) (List._∷_ (
-  7,
-  Mut.mslice LentTilePartEntry.row (Syntax.tyRef
-      Syntax.erased Syntax.mut LentTilePartEntry.pointee) 2,
-) (List._∷_ (
-  8,
-  Relend.msptr (Referent.rtF (Referent.fInt Syntax.w8)) (Syntax.tyRef Syntax.erased Syntax.mut (Syntax.tyInt
-      Syntax.w8)) 3,
-) (List._∷_ (
-  9,
-  Rows'.any-gone (Syntax.tyStruct (List._∷_ 38 (List._∷_ 91 (List._∷_ 93 List.[]))) (Syntax.tcons (Syntax.tyRef Syntax.erased Syntax.mut
-      (Syntax.tyInt Syntax.w8)) (Syntax.tcons (Syntax.tyInt Syntax.w64) Syntax.tnil))),
-) List.[])))))))))
+  Rows'.any-gone
+      (Syntax.tyArray LentTilePartEntry.spelled 2048),
+) (List._∷_ (7, Rows'.any-gone (Syntax.tyRef Syntax.erased Syntax.mut (Syntax.tyArray LentTilePartEntry.pointee 2048))) (List._∷_
+    (8, Mut.mslice LentTilePartEntry.row (Syntax.tyRef Syntax.erased Syntax.mut LentTilePartEntry.pointee) 2) (List._∷_ (
+      9,
+      Relend.msptr (Referent.rtF (Referent.fInt Syntax.w8))
+          (Syntax.tyRef Syntax.erased Syntax.mut (Syntax.tyInt Syntax.w8)) 3,
+    ) (List._∷_ (
+      10,
+      Rows'.any-gone (Syntax.tyStruct (List._∷_ 38 (List._∷_ 91 (List._∷_ 93 List.[])))
+          (Syntax.tcons (Syntax.tyRef Syntax.erased Syntax.mut (Syntax.tyInt Syntax.w8)) (Syntax.tcons (Syntax.tyInt Syntax.w64) Syntax.tnil))),
+    ) List.[]))))))))))
 
 abbrev pub t8 : List.List Row.Entry
 t8 = List._∷_ (
@@ -728,36 +775,38 @@ t8 = List._∷_ (
   1,
   Rows'.sslice (Referent.rtF (Referent.fInt Syntax.w8))
       (Syntax.tyRef (Syntax.named 0) Syntax.imm (Syntax.tyInt Syntax.w8)) 0,
+) (List._∷_ (2, Rows'.whole (Declared.row Numbering.the-type)) (List._∷_ (
+  3,
+  Relend.mslice-owed
+      (Referent.rtF (Referent.fInt Syntax.w8)) (Syntax.tyRef (Syntax.named 1) Syntax.mut (Syntax.tyInt Syntax.w8)) 1 3 Row.off,
 ) (List._∷_ (
-  2,
-  Relend.mslice-owed (Referent.rtF (Referent.fInt Syntax.w8)) (Syntax.tyRef (Syntax.named 1)
-      Syntax.mut (Syntax.tyInt Syntax.w8)) 1 3 Row.off,
-) (List._∷_ (3, Rows.arr-owed LentTilePartEntry.row 2048 2) (List._∷_ (
   4,
-  Rows'.any-gone (Syntax.tyEnum (List._∷_ 104 (List._∷_
-      101 (List._∷_ 97 (List._∷_ 100 (List._∷_ 101 (List._∷_ 114 (List._∷_ 58 (List._∷_ 58 (List._∷_ 112 (List._∷_ 97 (List._∷_ 114 (List._∷_ 115 (List._∷_ 101 (List._∷_ 58 (List._∷_
-      58 (List._∷_ 77 (List._∷_ 97 (List._∷_ 105 (List._∷_ 110 (List._∷_ 72 (List._∷_ 101 (List._∷_ 97 (List._∷_ 100 (List._∷_ 101 (List._∷_ 114 List.[])))))))))))))))))))))))))
-      (Syntax.ttcons (Syntax.tcons (Syntax.tyStruct (List._∷_ 104 (List._∷_ 101 (List._∷_ 97 (List._∷_ 100 (List._∷_ 101 (List._∷_ 114 (List._∷_ 58 (List._∷_ 58 (List._∷_ 112
-      (List._∷_ 97 (List._∷_ 114 (List._∷_ 115 (List._∷_ 101 (List._∷_ 58 (List._∷_ 58 (List._∷_ 77 (List._∷_ 97 (List._∷_ 105 (List._∷_ 110 (List._∷_ 72 (List._∷_ 101 (List._∷_ 97
-      (List._∷_ 100 (List._∷_ 101 (List._∷_ 114 (List._∷_ 73 (List._∷_ 110 (List._∷_ 102 (List._∷_ 111 List.[]))))))))))))))))))))))))))))) (Syntax.tcons (Syntax.tyStruct (List._∷_
-      116 (List._∷_ 121 (List._∷_ 112 (List._∷_ 101 (List._∷_ 115 (List._∷_ 58 (List._∷_ 58 (List._∷_ 67 (List._∷_ 111 (List._∷_ 100 (List._∷_ 101 (List._∷_ 115 (List._∷_ 116
-      (List._∷_ 114 (List._∷_ 101 (List._∷_ 97 (List._∷_ 109 (List._∷_ 79 (List._∷_ 102 (List._∷_ 102 (List._∷_ 115 (List._∷_ 101 (List._∷_ 116 List.[])))))))))))))))))))))))
-      (Syntax.tcons (Syntax.tyInt Syntax.w64) Syntax.tnil)) (Syntax.tcons (Syntax.tyInt Syntax.w64) (Syntax.tcons (Syntax.tyInt Syntax.w64) (Syntax.tcons (Syntax.tyInt Syntax.w64)
-      Syntax.tnil))))) Syntax.tnil) (Syntax.ttcons (Syntax.tcons (Syntax.tyStruct (List._∷_ 116 (List._∷_ 121 (List._∷_ 112 (List._∷_ 101 (List._∷_ 115 (List._∷_ 58 (List._∷_ 58
-      (List._∷_ 82 (List._∷_ 101 (List._∷_ 102 (List._∷_ 117 (List._∷_ 115 (List._∷_ 97 (List._∷_ 108 List.[])))))))))))))) (Syntax.tcons (Syntax.tyInt Syntax.w32) (Syntax.tcons
-      (Syntax.tyInt Syntax.w64) Syntax.tnil))) Syntax.tnil) Syntax.ttnil))),
-) (List._∷_ (5, Rows'.any-gone (Syntax.tyArray LentTilePartEntry.spelled 2048)) (List._∷_ (
-  6,
-  Rows'.any-gone (Syntax.tyRef Syntax.erased Syntax.mut (Syntax.tyArray LentTilePartEntry.pointee 2048)),
+  Rows.arr-owed LentTilePartEntry.row 2048
+      2,
 ) (List._∷_ (
-  7,
-  Mut.mslice LentTilePartEntry.row (Syntax.tyRef
-      Syntax.erased Syntax.mut LentTilePartEntry.pointee) 2,
-) (List._∷_ (8, Rows'.any-gone (Syntax.tyRef Syntax.erased Syntax.mut (Syntax.tyInt Syntax.w8))) (List._∷_ (
-  9,
-  Mut.mslice
-      (Referent.rtF (Referent.fInt Syntax.w8)) (Syntax.tyRef Syntax.erased Syntax.mut (Syntax.tyInt Syntax.w8)) 3,
-) List.[])))))))))
+  5,
+  Rows'.any-gone (Syntax.tyEnum (List._∷_ 104 (List._∷_ 101 (List._∷_ 97 (List._∷_ 100 (List._∷_ 101 (List._∷_ 114 (List._∷_ 58 (List._∷_ 58 (List._∷_ 112
+      (List._∷_ 97 (List._∷_ 114 (List._∷_ 115 (List._∷_ 101 (List._∷_ 58 (List._∷_ 58 (List._∷_ 77 (List._∷_ 97 (List._∷_ 105 (List._∷_ 110 (List._∷_ 72 (List._∷_ 101 (List._∷_ 97
+      (List._∷_ 100 (List._∷_ 101 (List._∷_ 114 List.[]))))))))))))))))))))))))) (Syntax.ttcons (Syntax.tcons (Syntax.tyStruct (List._∷_ 104 (List._∷_ 101 (List._∷_ 97 (List._∷_ 100
+      (List._∷_ 101 (List._∷_ 114 (List._∷_ 58 (List._∷_ 58 (List._∷_ 112 (List._∷_ 97 (List._∷_ 114 (List._∷_ 115 (List._∷_ 101 (List._∷_ 58 (List._∷_ 58 (List._∷_ 77 (List._∷_ 97
+      (List._∷_ 105 (List._∷_ 110 (List._∷_ 72 (List._∷_ 101 (List._∷_ 97 (List._∷_ 100 (List._∷_ 101 (List._∷_ 114 (List._∷_ 73 (List._∷_ 110 (List._∷_ 102 (List._∷_ 111
+      List.[]))))))))))))))))))))))))))))) (Syntax.tcons (Syntax.tyStruct (List._∷_ 116 (List._∷_ 121 (List._∷_ 112 (List._∷_ 101 (List._∷_ 115 (List._∷_ 58 (List._∷_ 58 (List._∷_ 67
+      (List._∷_ 111 (List._∷_ 100 (List._∷_ 101 (List._∷_ 115 (List._∷_ 116 (List._∷_ 114 (List._∷_ 101 (List._∷_ 97 (List._∷_ 109 (List._∷_ 79 (List._∷_ 102 (List._∷_ 102 (List._∷_
+      115 (List._∷_ 101 (List._∷_ 116 List.[]))))))))))))))))))))))) (Syntax.tcons (Syntax.tyInt Syntax.w64) Syntax.tnil)) (Syntax.tcons (Syntax.tyInt Syntax.w64) (Syntax.tcons
+      (Syntax.tyInt Syntax.w64) (Syntax.tcons (Syntax.tyInt Syntax.w64) Syntax.tnil))))) Syntax.tnil) (Syntax.ttcons (Syntax.tcons (Syntax.tyStruct (List._∷_ 116 (List._∷_ 121
+      (List._∷_ 112 (List._∷_ 101 (List._∷_ 115 (List._∷_ 58 (List._∷_ 58 (List._∷_ 82 (List._∷_ 101 (List._∷_ 102 (List._∷_ 117 (List._∷_ 115 (List._∷_ 97 (List._∷_ 108
+      List.[])))))))))))))) (Syntax.tcons (Syntax.tyInt Syntax.w32) (Syntax.tcons (Syntax.tyInt Syntax.w64) Syntax.tnil))) Syntax.tnil) Syntax.ttnil))),
+) (List._∷_ (
+  6,
+  Rows'.any-gone
+      (Syntax.tyArray LentTilePartEntry.spelled 2048),
+) (List._∷_ (7, Rows'.any-gone (Syntax.tyRef Syntax.erased Syntax.mut (Syntax.tyArray LentTilePartEntry.pointee 2048))) (List._∷_
+    (8, Mut.mslice LentTilePartEntry.row (Syntax.tyRef Syntax.erased Syntax.mut LentTilePartEntry.pointee) 2) (List._∷_ (
+      9,
+      Rows'.any-gone (Syntax.tyRef Syntax.erased Syntax.mut
+          (Syntax.tyInt Syntax.w8)),
+    ) (List._∷_ (10, Mut.mslice (Referent.rtF (Referent.fInt Syntax.w8)) (Syntax.tyRef Syntax.erased Syntax.mut (Syntax.tyInt Syntax.w8)) 3)
+    List.[]))))))))))
 
 abbrev pub t9 : List.List Row.Entry
 t9 = List._∷_ (
@@ -785,24 +834,27 @@ t9 = List._∷_ (
   1,
   Rows'.sslice (Referent.rtF (Referent.fInt Syntax.w8))
       (Syntax.tyRef (Syntax.named 0) Syntax.imm (Syntax.tyInt Syntax.w8)) 0,
+) (List._∷_ (2, Rows'.whole (Declared.row Numbering.the-type)) (List._∷_ (
+  3,
+  Relend.mslice-owed
+      (Referent.rtF (Referent.fInt Syntax.w8)) (Syntax.tyRef (Syntax.named 1) Syntax.mut (Syntax.tyInt Syntax.w8)) 1 3 Row.off,
 ) (List._∷_ (
-  2,
-  Relend.mslice-owed (Referent.rtF (Referent.fInt Syntax.w8)) (Syntax.tyRef (Syntax.named 1)
-      Syntax.mut (Syntax.tyInt Syntax.w8)) 1 3 Row.off,
-) (List._∷_ (3, Rows.arr-owed LentTilePartEntry.row 2048 2) (List._∷_ (4, Rows'.whole (Declared.row MainHeader.the-type))
-    (List._∷_ (5, Rows'.any-gone (Syntax.tyArray LentTilePartEntry.spelled 2048)) (List._∷_ (
-      6,
-      Rows'.any-gone (Syntax.tyRef Syntax.erased Syntax.mut (Syntax.tyArray
-          LentTilePartEntry.pointee 2048)),
-    ) (List._∷_ (7, Mut.msleft LentTilePartEntry.row (Syntax.tyRef Syntax.erased Syntax.mut LentTilePartEntry.pointee)) (List._∷_ (
-      8,
-      Rows'.any-gone
-          (Syntax.tyRef Syntax.erased Syntax.mut (Syntax.tyInt Syntax.w8)),
-    ) (List._∷_ (
-      9,
-      Mut.msleft (Referent.rtF (Referent.fInt Syntax.w8)) (Syntax.tyRef Syntax.erased Syntax.mut
-          (Syntax.tyInt Syntax.w8)),
-    ) List.[])))))))))
+  4,
+  Rows.arr-owed LentTilePartEntry.row 2048
+      2,
+) (List._∷_ (5, Rows'.whole (Declared.row MainHeader.the-type)) (List._∷_ (6, Rows'.any-gone (Syntax.tyArray LentTilePartEntry.spelled 2048)) (List._∷_ (
+  7,
+  Rows'.any-gone
+      (Syntax.tyRef Syntax.erased Syntax.mut (Syntax.tyArray LentTilePartEntry.pointee 2048)),
+) (List._∷_ (
+  8,
+  Mut.msleft LentTilePartEntry.row (Syntax.tyRef Syntax.erased Syntax.mut
+      LentTilePartEntry.pointee),
+) (List._∷_ (9, Rows'.any-gone (Syntax.tyRef Syntax.erased Syntax.mut (Syntax.tyInt Syntax.w8))) (List._∷_ (
+  10,
+  Mut.msleft (Referent.rtF
+      (Referent.fInt Syntax.w8)) (Syntax.tyRef Syntax.erased Syntax.mut (Syntax.tyInt Syntax.w8)),
+) List.[]))))))))))
 
 abbrev pub t10 : List.List Row.Entry
 t10 = List._∷_ (
@@ -832,22 +884,28 @@ t10 = List._∷_ (
       (Syntax.tyRef (Syntax.named 0) Syntax.imm (Syntax.tyInt Syntax.w8)) 0,
 ) (List._∷_ (
   2,
-  Relend.mslice-owed (Referent.rtF (Referent.fInt Syntax.w8)) (Syntax.tyRef (Syntax.named 1)
-      Syntax.mut (Syntax.tyInt Syntax.w8)) 1 3 Row.off,
-) (List._∷_ (3, Rows.arrF LentTilePartEntry.row 2048 0) (List._∷_ (4, Rows'.whole (Declared.row MainHeader.the-type)) (List._∷_
-    (5, Rows'.any-gone (Syntax.tyArray LentTilePartEntry.spelled 2048)) (List._∷_ (
-      6,
-      Rows'.any-gone (Syntax.tyRef Syntax.erased Syntax.mut (Syntax.tyArray
-          LentTilePartEntry.pointee 2048)),
-    ) (List._∷_ (
-      7,
-      Rows'.any-gone (Syntax.tyStruct (List._∷_ 38 (List._∷_ 91 (List._∷_ 93 List.[]))) (Syntax.tcons (Syntax.tyRef Syntax.erased
-          Syntax.mut LentTilePartEntry.pointee) (Syntax.tcons (Syntax.tyInt Syntax.w64) Syntax.tnil))),
-    ) (List._∷_ (
-      8,
-      Rows'.any-gone (Syntax.tyRef Syntax.erased Syntax.mut (Syntax.tyInt
-          Syntax.w8)),
-    ) (List._∷_ (9, Mut.msleft (Referent.rtF (Referent.fInt Syntax.w8)) (Syntax.tyRef Syntax.erased Syntax.mut (Syntax.tyInt Syntax.w8))) List.[])))))))))
+  Rows'.any-gone (Syntax.tyEnum (List._∷_ 104 (List._∷_ 101 (List._∷_ 97 (List._∷_ 100
+      (List._∷_ 101 (List._∷_ 114 (List._∷_ 58 (List._∷_ 58 (List._∷_ 110 (List._∷_ 117 (List._∷_ 109 (List._∷_ 98 (List._∷_ 101 (List._∷_ 114 (List._∷_ 105 (List._∷_ 110 (List._∷_
+      103 (List._∷_ 58 (List._∷_ 58 (List._∷_ 78 (List._∷_ 117 (List._∷_ 109 (List._∷_ 98 (List._∷_ 101 (List._∷_ 114 (List._∷_ 105 (List._∷_ 110 (List._∷_ 103
+      List.[])))))))))))))))))))))))))))) (Syntax.ttcons Syntax.tnil (Syntax.ttcons Syntax.tnil Syntax.ttnil))),
+) (List._∷_ (
+  3,
+  Relend.mslice-owed (Referent.rtF (Referent.fInt
+      Syntax.w8)) (Syntax.tyRef (Syntax.named 1) Syntax.mut (Syntax.tyInt Syntax.w8)) 1 3 Row.off,
+) (List._∷_ (4, Rows.arr-owed LentTilePartEntry.row 2048 2) (List._∷_ (
+  5,
+  Rows'.whole
+      (Declared.row MainHeader.the-type),
+) (List._∷_ (6, Rows'.any-gone (Syntax.tyArray LentTilePartEntry.spelled 2048)) (List._∷_ (
+  7,
+  Rows'.any-gone (Syntax.tyRef Syntax.erased
+      Syntax.mut (Syntax.tyArray LentTilePartEntry.pointee 2048)),
+) (List._∷_ (8, Mut.msleft LentTilePartEntry.row (Syntax.tyRef Syntax.erased Syntax.mut LentTilePartEntry.pointee))
+    (List._∷_ (9, Rows'.any-gone (Syntax.tyRef Syntax.erased Syntax.mut (Syntax.tyInt Syntax.w8))) (List._∷_ (
+      10,
+      Mut.msleft (Referent.rtF (Referent.fInt Syntax.w8)) (Syntax.tyRef
+          Syntax.erased Syntax.mut (Syntax.tyInt Syntax.w8)),
+    ) List.[]))))))))))
 
 abbrev pub t11 : List.List Row.Entry
 t11 = List._∷_ (
@@ -877,28 +935,35 @@ t11 = List._∷_ (
       (Syntax.tyRef (Syntax.named 0) Syntax.imm (Syntax.tyInt Syntax.w8)) 0,
 ) (List._∷_ (
   2,
-  Mut.mslice (Referent.rtF (Referent.fInt Syntax.w8)) (Syntax.tyRef (Syntax.named 1)
-      Syntax.mut (Syntax.tyInt Syntax.w8)) 1,
-) (List._∷_ (3, Rows.arrF LentTilePartEntry.row 2048 0) (List._∷_ (4, Rows'.whole (Declared.row MainHeader.the-type)) (List._∷_ (
+  Rows'.any-gone (Syntax.tyEnum (List._∷_ 104 (List._∷_ 101 (List._∷_ 97 (List._∷_ 100
+      (List._∷_ 101 (List._∷_ 114 (List._∷_ 58 (List._∷_ 58 (List._∷_ 110 (List._∷_ 117 (List._∷_ 109 (List._∷_ 98 (List._∷_ 101 (List._∷_ 114 (List._∷_ 105 (List._∷_ 110 (List._∷_
+      103 (List._∷_ 58 (List._∷_ 58 (List._∷_ 78 (List._∷_ 117 (List._∷_ 109 (List._∷_ 98 (List._∷_ 101 (List._∷_ 114 (List._∷_ 105 (List._∷_ 110 (List._∷_ 103
+      List.[])))))))))))))))))))))))))))) (Syntax.ttcons Syntax.tnil (Syntax.ttcons Syntax.tnil Syntax.ttnil))),
+) (List._∷_ (
+  3,
+  Relend.mslice-owed (Referent.rtF (Referent.fInt
+      Syntax.w8)) (Syntax.tyRef (Syntax.named 1) Syntax.mut (Syntax.tyInt Syntax.w8)) 1 3 Row.off,
+) (List._∷_ (4, Rows.arrF LentTilePartEntry.row 2048 0) (List._∷_ (
   5,
-  Rows'.any-gone (Syntax.tyArray LentTilePartEntry.spelled 2048),
-) (List._∷_ (
-  6,
-  Rows'.any-gone (Syntax.tyRef Syntax.erased Syntax.mut (Syntax.tyArray LentTilePartEntry.pointee
-      2048)),
-) (List._∷_ (
+  Rows'.whole
+      (Declared.row MainHeader.the-type),
+) (List._∷_ (6, Rows'.any-gone (Syntax.tyArray LentTilePartEntry.spelled 2048)) (List._∷_ (
   7,
-  Rows'.any-gone (Syntax.tyStruct (List._∷_ 38 (List._∷_ 91 (List._∷_ 93 List.[]))) (Syntax.tcons (Syntax.tyRef Syntax.erased Syntax.mut
-      LentTilePartEntry.pointee) (Syntax.tcons (Syntax.tyInt Syntax.w64) Syntax.tnil))),
+  Rows'.any-gone (Syntax.tyRef Syntax.erased
+      Syntax.mut (Syntax.tyArray LentTilePartEntry.pointee 2048)),
 ) (List._∷_ (
   8,
-  Rows'.any-gone (Syntax.tyRef Syntax.erased Syntax.mut (Syntax.tyInt
-      Syntax.w8)),
+  Rows'.any-gone (Syntax.tyStruct (List._∷_ 38 (List._∷_ 91 (List._∷_ 93 List.[]))) (Syntax.tcons
+      (Syntax.tyRef Syntax.erased Syntax.mut LentTilePartEntry.pointee) (Syntax.tcons (Syntax.tyInt Syntax.w64) Syntax.tnil))),
 ) (List._∷_ (
   9,
-  Rows'.any-gone (Syntax.tyStruct (List._∷_ 38 (List._∷_ 91 (List._∷_ 93 List.[]))) (Syntax.tcons (Syntax.tyRef Syntax.erased Syntax.mut (Syntax.tyInt
-      Syntax.w8)) (Syntax.tcons (Syntax.tyInt Syntax.w64) Syntax.tnil))),
-) List.[])))))))))
+  Rows'.any-gone (Syntax.tyRef
+      Syntax.erased Syntax.mut (Syntax.tyInt Syntax.w8)),
+) (List._∷_ (
+  10,
+  Mut.msleft (Referent.rtF (Referent.fInt Syntax.w8)) (Syntax.tyRef Syntax.erased Syntax.mut (Syntax.tyInt
+      Syntax.w8)),
+) List.[]))))))))))
 
 abbrev pub t12 : List.List Row.Entry
 t12 = List._∷_ (
@@ -928,21 +993,35 @@ t12 = List._∷_ (
       (Syntax.tyRef (Syntax.named 0) Syntax.imm (Syntax.tyInt Syntax.w8)) 0,
 ) (List._∷_ (
   2,
-  Mut.mslice (Referent.rtF (Referent.fInt Syntax.w8)) (Syntax.tyRef (Syntax.named 1)
-      Syntax.mut (Syntax.tyInt Syntax.w8)) 1,
-) (List._∷_ (3, Rows.arrF LentTilePartEntry.row 2048 0) (List._∷_ (4, Rows'.whole (Declared.row MainHeader.the-type)) (List._∷_ (
+  Rows'.any-gone (Syntax.tyEnum (List._∷_ 104 (List._∷_ 101 (List._∷_ 97 (List._∷_ 100
+      (List._∷_ 101 (List._∷_ 114 (List._∷_ 58 (List._∷_ 58 (List._∷_ 110 (List._∷_ 117 (List._∷_ 109 (List._∷_ 98 (List._∷_ 101 (List._∷_ 114 (List._∷_ 105 (List._∷_ 110 (List._∷_
+      103 (List._∷_ 58 (List._∷_ 58 (List._∷_ 78 (List._∷_ 117 (List._∷_ 109 (List._∷_ 98 (List._∷_ 101 (List._∷_ 114 (List._∷_ 105 (List._∷_ 110 (List._∷_ 103
+      List.[])))))))))))))))))))))))))))) (Syntax.ttcons Syntax.tnil (Syntax.ttcons Syntax.tnil Syntax.ttnil))),
+) (List._∷_ (
+  3,
+  Mut.mslice (Referent.rtF (Referent.fInt Syntax.w8))
+      (Syntax.tyRef (Syntax.named 1) Syntax.mut (Syntax.tyInt Syntax.w8)) 1,
+) (List._∷_ (4, Rows.arrF LentTilePartEntry.row 2048 0) (List._∷_ (
   5,
-  Rows.arrF LentTilePartEntry.row 2048 0,
-) (List._∷_ (6, Rows'.any-gone (Syntax.tyRef Syntax.erased Syntax.mut (Syntax.tyArray LentTilePartEntry.pointee 2048))) (List._∷_ (
+  Rows'.whole (Declared.row
+      MainHeader.the-type),
+) (List._∷_ (6, Rows'.any-gone (Syntax.tyArray LentTilePartEntry.spelled 2048)) (List._∷_ (
   7,
-  Rows'.any-gone (Syntax.tyStruct (List._∷_ 38 (List._∷_ 91 (List._∷_ 93 List.[]))) (Syntax.tcons (Syntax.tyRef Syntax.erased Syntax.mut LentTilePartEntry.pointee) (Syntax.tcons
-      (Syntax.tyInt Syntax.w64) Syntax.tnil))),
-) (List._∷_ (8, Rows'.any-gone (Syntax.tyRef Syntax.erased Syntax.mut (Syntax.tyInt Syntax.w8))) (List._∷_ (
+  Rows'.any-gone (Syntax.tyRef Syntax.erased Syntax.mut
+      (Syntax.tyArray LentTilePartEntry.pointee 2048)),
+) (List._∷_ (
+  8,
+  Rows'.any-gone (Syntax.tyStruct (List._∷_ 38 (List._∷_ 91 (List._∷_ 93 List.[]))) (Syntax.tcons (Syntax.tyRef
+      Syntax.erased Syntax.mut LentTilePartEntry.pointee) (Syntax.tcons (Syntax.tyInt Syntax.w64) Syntax.tnil))),
+) (List._∷_ (
   9,
-  Rows'.any-gone
-      (Syntax.tyStruct (List._∷_ 38 (List._∷_ 91 (List._∷_ 93 List.[]))) (Syntax.tcons (Syntax.tyRef Syntax.erased Syntax.mut (Syntax.tyInt Syntax.w8)) (Syntax.tcons (Syntax.tyInt
-      Syntax.w64) Syntax.tnil))),
-) List.[])))))))))
+  Rows'.any-gone (Syntax.tyRef Syntax.erased Syntax.mut
+      (Syntax.tyInt Syntax.w8)),
+) (List._∷_ (
+  10,
+  Rows'.any-gone (Syntax.tyStruct (List._∷_ 38 (List._∷_ 91 (List._∷_ 93 List.[]))) (Syntax.tcons (Syntax.tyRef Syntax.erased Syntax.mut
+      (Syntax.tyInt Syntax.w8)) (Syntax.tcons (Syntax.tyInt Syntax.w64) Syntax.tnil))),
+) List.[]))))))))))
 
 abbrev pub t13 : List.List Row.Entry
 t13 = List._∷_ (
@@ -972,89 +1051,169 @@ t13 = List._∷_ (
       (Syntax.tyRef (Syntax.named 0) Syntax.imm (Syntax.tyInt Syntax.w8)) 0,
 ) (List._∷_ (
   2,
-  Mut.mslice (Referent.rtF (Referent.fInt Syntax.w8)) (Syntax.tyRef (Syntax.named 1)
-      Syntax.mut (Syntax.tyInt Syntax.w8)) 1,
-) (List._∷_ (3, Rows'.any-gone (Syntax.tyArray LentTilePartEntry.spelled 2048)) (List._∷_ (
-  4,
+  Rows'.any-gone (Syntax.tyEnum (List._∷_ 104 (List._∷_ 101 (List._∷_ 97 (List._∷_ 100
+      (List._∷_ 101 (List._∷_ 114 (List._∷_ 58 (List._∷_ 58 (List._∷_ 110 (List._∷_ 117 (List._∷_ 109 (List._∷_ 98 (List._∷_ 101 (List._∷_ 114 (List._∷_ 105 (List._∷_ 110 (List._∷_
+      103 (List._∷_ 58 (List._∷_ 58 (List._∷_ 78 (List._∷_ 117 (List._∷_ 109 (List._∷_ 98 (List._∷_ 101 (List._∷_ 114 (List._∷_ 105 (List._∷_ 110 (List._∷_ 103
+      List.[])))))))))))))))))))))))))))) (Syntax.ttcons Syntax.tnil (Syntax.ttcons Syntax.tnil Syntax.ttnil))),
+) (List._∷_ (
+  3,
+  Mut.mslice (Referent.rtF (Referent.fInt Syntax.w8))
+      (Syntax.tyRef (Syntax.named 1) Syntax.mut (Syntax.tyInt Syntax.w8)) 1,
+) (List._∷_ (4, Rows.arrF LentTilePartEntry.row 2048 0) (List._∷_ (
+  5,
   Rows'.whole (Declared.row
       MainHeader.the-type),
-) (List._∷_ (5, Rows.arrF LentTilePartEntry.row 2048 0) (List._∷_ (
-  6,
+) (List._∷_ (6, Rows.arrF LentTilePartEntry.row 2048 0) (List._∷_ (
+  7,
   Rows'.any-gone (Syntax.tyRef Syntax.erased Syntax.mut (Syntax.tyArray
       LentTilePartEntry.pointee 2048)),
 ) (List._∷_ (
-  7,
+  8,
   Rows'.any-gone (Syntax.tyStruct (List._∷_ 38 (List._∷_ 91 (List._∷_ 93 List.[]))) (Syntax.tcons (Syntax.tyRef Syntax.erased
       Syntax.mut LentTilePartEntry.pointee) (Syntax.tcons (Syntax.tyInt Syntax.w64) Syntax.tnil))),
 ) (List._∷_ (
-  8,
+  9,
   Rows'.any-gone (Syntax.tyRef Syntax.erased Syntax.mut (Syntax.tyInt
       Syntax.w8)),
 ) (List._∷_ (
-  9,
+  10,
   Rows'.any-gone (Syntax.tyStruct (List._∷_ 38 (List._∷_ 91 (List._∷_ 93 List.[]))) (Syntax.tcons (Syntax.tyRef Syntax.erased Syntax.mut (Syntax.tyInt
       Syntax.w8)) (Syntax.tcons (Syntax.tyInt Syntax.w64) Syntax.tnil))),
-) List.[])))))))))
+) List.[]))))))))))
 
 abbrev pub t14 : List.List Row.Entry
-t14 = List._∷_ (0, Rows'.whole (Declared'.row HeaderTable.the-type)) (List._∷_ (
+t14 = List._∷_ (
+  0,
+  Rows'.any-gone (Syntax.tyStruct (List._∷_ 114 (List._∷_ 101 (List._∷_ 99 (List._∷_ 111 (List._∷_ 114 (List._∷_ 100 (List._∷_ 115 (List._∷_ 58 (List._∷_ 58
+      (List._∷_ 116 (List._∷_ 97 (List._∷_ 98 (List._∷_ 108 (List._∷_ 101 (List._∷_ 115 (List._∷_ 58 (List._∷_ 58 (List._∷_ 72 (List._∷_ 101 (List._∷_ 97 (List._∷_ 100 (List._∷_ 101
+      (List._∷_ 114 (List._∷_ 84 (List._∷_ 97 (List._∷_ 98 (List._∷_ 108 (List._∷_ 101 List.[])))))))))))))))))))))))))))) (Syntax.tcons (Syntax.tyEnum (List._∷_ 104 (List._∷_ 101
+      (List._∷_ 97 (List._∷_ 100 (List._∷_ 101 (List._∷_ 114 (List._∷_ 58 (List._∷_ 58 (List._∷_ 112 (List._∷_ 97 (List._∷_ 114 (List._∷_ 115 (List._∷_ 101 (List._∷_ 58 (List._∷_ 58
+      (List._∷_ 77 (List._∷_ 97 (List._∷_ 105 (List._∷_ 110 (List._∷_ 72 (List._∷_ 101 (List._∷_ 97 (List._∷_ 100 (List._∷_ 101 (List._∷_ 114 List.[])))))))))))))))))))))))))
+      (Syntax.ttcons (Syntax.tcons (Syntax.tyStruct (List._∷_ 104 (List._∷_ 101 (List._∷_ 97 (List._∷_ 100 (List._∷_ 101 (List._∷_ 114 (List._∷_ 58 (List._∷_ 58 (List._∷_ 112
+      (List._∷_ 97 (List._∷_ 114 (List._∷_ 115 (List._∷_ 101 (List._∷_ 58 (List._∷_ 58 (List._∷_ 77 (List._∷_ 97 (List._∷_ 105 (List._∷_ 110 (List._∷_ 72 (List._∷_ 101 (List._∷_ 97
+      (List._∷_ 100 (List._∷_ 101 (List._∷_ 114 (List._∷_ 73 (List._∷_ 110 (List._∷_ 102 (List._∷_ 111 List.[]))))))))))))))))))))))))))))) (Syntax.tcons (Syntax.tyStruct (List._∷_
+      116 (List._∷_ 121 (List._∷_ 112 (List._∷_ 101 (List._∷_ 115 (List._∷_ 58 (List._∷_ 58 (List._∷_ 67 (List._∷_ 111 (List._∷_ 100 (List._∷_ 101 (List._∷_ 115 (List._∷_ 116
+      (List._∷_ 114 (List._∷_ 101 (List._∷_ 97 (List._∷_ 109 (List._∷_ 79 (List._∷_ 102 (List._∷_ 102 (List._∷_ 115 (List._∷_ 101 (List._∷_ 116 List.[])))))))))))))))))))))))
+      (Syntax.tcons (Syntax.tyInt Syntax.w64) Syntax.tnil)) (Syntax.tcons (Syntax.tyInt Syntax.w64) (Syntax.tcons (Syntax.tyInt Syntax.w64) (Syntax.tcons (Syntax.tyInt Syntax.w64)
+      Syntax.tnil))))) Syntax.tnil) (Syntax.ttcons (Syntax.tcons (Syntax.tyStruct (List._∷_ 116 (List._∷_ 121 (List._∷_ 112 (List._∷_ 101 (List._∷_ 115 (List._∷_ 58 (List._∷_ 58
+      (List._∷_ 82 (List._∷_ 101 (List._∷_ 102 (List._∷_ 117 (List._∷_ 115 (List._∷_ 97 (List._∷_ 108 List.[])))))))))))))) (Syntax.tcons (Syntax.tyInt Syntax.w32) (Syntax.tcons
+      (Syntax.tyInt Syntax.w64) Syntax.tnil))) Syntax.tnil) Syntax.ttnil))) (Syntax.tcons (Syntax.tyArray (Syntax.tyStruct (List._∷_ 116 (List._∷_ 121 (List._∷_ 112 (List._∷_ 101
+      (List._∷_ 115 (List._∷_ 58 (List._∷_ 58 (List._∷_ 84 (List._∷_ 105 (List._∷_ 108 (List._∷_ 101 (List._∷_ 80 (List._∷_ 97 (List._∷_ 114 (List._∷_ 116 (List._∷_ 69 (List._∷_ 110
+      (List._∷_ 116 (List._∷_ 114 (List._∷_ 121 List.[])))))))))))))))))))) (Syntax.tcons (Syntax.tyInt Syntax.w16) (Syntax.tcons (Syntax.tyStruct (List._∷_ 116 (List._∷_ 121
+      (List._∷_ 112 (List._∷_ 101 (List._∷_ 115 (List._∷_ 58 (List._∷_ 58 (List._∷_ 67 (List._∷_ 111 (List._∷_ 100 (List._∷_ 101 (List._∷_ 115 (List._∷_ 116 (List._∷_ 114 (List._∷_
+      101 (List._∷_ 97 (List._∷_ 109 (List._∷_ 79 (List._∷_ 102 (List._∷_ 102 (List._∷_ 115 (List._∷_ 101 (List._∷_ 116 List.[]))))))))))))))))))))))) (Syntax.tcons (Syntax.tyInt
+      Syntax.w64) Syntax.tnil)) (Syntax.tcons (Syntax.tyInt Syntax.w64) Syntax.tnil)))) 2048) Syntax.tnil))),
+) (List._∷_ (
   1,
-  Rows'.sslice (Referent.rtF (Referent.fInt Syntax.w8)) (Syntax.tyRef (Syntax.named 0) Syntax.imm
-      (Syntax.tyInt Syntax.w8)) 0,
-) (List._∷_ (2, Mut.mslice (Referent.rtF (Referent.fInt Syntax.w8)) (Syntax.tyRef (Syntax.named 1) Syntax.mut (Syntax.tyInt Syntax.w8)) 1) (List._∷_
-    (3, Rows'.any-gone (Syntax.tyArray LentTilePartEntry.spelled 2048)) (List._∷_ (4, Rows'.whole (Declared.row MainHeader.the-type)) (List._∷_ (
-      5,
-      Rows.arrF LentTilePartEntry.row
-          2048 0,
-    ) (List._∷_ (6, Rows'.any-gone (Syntax.tyRef Syntax.erased Syntax.mut (Syntax.tyArray LentTilePartEntry.pointee 2048))) (List._∷_ (
-      7,
-      Rows'.any-gone (Syntax.tyStruct
-          (List._∷_ 38 (List._∷_ 91 (List._∷_ 93 List.[]))) (Syntax.tcons (Syntax.tyRef Syntax.erased Syntax.mut LentTilePartEntry.pointee) (Syntax.tcons (Syntax.tyInt Syntax.w64)
-          Syntax.tnil))),
-    ) (List._∷_ (8, Rows'.any-gone (Syntax.tyRef Syntax.erased Syntax.mut (Syntax.tyInt Syntax.w8))) (List._∷_ (
-      9,
-      Rows'.any-gone (Syntax.tyStruct (List._∷_ 38
-          (List._∷_ 91 (List._∷_ 93 List.[]))) (Syntax.tcons (Syntax.tyRef Syntax.erased Syntax.mut (Syntax.tyInt Syntax.w8)) (Syntax.tcons (Syntax.tyInt Syntax.w64) Syntax.tnil))),
-    )
-    List.[])))))))))
+  Rows'.sslice (Referent.rtF (Referent.fInt Syntax.w8))
+      (Syntax.tyRef (Syntax.named 0) Syntax.imm (Syntax.tyInt Syntax.w8)) 0,
+) (List._∷_ (
+  2,
+  Rows'.any-gone (Syntax.tyEnum (List._∷_ 104 (List._∷_ 101 (List._∷_ 97 (List._∷_ 100
+      (List._∷_ 101 (List._∷_ 114 (List._∷_ 58 (List._∷_ 58 (List._∷_ 110 (List._∷_ 117 (List._∷_ 109 (List._∷_ 98 (List._∷_ 101 (List._∷_ 114 (List._∷_ 105 (List._∷_ 110 (List._∷_
+      103 (List._∷_ 58 (List._∷_ 58 (List._∷_ 78 (List._∷_ 117 (List._∷_ 109 (List._∷_ 98 (List._∷_ 101 (List._∷_ 114 (List._∷_ 105 (List._∷_ 110 (List._∷_ 103
+      List.[])))))))))))))))))))))))))))) (Syntax.ttcons Syntax.tnil (Syntax.ttcons Syntax.tnil Syntax.ttnil))),
+) (List._∷_ (
+  3,
+  Mut.mslice (Referent.rtF (Referent.fInt Syntax.w8))
+      (Syntax.tyRef (Syntax.named 1) Syntax.mut (Syntax.tyInt Syntax.w8)) 1,
+) (List._∷_ (4, Rows'.any-gone (Syntax.tyArray LentTilePartEntry.spelled 2048)) (List._∷_ (
+  5,
+  Rows'.whole
+      (Declared.row MainHeader.the-type),
+) (List._∷_ (6, Rows.arrF LentTilePartEntry.row 2048 0) (List._∷_ (
+  7,
+  Rows'.any-gone (Syntax.tyRef Syntax.erased Syntax.mut (Syntax.tyArray
+      LentTilePartEntry.pointee 2048)),
+) (List._∷_ (
+  8,
+  Rows'.any-gone (Syntax.tyStruct (List._∷_ 38 (List._∷_ 91 (List._∷_ 93 List.[]))) (Syntax.tcons (Syntax.tyRef Syntax.erased
+      Syntax.mut LentTilePartEntry.pointee) (Syntax.tcons (Syntax.tyInt Syntax.w64) Syntax.tnil))),
+) (List._∷_ (
+  9,
+  Rows'.any-gone (Syntax.tyRef Syntax.erased Syntax.mut (Syntax.tyInt
+      Syntax.w8)),
+) (List._∷_ (
+  10,
+  Rows'.any-gone (Syntax.tyStruct (List._∷_ 38 (List._∷_ 91 (List._∷_ 93 List.[]))) (Syntax.tcons (Syntax.tyRef Syntax.erased Syntax.mut (Syntax.tyInt
+      Syntax.w8)) (Syntax.tcons (Syntax.tyInt Syntax.w64) Syntax.tnil))),
+) List.[]))))))))))
 
 abbrev pub t15 : List.List Row.Entry
 t15 = List._∷_ (0, Rows'.whole (Declared'.row HeaderTable.the-type)) (List._∷_ (
   1,
   Rows'.sslice (Referent.rtF (Referent.fInt Syntax.w8)) (Syntax.tyRef (Syntax.named 0) Syntax.imm
       (Syntax.tyInt Syntax.w8)) 0,
-) (List._∷_ (2, Mut.mslice (Referent.rtF (Referent.fInt Syntax.w8)) (Syntax.tyRef (Syntax.named 1) Syntax.mut (Syntax.tyInt Syntax.w8)) 1) (List._∷_
-    (3, Rows'.any-gone (Syntax.tyArray LentTilePartEntry.spelled 2048)) (List._∷_ (
-      4,
-      Rows'.any-gone (Syntax.tyEnum (List._∷_ 104 (List._∷_ 101 (List._∷_ 97 (List._∷_ 100 (List._∷_
-          101 (List._∷_ 114 (List._∷_ 58 (List._∷_ 58 (List._∷_ 112 (List._∷_ 97 (List._∷_ 114 (List._∷_ 115 (List._∷_ 101 (List._∷_ 58 (List._∷_ 58 (List._∷_ 77 (List._∷_ 97 (List._∷_
-          105 (List._∷_ 110 (List._∷_ 72 (List._∷_ 101 (List._∷_ 97 (List._∷_ 100 (List._∷_ 101 (List._∷_ 114 List.[]))))))))))))))))))))))))) (Syntax.ttcons (Syntax.tcons
-          (Syntax.tyStruct (List._∷_ 104 (List._∷_ 101 (List._∷_ 97 (List._∷_ 100 (List._∷_ 101 (List._∷_ 114 (List._∷_ 58 (List._∷_ 58 (List._∷_ 112 (List._∷_ 97 (List._∷_ 114 (List._∷_
-          115 (List._∷_ 101 (List._∷_ 58 (List._∷_ 58 (List._∷_ 77 (List._∷_ 97 (List._∷_ 105 (List._∷_ 110 (List._∷_ 72 (List._∷_ 101 (List._∷_ 97 (List._∷_ 100 (List._∷_ 101 (List._∷_
-          114 (List._∷_ 73 (List._∷_ 110 (List._∷_ 102 (List._∷_ 111 List.[]))))))))))))))))))))))))))))) (Syntax.tcons (Syntax.tyStruct (List._∷_ 116 (List._∷_ 121 (List._∷_ 112
-          (List._∷_ 101 (List._∷_ 115 (List._∷_ 58 (List._∷_ 58 (List._∷_ 67 (List._∷_ 111 (List._∷_ 100 (List._∷_ 101 (List._∷_ 115 (List._∷_ 116 (List._∷_ 114 (List._∷_ 101 (List._∷_
-          97 (List._∷_ 109 (List._∷_ 79 (List._∷_ 102 (List._∷_ 102 (List._∷_ 115 (List._∷_ 101 (List._∷_ 116 List.[]))))))))))))))))))))))) (Syntax.tcons (Syntax.tyInt Syntax.w64)
-          Syntax.tnil)) (Syntax.tcons (Syntax.tyInt Syntax.w64) (Syntax.tcons (Syntax.tyInt Syntax.w64) (Syntax.tcons (Syntax.tyInt Syntax.w64) Syntax.tnil))))) Syntax.tnil)
-          (Syntax.ttcons (Syntax.tcons (Syntax.tyStruct (List._∷_ 116 (List._∷_ 121 (List._∷_ 112 (List._∷_ 101 (List._∷_ 115 (List._∷_ 58 (List._∷_ 58 (List._∷_ 82 (List._∷_ 101
-          (List._∷_ 102 (List._∷_ 117 (List._∷_ 115 (List._∷_ 97 (List._∷_ 108 List.[])))))))))))))) (Syntax.tcons (Syntax.tyInt Syntax.w32) (Syntax.tcons (Syntax.tyInt Syntax.w64)
-          Syntax.tnil))) Syntax.tnil) Syntax.ttnil))),
-    ) (List._∷_ (5, Rows.arrF LentTilePartEntry.row 2048 0) (List._∷_ (
-      6,
-      Rows'.any-gone (Syntax.tyRef Syntax.erased Syntax.mut
-          (Syntax.tyArray LentTilePartEntry.pointee 2048)),
-    ) (List._∷_ (
-      7,
-      Rows'.any-gone (Syntax.tyStruct (List._∷_ 38 (List._∷_ 91 (List._∷_ 93 List.[]))) (Syntax.tcons (Syntax.tyRef
-          Syntax.erased Syntax.mut LentTilePartEntry.pointee) (Syntax.tcons (Syntax.tyInt Syntax.w64) Syntax.tnil))),
-    ) (List._∷_ (
-      8,
-      Rows'.any-gone (Syntax.tyRef Syntax.erased Syntax.mut
-          (Syntax.tyInt Syntax.w8)),
-    ) (List._∷_ (
-      9,
-      Rows'.any-gone (Syntax.tyStruct (List._∷_ 38 (List._∷_ 91 (List._∷_ 93 List.[]))) (Syntax.tcons (Syntax.tyRef Syntax.erased Syntax.mut
-          (Syntax.tyInt Syntax.w8)) (Syntax.tcons (Syntax.tyInt Syntax.w64) Syntax.tnil))),
-    ) List.[])))))))))
+) (List._∷_ (
+  2,
+  Rows'.any-gone (Syntax.tyEnum (List._∷_ 104 (List._∷_ 101 (List._∷_ 97 (List._∷_ 100 (List._∷_ 101 (List._∷_ 114 (List._∷_ 58
+      (List._∷_ 58 (List._∷_ 110 (List._∷_ 117 (List._∷_ 109 (List._∷_ 98 (List._∷_ 101 (List._∷_ 114 (List._∷_ 105 (List._∷_ 110 (List._∷_ 103 (List._∷_ 58 (List._∷_ 58 (List._∷_ 78
+      (List._∷_ 117 (List._∷_ 109 (List._∷_ 98 (List._∷_ 101 (List._∷_ 114 (List._∷_ 105 (List._∷_ 110 (List._∷_ 103 List.[])))))))))))))))))))))))))))) (Syntax.ttcons Syntax.tnil
+      (Syntax.ttcons Syntax.tnil Syntax.ttnil))),
+) (List._∷_ (
+  3,
+  Mut.mslice (Referent.rtF (Referent.fInt Syntax.w8)) (Syntax.tyRef (Syntax.named 1) Syntax.mut (Syntax.tyInt
+      Syntax.w8)) 1,
+) (List._∷_ (4, Rows'.any-gone (Syntax.tyArray LentTilePartEntry.spelled 2048)) (List._∷_ (5, Rows'.whole (Declared.row MainHeader.the-type)) (List._∷_ (
+  6,
+  Rows.arrF LentTilePartEntry.row 2048 0,
+) (List._∷_ (7, Rows'.any-gone (Syntax.tyRef Syntax.erased Syntax.mut (Syntax.tyArray LentTilePartEntry.pointee 2048))) (List._∷_ (
+  8,
+  Rows'.any-gone (Syntax.tyStruct (List._∷_ 38 (List._∷_ 91 (List._∷_ 93 List.[]))) (Syntax.tcons (Syntax.tyRef Syntax.erased Syntax.mut LentTilePartEntry.pointee) (Syntax.tcons
+      (Syntax.tyInt Syntax.w64) Syntax.tnil))),
+) (List._∷_ (9, Rows'.any-gone (Syntax.tyRef Syntax.erased Syntax.mut (Syntax.tyInt Syntax.w8))) (List._∷_ (
+  10,
+  Rows'.any-gone
+      (Syntax.tyStruct (List._∷_ 38 (List._∷_ 91 (List._∷_ 93 List.[]))) (Syntax.tcons (Syntax.tyRef Syntax.erased Syntax.mut (Syntax.tyInt Syntax.w8)) (Syntax.tcons (Syntax.tyInt
+      Syntax.w64) Syntax.tnil))),
+) List.[]))))))))))
+
+abbrev pub t16 : List.List Row.Entry
+t16 = List._∷_ (0, Rows'.whole (Declared'.row HeaderTable.the-type)) (List._∷_ (
+  1,
+  Rows'.sslice (Referent.rtF (Referent.fInt Syntax.w8)) (Syntax.tyRef (Syntax.named 0) Syntax.imm
+      (Syntax.tyInt Syntax.w8)) 0,
+) (List._∷_ (
+  2,
+  Rows'.any-gone (Syntax.tyEnum (List._∷_ 104 (List._∷_ 101 (List._∷_ 97 (List._∷_ 100 (List._∷_ 101 (List._∷_ 114 (List._∷_ 58
+      (List._∷_ 58 (List._∷_ 110 (List._∷_ 117 (List._∷_ 109 (List._∷_ 98 (List._∷_ 101 (List._∷_ 114 (List._∷_ 105 (List._∷_ 110 (List._∷_ 103 (List._∷_ 58 (List._∷_ 58 (List._∷_ 78
+      (List._∷_ 117 (List._∷_ 109 (List._∷_ 98 (List._∷_ 101 (List._∷_ 114 (List._∷_ 105 (List._∷_ 110 (List._∷_ 103 List.[])))))))))))))))))))))))))))) (Syntax.ttcons Syntax.tnil
+      (Syntax.ttcons Syntax.tnil Syntax.ttnil))),
+) (List._∷_ (
+  3,
+  Mut.mslice (Referent.rtF (Referent.fInt Syntax.w8)) (Syntax.tyRef (Syntax.named 1) Syntax.mut (Syntax.tyInt
+      Syntax.w8)) 1,
+) (List._∷_ (4, Rows'.any-gone (Syntax.tyArray LentTilePartEntry.spelled 2048)) (List._∷_ (
+  5,
+  Rows'.any-gone (Syntax.tyEnum (List._∷_ 104 (List._∷_ 101 (List._∷_
+      97 (List._∷_ 100 (List._∷_ 101 (List._∷_ 114 (List._∷_ 58 (List._∷_ 58 (List._∷_ 112 (List._∷_ 97 (List._∷_ 114 (List._∷_ 115 (List._∷_ 101 (List._∷_ 58 (List._∷_ 58 (List._∷_
+      77 (List._∷_ 97 (List._∷_ 105 (List._∷_ 110 (List._∷_ 72 (List._∷_ 101 (List._∷_ 97 (List._∷_ 100 (List._∷_ 101 (List._∷_ 114 List.[]))))))))))))))))))))))))) (Syntax.ttcons
+      (Syntax.tcons (Syntax.tyStruct (List._∷_ 104 (List._∷_ 101 (List._∷_ 97 (List._∷_ 100 (List._∷_ 101 (List._∷_ 114 (List._∷_ 58 (List._∷_ 58 (List._∷_ 112 (List._∷_ 97 (List._∷_
+      114 (List._∷_ 115 (List._∷_ 101 (List._∷_ 58 (List._∷_ 58 (List._∷_ 77 (List._∷_ 97 (List._∷_ 105 (List._∷_ 110 (List._∷_ 72 (List._∷_ 101 (List._∷_ 97 (List._∷_ 100 (List._∷_
+      101 (List._∷_ 114 (List._∷_ 73 (List._∷_ 110 (List._∷_ 102 (List._∷_ 111 List.[]))))))))))))))))))))))))))))) (Syntax.tcons (Syntax.tyStruct (List._∷_ 116 (List._∷_ 121
+      (List._∷_ 112 (List._∷_ 101 (List._∷_ 115 (List._∷_ 58 (List._∷_ 58 (List._∷_ 67 (List._∷_ 111 (List._∷_ 100 (List._∷_ 101 (List._∷_ 115 (List._∷_ 116 (List._∷_ 114 (List._∷_
+      101 (List._∷_ 97 (List._∷_ 109 (List._∷_ 79 (List._∷_ 102 (List._∷_ 102 (List._∷_ 115 (List._∷_ 101 (List._∷_ 116 List.[]))))))))))))))))))))))) (Syntax.tcons (Syntax.tyInt
+      Syntax.w64) Syntax.tnil)) (Syntax.tcons (Syntax.tyInt Syntax.w64) (Syntax.tcons (Syntax.tyInt Syntax.w64) (Syntax.tcons (Syntax.tyInt Syntax.w64) Syntax.tnil))))) Syntax.tnil)
+      (Syntax.ttcons (Syntax.tcons (Syntax.tyStruct (List._∷_ 116 (List._∷_ 121 (List._∷_ 112 (List._∷_ 101 (List._∷_ 115 (List._∷_ 58 (List._∷_ 58 (List._∷_ 82 (List._∷_ 101
+      (List._∷_ 102 (List._∷_ 117 (List._∷_ 115 (List._∷_ 97 (List._∷_ 108 List.[])))))))))))))) (Syntax.tcons (Syntax.tyInt Syntax.w32) (Syntax.tcons (Syntax.tyInt Syntax.w64)
+      Syntax.tnil))) Syntax.tnil) Syntax.ttnil))),
+) (List._∷_ (6, Rows.arrF LentTilePartEntry.row 2048 0) (List._∷_ (
+  7,
+  Rows'.any-gone (Syntax.tyRef Syntax.erased Syntax.mut
+      (Syntax.tyArray LentTilePartEntry.pointee 2048)),
+) (List._∷_ (
+  8,
+  Rows'.any-gone (Syntax.tyStruct (List._∷_ 38 (List._∷_ 91 (List._∷_ 93 List.[]))) (Syntax.tcons (Syntax.tyRef
+      Syntax.erased Syntax.mut LentTilePartEntry.pointee) (Syntax.tcons (Syntax.tyInt Syntax.w64) Syntax.tnil))),
+) (List._∷_ (
+  9,
+  Rows'.any-gone (Syntax.tyRef Syntax.erased Syntax.mut
+      (Syntax.tyInt Syntax.w8)),
+) (List._∷_ (
+  10,
+  Rows'.any-gone (Syntax.tyStruct (List._∷_ 38 (List._∷_ 91 (List._∷_ 93 List.[]))) (Syntax.tcons (Syntax.tyRef Syntax.erased Syntax.mut
+      (Syntax.tyInt Syntax.w8)) (Syntax.tcons (Syntax.tyInt Syntax.w64) Syntax.tnil))),
+) List.[]))))))))))
 
 abbrev pub T0 : Row.Cx
 T0 = record { locals = t0; slots = List.[] }
@@ -1092,17 +1251,17 @@ T12 = record { locals = t8; slots = List.[] }
 abbrev pub T13 : Row.Cx
 T13 = record { locals = t9; slots = List.[] }
 
-abbrev pub T15 : Row.Cx
-T15 = record { locals = t10; slots = List.[] }
+abbrev pub T14 : Row.Cx
+T14 = record { locals = t10; slots = List.[] }
 
-abbrev pub T18 : Row.Cx
-T18 = record { locals = t11; slots = List.[] }
+abbrev pub T16 : Row.Cx
+T16 = record { locals = t11; slots = List.[] }
 
 abbrev pub T19 : Row.Cx
-T19 = record { locals = t11; slots = List.[] }
+T19 = record { locals = t12; slots = List.[] }
 
-abbrev pub T21 : Row.Cx
-T21 = record { locals = t12; slots = List.[] }
+abbrev pub T20 : Row.Cx
+T20 = record { locals = t12; slots = List.[] }
 
 abbrev pub T22 : Row.Cx
 T22 = record { locals = t13; slots = List.[] }
@@ -1114,7 +1273,10 @@ abbrev pub T24 : Row.Cx
 T24 = record { locals = t15; slots = List.[] }
 
 abbrev pub T25 : Row.Cx
-T25 = record { locals = t1; slots = List.[] }
+T25 = record { locals = t16; slots = List.[] }
+
+abbrev pub T26 : Row.Cx
+T26 = record { locals = t1; slots = List.[] }
 
 abbrev pub O0 : Typed.Outs
 O0 = record { next = Option.none; exits = List.[]; returns = Option.some T1 }
@@ -1124,33 +1286,33 @@ module _ (claims· : Claims) where
   s0 = λ bs. Know.k-shs-known (Referent.fInt Syntax.w8) T0 1 0 (Syntax.tyRef (Syntax.named 0) Syntax.imm (Syntax.tyInt Syntax.w8)) Row.off 0 λ x. x
 
   abbrev s1 : (bs : List.List Nat.ℕ) → Typed.Gives T2 T3
-  s1 = λ bs. Know.k-sl-known (Referent.fInt Syntax.w8) T2 2 1 (Syntax.tyRef (Syntax.named 1) Syntax.mut (Syntax.tyInt Syntax.w8)) Row.off 0 λ x. x
+  s1 = λ bs. Know.k-sl-known (Referent.fInt Syntax.w8) T2 3 1 (Syntax.tyRef (Syntax.named 1) Syntax.mut (Syntax.tyInt Syntax.w8)) Row.off 0 λ x. x
 
   abbrev s2 : (bs : List.List Nat.ℕ) → Typed.Both T3 T4
-  s2 = λ bs. Call.callB ps·0 r·0 (claims· .0) (claims· .1) T3 tt 5 List.[] (Syntax.tyArray LentTilePartEntry.spelled 2048)
+  s2 = λ bs. Call.callB ps·0 r·0 (claims· .0) (claims· .1) T3 tt 6 List.[] (Syntax.tyArray LentTilePartEntry.spelled 2048)
 
   abbrev s3 : (bs : List.List Nat.ℕ) → Typed.Mo T4 → Typed.Mo T5
-  s3 = λ bs. LocalCopy.n-val-copy T4 5 3 (Array'.Array LentTilePartEntry.row 2048) (Rows.arrF LentTilePartEntry.row 2048 0) (Rows.arrF LentTilePartEntry.row 2048 0) (λ x. x) (λ x.
+  s3 = λ bs. LocalCopy.n-val-copy T4 6 4 (Array'.Array LentTilePartEntry.row 2048) (Rows.arrF LentTilePartEntry.row 2048 0) (Rows.arrF LentTilePartEntry.row 2048 0) (λ x. x) (λ x.
       x) λ x. x
 
   abbrev s4 : (bs : List.List Nat.ℕ) → Typed.Mo T5 → Typed.Mo T6
-  s4 = λ bs. Scalar.n-room T5 5 (Syntax.tyArray LentTilePartEntry.spelled 2048)
+  s4 = λ bs. Scalar.n-room T5 6 (Syntax.tyArray LentTilePartEntry.spelled 2048)
 
   abbrev s6 : (bs : List.List Nat.ℕ) → Typed.Gives T6 T8
-  s6 = λ bs. Borrow.k-arr-borrow LentTilePartEntry.row T6 (Row.hd 0 (Row.tl (Row.tl (Row.tl bs)))) 3 6 2048 2 (Syntax.tyRef Syntax.erased Syntax.mut (Syntax.tyArray
+  s6 = λ bs. Borrow.k-arr-borrow LentTilePartEntry.row T6 (Row.hd 0 (Row.tl (Row.tl (Row.tl (Row.tl bs))))) 4 7 2048 2 (Syntax.tyRef Syntax.erased Syntax.mut (Syntax.tyArray
       LentTilePartEntry.pointee 2048)) λ x. x
 
   abbrev s7 : (bs : List.List Nat.ℕ) → Typed.Asks T8 T9
-  s7 = λ bs. Relend.k-sl-aggregate LentTilePartEntry.row (Relend.asMut LentTilePartEntry.row) T8 6 7 2 (Syntax.tyRef Syntax.erased Syntax.mut (Syntax.tyArray
+  s7 = λ bs. Relend.k-sl-aggregate LentTilePartEntry.row (Relend.asMut LentTilePartEntry.row) T8 7 8 2 (Syntax.tyRef Syntax.erased Syntax.mut (Syntax.tyArray
       LentTilePartEntry.pointee 2048)) (Syntax.tyRef Syntax.erased Syntax.mut LentTilePartEntry.pointee) (λ x. x) (Scalar.oBig Syntax.w64 2048)
 
   abbrev s9 : (bs : List.List Nat.ℕ) → Typed.Gives T9 T11
-  s9 = λ bs. Relend.k-sl-relend (Referent.rtF (Referent.fInt Syntax.w8)) T9 2 8 1 3 (Syntax.tyRef (Syntax.named 1) Syntax.mut (Syntax.tyInt Syntax.w8)) (Syntax.tyRef Syntax.erased
+  s9 = λ bs. Relend.k-sl-relend (Referent.rtF (Referent.fInt Syntax.w8)) T9 3 9 1 3 (Syntax.tyRef (Syntax.named 1) Syntax.mut (Syntax.tyInt Syntax.w8)) (Syntax.tyRef Syntax.erased
       Syntax.mut (Syntax.tyInt Syntax.w8)) Row.off λ x. x
 
   abbrev s10 : (bs : List.List Nat.ℕ) → Typed.Asks T11 T12
-  s10 = λ bs. Relend.k-sl-aggregate (Referent.rtF (Referent.fInt Syntax.w8)) (Relend.asMut (Referent.rtF (Referent.fInt Syntax.w8))) T11 8 9 3 (Syntax.tyRef Syntax.erased
-      Syntax.mut (Syntax.tyInt Syntax.w8)) (Syntax.tyRef Syntax.erased Syntax.mut (Syntax.tyInt Syntax.w8)) (λ x. x) (Scalar.oFld 2 (List._∷_ (Syntax.field 1) List.[])
+  s10 = λ bs. Relend.k-sl-aggregate (Referent.rtF (Referent.fInt Syntax.w8)) (Relend.asMut (Referent.rtF (Referent.fInt Syntax.w8))) T11 9 10 3 (Syntax.tyRef Syntax.erased
+      Syntax.mut (Syntax.tyInt Syntax.w8)) (Syntax.tyRef Syntax.erased Syntax.mut (Syntax.tyInt Syntax.w8)) (λ x. x) (Scalar.oFld 3 (List._∷_ (Syntax.field 1) List.[])
       (Syntax.tyInt Syntax.w64) 8 λ v. Shared.lenV (v .0))
 
   abbrev s11 : (bs : List.List Nat.ℕ) → Typed.Both T12 T13
@@ -1158,49 +1320,57 @@ module _ (claims· : Claims) where
     record { pos = 1; ty = Syntax.tyRef (Syntax.named 0) Syntax.imm (Syntax.tyInt Syntax.w8); ref = λ x. x },
     (
       record
-          { pos = 7; ty = Syntax.tyRef Syntax.erased Syntax.mut LentTilePartEntry.pointee; ref = λ x. x },
+          { pos = 2; st = List.[]; d = 0; at = λ x. x },
       (
-        record {
-          pos = 9;
-          ty = Syntax.tyRef Syntax.erased Syntax.mut (Syntax.tyInt
-              Syntax.w8);
-          ref = λ x. x;
-        },
-        tt,
+        record { pos = 8; ty = Syntax.tyRef Syntax.erased Syntax.mut LentTilePartEntry.pointee; ref = λ x. x },
+        (
+          record {
+            pos = 10;
+            ty = Syntax.tyRef Syntax.erased Syntax.mut (Syntax.tyInt Syntax.w8);
+            ref = λ x. x;
+          },
+          tt,
+        ),
       ),
     ),
-  ) 4 (List._∷_ 0 (List._∷_ 2 (List._∷_ 3 List.[]))) (Syntax.tyEnum (List._∷_ 104 (List._∷_ 101 (List._∷_ 97 (List._∷_ 100 (List._∷_ 101
-      (List._∷_ 114 (List._∷_ 58 (List._∷_ 58 (List._∷_ 112 (List._∷_ 97 (List._∷_ 114 (List._∷_ 115 (List._∷_ 101 (List._∷_ 58 (List._∷_ 58 (List._∷_ 77 (List._∷_ 97 (List._∷_ 105
-      (List._∷_ 110 (List._∷_ 72 (List._∷_ 101 (List._∷_ 97 (List._∷_ 100 (List._∷_ 101 (List._∷_ 114 List.[]))))))))))))))))))))))))) (Syntax.ttcons (Syntax.tcons (Syntax.tyStruct
-      (List._∷_ 104 (List._∷_ 101 (List._∷_ 97 (List._∷_ 100 (List._∷_ 101 (List._∷_ 114 (List._∷_ 58 (List._∷_ 58 (List._∷_ 112 (List._∷_ 97 (List._∷_ 114 (List._∷_ 115 (List._∷_
-      101 (List._∷_ 58 (List._∷_ 58 (List._∷_ 77 (List._∷_ 97 (List._∷_ 105 (List._∷_ 110 (List._∷_ 72 (List._∷_ 101 (List._∷_ 97 (List._∷_ 100 (List._∷_ 101 (List._∷_ 114
-      (List._∷_ 73 (List._∷_ 110 (List._∷_ 102 (List._∷_ 111 List.[]))))))))))))))))))))))))))))) (Syntax.tcons (Syntax.tyStruct (List._∷_ 116 (List._∷_ 121 (List._∷_ 112 (List._∷_
-      101 (List._∷_ 115 (List._∷_ 58 (List._∷_ 58 (List._∷_ 67 (List._∷_ 111 (List._∷_ 100 (List._∷_ 101 (List._∷_ 115 (List._∷_ 116 (List._∷_ 114 (List._∷_ 101 (List._∷_ 97
-      (List._∷_ 109 (List._∷_ 79 (List._∷_ 102 (List._∷_ 102 (List._∷_ 115 (List._∷_ 101 (List._∷_ 116 List.[]))))))))))))))))))))))) (Syntax.tcons (Syntax.tyInt Syntax.w64)
-      Syntax.tnil)) (Syntax.tcons (Syntax.tyInt Syntax.w64) (Syntax.tcons (Syntax.tyInt Syntax.w64) (Syntax.tcons (Syntax.tyInt Syntax.w64) Syntax.tnil))))) Syntax.tnil)
-      (Syntax.ttcons (Syntax.tcons (Syntax.tyStruct (List._∷_ 116 (List._∷_ 121 (List._∷_ 112 (List._∷_ 101 (List._∷_ 115 (List._∷_ 58 (List._∷_ 58 (List._∷_ 82 (List._∷_ 101
-      (List._∷_ 102 (List._∷_ 117 (List._∷_ 115 (List._∷_ 97 (List._∷_ 108 List.[])))))))))))))) (Syntax.tcons (Syntax.tyInt Syntax.w32) (Syntax.tcons (Syntax.tyInt Syntax.w64)
-      Syntax.tnil))) Syntax.tnil) Syntax.ttnil)))
+  ) 5 (List._∷_ 0 (List._∷_ 2 (List._∷_ 3 List.[]))) (Syntax.tyEnum (List._∷_ 104
+      (List._∷_ 101 (List._∷_ 97 (List._∷_ 100 (List._∷_ 101 (List._∷_ 114 (List._∷_ 58 (List._∷_ 58 (List._∷_ 112 (List._∷_ 97 (List._∷_ 114 (List._∷_ 115 (List._∷_ 101 (List._∷_
+      58 (List._∷_ 58 (List._∷_ 77 (List._∷_ 97 (List._∷_ 105 (List._∷_ 110 (List._∷_ 72 (List._∷_ 101 (List._∷_ 97 (List._∷_ 100 (List._∷_ 101 (List._∷_ 114
+      List.[]))))))))))))))))))))))))) (Syntax.ttcons (Syntax.tcons (Syntax.tyStruct (List._∷_ 104 (List._∷_ 101 (List._∷_ 97 (List._∷_ 100 (List._∷_ 101 (List._∷_ 114 (List._∷_ 58
+      (List._∷_ 58 (List._∷_ 112 (List._∷_ 97 (List._∷_ 114 (List._∷_ 115 (List._∷_ 101 (List._∷_ 58 (List._∷_ 58 (List._∷_ 77 (List._∷_ 97 (List._∷_ 105 (List._∷_ 110 (List._∷_ 72
+      (List._∷_ 101 (List._∷_ 97 (List._∷_ 100 (List._∷_ 101 (List._∷_ 114 (List._∷_ 73 (List._∷_ 110 (List._∷_ 102 (List._∷_ 111 List.[]))))))))))))))))))))))))))))) (Syntax.tcons
+      (Syntax.tyStruct (List._∷_ 116 (List._∷_ 121 (List._∷_ 112 (List._∷_ 101 (List._∷_ 115 (List._∷_ 58 (List._∷_ 58 (List._∷_ 67 (List._∷_ 111 (List._∷_ 100 (List._∷_ 101
+      (List._∷_ 115 (List._∷_ 116 (List._∷_ 114 (List._∷_ 101 (List._∷_ 97 (List._∷_ 109 (List._∷_ 79 (List._∷_ 102 (List._∷_ 102 (List._∷_ 115 (List._∷_ 101 (List._∷_ 116
+      List.[]))))))))))))))))))))))) (Syntax.tcons (Syntax.tyInt Syntax.w64) Syntax.tnil)) (Syntax.tcons (Syntax.tyInt Syntax.w64) (Syntax.tcons (Syntax.tyInt Syntax.w64)
+      (Syntax.tcons (Syntax.tyInt Syntax.w64) Syntax.tnil))))) Syntax.tnil) (Syntax.ttcons (Syntax.tcons (Syntax.tyStruct (List._∷_ 116 (List._∷_ 121 (List._∷_ 112 (List._∷_ 101
+      (List._∷_ 115 (List._∷_ 58 (List._∷_ 58 (List._∷_ 82 (List._∷_ 101 (List._∷_ 102 (List._∷_ 117 (List._∷_ 115 (List._∷_ 97 (List._∷_ 108 List.[])))))))))))))) (Syntax.tcons
+      (Syntax.tyInt Syntax.w32) (Syntax.tcons (Syntax.tyInt Syntax.w64) Syntax.tnil))) Syntax.tnil) Syntax.ttnil)))
 
-  abbrev s13 : (bs : List.List Nat.ℕ) → Typed.Both T13 T15
-  s13 = λ bs. Borrow.k-back-arr LentTilePartEntry.row T13 7 3 2 2048 (Syntax.tyRef Syntax.erased Syntax.mut LentTilePartEntry.pointee) (λ x. x) λ x. x
+  abbrev s12 : (bs : List.List Nat.ℕ) → Typed.Mo T13 → Typed.Mo T14
+  s12 = λ bs. Scalar.n-room T13 2 (Syntax.tyEnum (List._∷_ 104 (List._∷_ 101 (List._∷_ 97 (List._∷_ 100 (List._∷_ 101 (List._∷_ 114 (List._∷_ 58 (List._∷_ 58 (List._∷_ 110
+      (List._∷_ 117 (List._∷_ 109 (List._∷_ 98 (List._∷_ 101 (List._∷_ 114 (List._∷_ 105 (List._∷_ 110 (List._∷_ 103 (List._∷_ 58 (List._∷_ 58 (List._∷_ 78 (List._∷_ 117 (List._∷_
+      109 (List._∷_ 98 (List._∷_ 101 (List._∷_ 114 (List._∷_ 105 (List._∷_ 110 (List._∷_ 103 List.[])))))))))))))))))))))))))))) (Syntax.ttcons Syntax.tnil (Syntax.ttcons
+      Syntax.tnil Syntax.ttnil)))
 
-  abbrev s16 : (bs : List.List Nat.ℕ) → Typed.Both T15 T18
-  s16 = λ bs. Relend.k-back-sl (Referent.rtF (Referent.fInt Syntax.w8)) T15 9 2 1 3 (Syntax.tyRef (Syntax.named 1) Syntax.mut (Syntax.tyInt Syntax.w8)) (Syntax.tyRef Syntax.erased
+  abbrev s14 : (bs : List.List Nat.ℕ) → Typed.Both T14 T16
+  s14 = λ bs. Borrow.k-back-arr LentTilePartEntry.row T14 8 4 2 2048 (Syntax.tyRef Syntax.erased Syntax.mut LentTilePartEntry.pointee) (λ x. x) λ x. x
+
+  abbrev s17 : (bs : List.List Nat.ℕ) → Typed.Both T16 T19
+  s17 = λ bs. Relend.k-back-sl (Referent.rtF (Referent.fInt Syntax.w8)) T16 10 3 1 3 (Syntax.tyRef (Syntax.named 1) Syntax.mut (Syntax.tyInt Syntax.w8)) (Syntax.tyRef Syntax.erased
       Syntax.mut (Syntax.tyInt Syntax.w8)) Row.off (λ x. x) λ x. x
 
-  abbrev s17 : (bs : List.List Nat.ℕ) → Typed.Gives T18 T19
-  s17 = λ bs. Know.k-sl-known (Referent.fInt Syntax.w8) T18 2 1 (Syntax.tyRef (Syntax.named 1) Syntax.mut (Syntax.tyInt Syntax.w8)) Row.off 0 λ x. x
+  abbrev s18 : (bs : List.List Nat.ℕ) → Typed.Gives T19 T20
+  s18 = λ bs. Know.k-sl-known (Referent.fInt Syntax.w8) T19 3 1 (Syntax.tyRef (Syntax.named 1) Syntax.mut (Syntax.tyInt Syntax.w8)) Row.off 0 λ x. x
 
-  abbrev s19 : (bs : List.List Nat.ℕ) → Typed.Mo T19 → Typed.Mo T21
-  s19 = λ bs. LocalCopy.n-val-copy T19 3 5 (Array'.Array LentTilePartEntry.row 2048) (Rows.arrF LentTilePartEntry.row 2048 0) (Rows.arrF LentTilePartEntry.row 2048 0) (λ x. x) (λ
+  abbrev s20 : (bs : List.List Nat.ℕ) → Typed.Mo T20 → Typed.Mo T22
+  s20 = λ bs. LocalCopy.n-val-copy T20 4 6 (Array'.Array LentTilePartEntry.row 2048) (Rows.arrF LentTilePartEntry.row 2048 0) (Rows.arrF LentTilePartEntry.row 2048 0) (λ x. x) (λ
       x. x) λ x. x
 
-  abbrev s20 : (bs : List.List Nat.ℕ) → Typed.Mo T21 → Typed.Mo T22
-  s20 = λ bs. Scalar.n-room T21 3 (Syntax.tyArray LentTilePartEntry.spelled 2048)
+  abbrev s21 : (bs : List.List Nat.ℕ) → Typed.Mo T22 → Typed.Mo T23
+  s21 = λ bs. Scalar.n-room T22 4 (Syntax.tyArray LentTilePartEntry.spelled 2048)
 
-  abbrev s21 : (bs : List.List Nat.ℕ) → Typed.Both T22 T23
-  s21 = λ bs. Call.callB ps·2 r·2 (claims· .4) (claims· .5) T22 (record { pos = 4; st = List.[]; d = 0; at = λ x. x }, (record { pos = 5; st = List.[]; d = 0; at = λ x. x }, tt)) 0
+  abbrev s22 : (bs : List.List Nat.ℕ) → Typed.Both T23 T24
+  s22 = λ bs. Call.callB ps·2 r·2 (claims· .4) (claims· .5) T23 (record { pos = 5; st = List.[]; d = 0; at = λ x. x }, (record { pos = 6; st = List.[]; d = 0; at = λ x. x }, tt)) 0
       List.[] (Syntax.tyStruct (List._∷_ 114 (List._∷_ 101 (List._∷_ 99 (List._∷_ 111 (List._∷_ 114 (List._∷_ 100 (List._∷_ 115 (List._∷_ 58 (List._∷_ 58 (List._∷_ 116 (List._∷_ 97
       (List._∷_ 98 (List._∷_ 108 (List._∷_ 101 (List._∷_ 115 (List._∷_ 58 (List._∷_ 58 (List._∷_ 72 (List._∷_ 101 (List._∷_ 97 (List._∷_ 100 (List._∷_ 101 (List._∷_ 114 (List._∷_
       84 (List._∷_ 97 (List._∷_ 98 (List._∷_ 108 (List._∷_ 101 List.[])))))))))))))))))))))))))))) (Syntax.tcons (Syntax.tyEnum (List._∷_ 104 (List._∷_ 101 (List._∷_ 97 (List._∷_
@@ -1221,8 +1391,8 @@ module _ (claims· : Claims) where
       101 (List._∷_ 97 (List._∷_ 109 (List._∷_ 79 (List._∷_ 102 (List._∷_ 102 (List._∷_ 115 (List._∷_ 101 (List._∷_ 116 List.[]))))))))))))))))))))))) (Syntax.tcons (Syntax.tyInt
       Syntax.w64) Syntax.tnil)) (Syntax.tcons (Syntax.tyInt Syntax.w64) Syntax.tnil)))) 2048) Syntax.tnil)))
 
-  abbrev s22 : (bs : List.List Nat.ℕ) → Typed.Mo T23 → Typed.Mo T24
-  s22 = λ bs. Scalar.n-room T23 4 (Syntax.tyEnum (List._∷_ 104 (List._∷_ 101 (List._∷_ 97 (List._∷_ 100 (List._∷_ 101 (List._∷_ 114 (List._∷_ 58 (List._∷_ 58 (List._∷_ 112
+  abbrev s23 : (bs : List.List Nat.ℕ) → Typed.Mo T24 → Typed.Mo T25
+  s23 = λ bs. Scalar.n-room T24 5 (Syntax.tyEnum (List._∷_ 104 (List._∷_ 101 (List._∷_ 97 (List._∷_ 100 (List._∷_ 101 (List._∷_ 114 (List._∷_ 58 (List._∷_ 58 (List._∷_ 112
       (List._∷_ 97 (List._∷_ 114 (List._∷_ 115 (List._∷_ 101 (List._∷_ 58 (List._∷_ 58 (List._∷_ 77 (List._∷_ 97 (List._∷_ 105 (List._∷_ 110 (List._∷_ 72 (List._∷_ 101 (List._∷_ 97
       (List._∷_ 100 (List._∷_ 101 (List._∷_ 114 List.[]))))))))))))))))))))))))) (Syntax.ttcons (Syntax.tcons (Syntax.tyStruct (List._∷_ 104 (List._∷_ 101 (List._∷_ 97 (List._∷_
       100 (List._∷_ 101 (List._∷_ 114 (List._∷_ 58 (List._∷_ 58 (List._∷_ 112 (List._∷_ 97 (List._∷_ 114 (List._∷_ 115 (List._∷_ 101 (List._∷_ 58 (List._∷_ 58 (List._∷_ 77
@@ -1234,8 +1404,8 @@ module _ (claims· : Claims) where
       (List._∷_ 121 (List._∷_ 112 (List._∷_ 101 (List._∷_ 115 (List._∷_ 58 (List._∷_ 58 (List._∷_ 82 (List._∷_ 101 (List._∷_ 102 (List._∷_ 117 (List._∷_ 115 (List._∷_ 97 (List._∷_
       108 List.[])))))))))))))) (Syntax.tcons (Syntax.tyInt Syntax.w32) (Syntax.tcons (Syntax.tyInt Syntax.w64) Syntax.tnil))) Syntax.tnil) Syntax.ttnil)))
 
-  abbrev s23 : (bs : List.List Nat.ℕ) → Typed.Mo T24 → Typed.Mo T25
-  s23 = λ bs. Scalar.n-room T24 5 (Syntax.tyArray LentTilePartEntry.spelled 2048)
+  abbrev s24 : (bs : List.List Nat.ℕ) → Typed.Mo T25 → Typed.Mo T26
+  s24 = λ bs. Scalar.n-room T25 6 (Syntax.tyArray LentTilePartEntry.spelled 2048)
 
   module _ (Pre· : (κs : Lifetimes.Lfts 2) → Kinds.Dens κs ps → Type 0) (Post· : (κs : Lifetimes.Lfts 2) → (a : Kinds.Dens κs ps) → Kinds.Plain 2 ps r κs) where
     module _ (M : Type 1) where
@@ -1246,83 +1416,86 @@ module _ (claims· : Claims) where
           (Function.plainOf 𝓤 H A 2 ps r Pre· Post·)
 
     module _ where
-      abbrev at0 : (bs : List.List Nat.ℕ) → Typed.TF T25 O0
+      abbrev at0 : (bs : List.List Nat.ℕ) → Typed.TF T26 O0
       at0 = λ bs. Typed.atRet O0
 
-      abbrev at1 : (bs : List.List Nat.ℕ) → Typed.TF T24 O0
-      at1 = λ bs. λ Ψ. Typed.pass T24 T25 (s23 bs) (at0 bs Ψ)
+      abbrev at1 : (bs : List.List Nat.ℕ) → Typed.TF T25 O0
+      at1 = λ bs. λ Ψ. Typed.pass T25 T26 (s24 bs) (at0 bs Ψ)
 
-      abbrev at2 : (bs : List.List Nat.ℕ) → Typed.TF T23 O0
-      at2 = λ bs. λ Ψ. Typed.pass T23 T24 (s22 bs) (at1 bs Ψ)
+      abbrev at2 : (bs : List.List Nat.ℕ) → Typed.TF T24 O0
+      at2 = λ bs. λ Ψ. Typed.pass T24 T25 (s23 bs) (at1 bs Ψ)
 
-      abbrev at3 : (bs : List.List Nat.ℕ) → Typed.TF T22 O0
-      at3 = λ bs. λ Ψ. Typed.both (s21 bs) (at2 bs Ψ)
+      abbrev at3 : (bs : List.List Nat.ℕ) → Typed.TF T23 O0
+      at3 = λ bs. λ Ψ. Typed.both (s22 bs) (at2 bs Ψ)
 
-      abbrev at4 : (bs : List.List Nat.ℕ) → Typed.TF T21 O0
-      at4 = λ bs. λ Ψ. Typed.pass T21 T22 (s20 bs) (at3 bs Ψ)
+      abbrev at4 : (bs : List.List Nat.ℕ) → Typed.TF T22 O0
+      at4 = λ bs. λ Ψ. Typed.pass T22 T23 (s21 bs) (at3 bs Ψ)
 
-      abbrev at5 : (bs : List.List Nat.ℕ) → Typed.TF T19 O0
-      at5 = λ bs. λ Ψ. Typed.pass T19 T21 (s19 bs) (at4 bs Ψ)
+      abbrev at5 : (bs : List.List Nat.ℕ) → Typed.TF T20 O0
+      at5 = λ bs. λ Ψ. Typed.pass T20 T22 (s20 bs) (at4 bs Ψ)
 
-      abbrev at6 : (bs : List.List Nat.ℕ) → Typed.TF T19 O0
+      abbrev at6 : (bs : List.List Nat.ℕ) → Typed.TF T20 O0
       at6 = λ bs. λ Ψ. at5 bs Ψ
 
-      abbrev at7 : (bs : List.List Nat.ℕ) → Typed.TF T18 O0
-      at7 = λ bs. λ Ψ. Typed.give (s17 bs) (at6 bs Ψ)
+      abbrev at7 : (bs : List.List Nat.ℕ) → Typed.TF T19 O0
+      at7 = λ bs. λ Ψ. Typed.give (s18 bs) (at6 bs Ψ)
 
-      abbrev at8 : (bs : List.List Nat.ℕ) → Typed.TF T15 O0
-      at8 = λ bs. λ Ψ. Typed.both (s16 bs) (at7 bs Ψ)
+      abbrev at8 : (bs : List.List Nat.ℕ) → Typed.TF T16 O0
+      at8 = λ bs. λ Ψ. Typed.both (s17 bs) (at7 bs Ψ)
 
-      abbrev at9 : (bs : List.List Nat.ℕ) → Typed.TF T15 O0
+      abbrev at9 : (bs : List.List Nat.ℕ) → Typed.TF T16 O0
       at9 = λ bs. λ Ψ. at8 bs Ψ
 
-      abbrev at10 : (bs : List.List Nat.ℕ) → Typed.TF T15 O0
+      abbrev at10 : (bs : List.List Nat.ℕ) → Typed.TF T16 O0
       at10 = λ bs. λ Ψ. at9 bs Ψ
 
-      abbrev at11 : (bs : List.List Nat.ℕ) → Typed.TF T13 O0
-      at11 = λ bs. λ Ψ. Typed.both (s13 bs) (at10 bs Ψ)
+      abbrev at11 : (bs : List.List Nat.ℕ) → Typed.TF T14 O0
+      at11 = λ bs. λ Ψ. Typed.both (s14 bs) (at10 bs Ψ)
 
-      abbrev at12 : (bs : List.List Nat.ℕ) → Typed.TF T13 O0
+      abbrev at12 : (bs : List.List Nat.ℕ) → Typed.TF T14 O0
       at12 = λ bs. λ Ψ. at11 bs Ψ
 
-      abbrev at13 : (bs : List.List Nat.ℕ) → Typed.TF T12 O0
-      at13 = λ bs. λ Ψ. Typed.both (s11 bs) (at12 bs Ψ)
+      abbrev at13 : (bs : List.List Nat.ℕ) → Typed.TF T13 O0
+      at13 = λ bs. λ Ψ. Typed.pass T13 T14 (s12 bs) (at12 bs Ψ)
 
-      abbrev at14 : (bs : List.List Nat.ℕ) → Typed.TF T11 O0
-      at14 = λ bs. λ Ψ. Typed.ask (s10 bs) (at13 bs Ψ)
+      abbrev at14 : (bs : List.List Nat.ℕ) → Typed.TF T12 O0
+      at14 = λ bs. λ Ψ. Typed.both (s11 bs) (at13 bs Ψ)
 
-      abbrev at15 : (bs : List.List Nat.ℕ) → Typed.TF T9 O0
-      at15 = λ bs. λ Ψ. Typed.give (s9 bs) (at14 bs Ψ)
+      abbrev at15 : (bs : List.List Nat.ℕ) → Typed.TF T11 O0
+      at15 = λ bs. λ Ψ. Typed.ask (s10 bs) (at14 bs Ψ)
 
       abbrev at16 : (bs : List.List Nat.ℕ) → Typed.TF T9 O0
-      at16 = λ bs. λ Ψ. at15 bs Ψ
+      at16 = λ bs. λ Ψ. Typed.give (s9 bs) (at15 bs Ψ)
 
-      abbrev at17 : (bs : List.List Nat.ℕ) → Typed.TF T8 O0
-      at17 = λ bs. λ Ψ. Typed.ask (s7 bs) (at16 bs Ψ)
+      abbrev at17 : (bs : List.List Nat.ℕ) → Typed.TF T9 O0
+      at17 = λ bs. λ Ψ. at16 bs Ψ
 
-      abbrev at18 : (bs : List.List Nat.ℕ) → Typed.TF T6 O0
-      at18 = λ bs. λ Ψ. Typed.give (s6 bs) (at17 bs Ψ)
+      abbrev at18 : (bs : List.List Nat.ℕ) → Typed.TF T8 O0
+      at18 = λ bs. λ Ψ. Typed.ask (s7 bs) (at17 bs Ψ)
 
       abbrev at19 : (bs : List.List Nat.ℕ) → Typed.TF T6 O0
-      at19 = λ bs. λ Ψ. at18 bs Ψ
+      at19 = λ bs. λ Ψ. Typed.give (s6 bs) (at18 bs Ψ)
 
-      abbrev at20 : (bs : List.List Nat.ℕ) → Typed.TF T5 O0
-      at20 = λ bs. λ Ψ. Typed.pass T5 T6 (s4 bs) (at19 bs Ψ)
+      abbrev at20 : (bs : List.List Nat.ℕ) → Typed.TF T6 O0
+      at20 = λ bs. λ Ψ. at19 bs Ψ
 
-      abbrev at21 : (bs : List.List Nat.ℕ) → Typed.TF T4 O0
-      at21 = λ bs. λ Ψ. Typed.pass T4 T5 (s3 bs) (at20 bs Ψ)
+      abbrev at21 : (bs : List.List Nat.ℕ) → Typed.TF T5 O0
+      at21 = λ bs. λ Ψ. Typed.pass T5 T6 (s4 bs) (at20 bs Ψ)
 
-      abbrev at22 : (bs : List.List Nat.ℕ) → Typed.TF T3 O0
-      at22 = λ bs. λ Ψ. Typed.both (s2 bs) (at21 bs Ψ)
+      abbrev at22 : (bs : List.List Nat.ℕ) → Typed.TF T4 O0
+      at22 = λ bs. λ Ψ. Typed.pass T4 T5 (s3 bs) (at21 bs Ψ)
 
-      abbrev at23 : (bs : List.List Nat.ℕ) → Typed.TF T2 O0
-      at23 = λ bs. λ Ψ. Typed.give (s1 bs) (at22 bs Ψ)
+      abbrev at23 : (bs : List.List Nat.ℕ) → Typed.TF T3 O0
+      at23 = λ bs. λ Ψ. Typed.both (s2 bs) (at22 bs Ψ)
 
-      abbrev at24 : (bs : List.List Nat.ℕ) → Typed.TF T0 O0
-      at24 = λ bs. λ Ψ. Typed.give (s0 bs) (at23 bs Ψ)
+      abbrev at24 : (bs : List.List Nat.ℕ) → Typed.TF T2 O0
+      at24 = λ bs. λ Ψ. Typed.give (s1 bs) (at23 bs Ψ)
+
+      abbrev at25 : (bs : List.List Nat.ℕ) → Typed.TF T0 O0
+      at25 = λ bs. λ Ψ. Typed.give (s0 bs) (at24 bs Ψ)
 
       abbrev pub Φ : (bs : List.List Nat.ℕ) → Typed.TF T0 O0
-      Φ = λ bs. at24 bs
+      Φ = λ bs. at25 bs
 
       module _ {M : Type 1} (𝓤 : URA.URA M) (H : Wp.Heap 𝓤) (A : Atoms.Atoms 𝓤) (W : Kit.Given 𝓤 H A) (𝓣 : Wp.Tables 𝓤 H) where
         abbrev Knowns : Type 1
@@ -1357,39 +1530,42 @@ module _ (claims· : Claims) where
           1,
           Rows'.sslice (Referent.rtF (Referent.fInt Syntax.w8)) (Syntax.tyRef
               (Syntax.named 0) Syntax.imm (Syntax.tyInt Syntax.w8)) 0,
+        ) (List._∷_ (2, Rows'.whole (Declared.row Numbering.the-type)) (List._∷_ (
+          3,
+          Relend.mslice-owed (Referent.rtF
+              (Referent.fInt Syntax.w8)) (Syntax.tyRef (Syntax.named 1) Syntax.mut (Syntax.tyInt Syntax.w8)) 1 3 (Row.lease (κs .1 .0) (qs .1 .0)),
         ) (List._∷_ (
-          2,
-          Relend.mslice-owed (Referent.rtF (Referent.fInt Syntax.w8)) (Syntax.tyRef (Syntax.named 1)
-              Syntax.mut (Syntax.tyInt Syntax.w8)) 1 3 (Row.lease (κs .1 .0) (qs .1 .0)),
-        ) (List._∷_ (3, Rows.arr-owed LentTilePartEntry.row 2048 2) (List._∷_ (
           4,
-          Rows'.any-gone
-              (Syntax.tyEnum (List._∷_ 104 (List._∷_ 101 (List._∷_ 97 (List._∷_ 100 (List._∷_ 101 (List._∷_ 114 (List._∷_ 58 (List._∷_ 58 (List._∷_ 112 (List._∷_ 97 (List._∷_ 114
-              (List._∷_ 115 (List._∷_ 101 (List._∷_ 58 (List._∷_ 58 (List._∷_ 77 (List._∷_ 97 (List._∷_ 105 (List._∷_ 110 (List._∷_ 72 (List._∷_ 101 (List._∷_ 97 (List._∷_ 100
-              (List._∷_ 101 (List._∷_ 114 List.[]))))))))))))))))))))))))) (Syntax.ttcons (Syntax.tcons (Syntax.tyStruct (List._∷_ 104 (List._∷_ 101 (List._∷_ 97 (List._∷_ 100
-              (List._∷_ 101 (List._∷_ 114 (List._∷_ 58 (List._∷_ 58 (List._∷_ 112 (List._∷_ 97 (List._∷_ 114 (List._∷_ 115 (List._∷_ 101 (List._∷_ 58 (List._∷_ 58 (List._∷_ 77
-              (List._∷_ 97 (List._∷_ 105 (List._∷_ 110 (List._∷_ 72 (List._∷_ 101 (List._∷_ 97 (List._∷_ 100 (List._∷_ 101 (List._∷_ 114 (List._∷_ 73 (List._∷_ 110 (List._∷_ 102
-              (List._∷_ 111 List.[]))))))))))))))))))))))))))))) (Syntax.tcons (Syntax.tyStruct (List._∷_ 116 (List._∷_ 121 (List._∷_ 112 (List._∷_ 101 (List._∷_ 115 (List._∷_ 58
-              (List._∷_ 58 (List._∷_ 67 (List._∷_ 111 (List._∷_ 100 (List._∷_ 101 (List._∷_ 115 (List._∷_ 116 (List._∷_ 114 (List._∷_ 101 (List._∷_ 97 (List._∷_ 109 (List._∷_ 79
-              (List._∷_ 102 (List._∷_ 102 (List._∷_ 115 (List._∷_ 101 (List._∷_ 116 List.[]))))))))))))))))))))))) (Syntax.tcons (Syntax.tyInt Syntax.w64) Syntax.tnil)) (Syntax.tcons
-              (Syntax.tyInt Syntax.w64) (Syntax.tcons (Syntax.tyInt Syntax.w64) (Syntax.tcons (Syntax.tyInt Syntax.w64) Syntax.tnil))))) Syntax.tnil) (Syntax.ttcons (Syntax.tcons
-              (Syntax.tyStruct (List._∷_ 116 (List._∷_ 121 (List._∷_ 112 (List._∷_ 101 (List._∷_ 115 (List._∷_ 58 (List._∷_ 58 (List._∷_ 82 (List._∷_ 101 (List._∷_ 102 (List._∷_ 117
-              (List._∷_ 115 (List._∷_ 97 (List._∷_ 108 List.[])))))))))))))) (Syntax.tcons (Syntax.tyInt Syntax.w32) (Syntax.tcons (Syntax.tyInt Syntax.w64) Syntax.tnil)))
-              Syntax.tnil) Syntax.ttnil))),
-        ) (List._∷_ (5, Rows'.any-gone (Syntax.tyArray LentTilePartEntry.spelled 2048)) (List._∷_ (
-          6,
-          Rows'.any-gone (Syntax.tyRef Syntax.erased
-              Syntax.mut (Syntax.tyArray LentTilePartEntry.pointee 2048)),
+          Rows.arr-owed
+              LentTilePartEntry.row 2048 2,
         ) (List._∷_ (
-          7,
-          Mut.mslice LentTilePartEntry.row (Syntax.tyRef Syntax.erased Syntax.mut
-              LentTilePartEntry.pointee) 2,
-        ) (List._∷_ (8, Relend.msptr (Referent.rtF (Referent.fInt Syntax.w8)) (Syntax.tyRef Syntax.erased Syntax.mut (Syntax.tyInt Syntax.w8)) 3)
-            (List._∷_ (
+          5,
+          Rows'.any-gone (Syntax.tyEnum (List._∷_ 104 (List._∷_ 101 (List._∷_ 97 (List._∷_ 100 (List._∷_ 101 (List._∷_ 114 (List._∷_
+              58 (List._∷_ 58 (List._∷_ 112 (List._∷_ 97 (List._∷_ 114 (List._∷_ 115 (List._∷_ 101 (List._∷_ 58 (List._∷_ 58 (List._∷_ 77 (List._∷_ 97 (List._∷_ 105 (List._∷_ 110
+              (List._∷_ 72 (List._∷_ 101 (List._∷_ 97 (List._∷_ 100 (List._∷_ 101 (List._∷_ 114 List.[]))))))))))))))))))))))))) (Syntax.ttcons (Syntax.tcons (Syntax.tyStruct
+              (List._∷_ 104 (List._∷_ 101 (List._∷_ 97 (List._∷_ 100 (List._∷_ 101 (List._∷_ 114 (List._∷_ 58 (List._∷_ 58 (List._∷_ 112 (List._∷_ 97 (List._∷_ 114 (List._∷_ 115
+              (List._∷_ 101 (List._∷_ 58 (List._∷_ 58 (List._∷_ 77 (List._∷_ 97 (List._∷_ 105 (List._∷_ 110 (List._∷_ 72 (List._∷_ 101 (List._∷_ 97 (List._∷_ 100 (List._∷_ 101
+              (List._∷_ 114 (List._∷_ 73 (List._∷_ 110 (List._∷_ 102 (List._∷_ 111 List.[]))))))))))))))))))))))))))))) (Syntax.tcons (Syntax.tyStruct (List._∷_ 116 (List._∷_ 121
+              (List._∷_ 112 (List._∷_ 101 (List._∷_ 115 (List._∷_ 58 (List._∷_ 58 (List._∷_ 67 (List._∷_ 111 (List._∷_ 100 (List._∷_ 101 (List._∷_ 115 (List._∷_ 116 (List._∷_ 114
+              (List._∷_ 101 (List._∷_ 97 (List._∷_ 109 (List._∷_ 79 (List._∷_ 102 (List._∷_ 102 (List._∷_ 115 (List._∷_ 101 (List._∷_ 116 List.[]))))))))))))))))))))))) (Syntax.tcons
+              (Syntax.tyInt Syntax.w64) Syntax.tnil)) (Syntax.tcons (Syntax.tyInt Syntax.w64) (Syntax.tcons (Syntax.tyInt Syntax.w64) (Syntax.tcons (Syntax.tyInt Syntax.w64)
+              Syntax.tnil))))) Syntax.tnil) (Syntax.ttcons (Syntax.tcons (Syntax.tyStruct (List._∷_ 116 (List._∷_ 121 (List._∷_ 112 (List._∷_ 101 (List._∷_ 115 (List._∷_ 58 (List._∷_
+              58 (List._∷_ 82 (List._∷_ 101 (List._∷_ 102 (List._∷_ 117 (List._∷_ 115 (List._∷_ 97 (List._∷_ 108 List.[])))))))))))))) (Syntax.tcons (Syntax.tyInt Syntax.w32)
+              (Syntax.tcons (Syntax.tyInt Syntax.w64) Syntax.tnil))) Syntax.tnil) Syntax.ttnil))),
+        ) (List._∷_ (6, Rows'.any-gone (Syntax.tyArray LentTilePartEntry.spelled 2048))
+            (List._∷_ (7, Rows'.any-gone (Syntax.tyRef Syntax.erased Syntax.mut (Syntax.tyArray LentTilePartEntry.pointee 2048))) (List._∷_ (
+              8,
+              Mut.mslice LentTilePartEntry.row
+                  (Syntax.tyRef Syntax.erased Syntax.mut LentTilePartEntry.pointee) 2,
+            ) (List._∷_ (
               9,
-              Rows'.any-gone (Syntax.tyStruct (List._∷_ 38 (List._∷_ 91 (List._∷_ 93 List.[]))) (Syntax.tcons (Syntax.tyRef Syntax.erased Syntax.mut (Syntax.tyInt
-                  Syntax.w8)) (Syntax.tcons (Syntax.tyInt Syntax.w64) Syntax.tnil))),
-            ) List.[])))))))))
+              Relend.msptr (Referent.rtF (Referent.fInt Syntax.w8)) (Syntax.tyRef Syntax.erased
+                  Syntax.mut (Syntax.tyInt Syntax.w8)) 3,
+            ) (List._∷_ (
+              10,
+              Rows'.any-gone (Syntax.tyStruct (List._∷_ 38 (List._∷_ 91 (List._∷_ 93 List.[]))) (Syntax.tcons (Syntax.tyRef
+                  Syntax.erased Syntax.mut (Syntax.tyInt Syntax.w8)) (Syntax.tcons (Syntax.tyInt Syntax.w64) Syntax.tnil))),
+            ) List.[]))))))))))
 
         abbrev g8 : List.List Row.Entry
         g8 = List._∷_ (
@@ -1418,38 +1594,35 @@ module _ (claims· : Claims) where
           1,
           Rows'.sslice (Referent.rtF (Referent.fInt Syntax.w8)) (Syntax.tyRef
               (Syntax.named 0) Syntax.imm (Syntax.tyInt Syntax.w8)) 0,
+        ) (List._∷_ (2, Rows'.whole (Declared.row Numbering.the-type)) (List._∷_ (
+          3,
+          Relend.mslice-owed (Referent.rtF
+              (Referent.fInt Syntax.w8)) (Syntax.tyRef (Syntax.named 1) Syntax.mut (Syntax.tyInt Syntax.w8)) 1 3 (Row.lease (κs .1 .0) (qs .1 .0)),
         ) (List._∷_ (
-          2,
-          Relend.mslice-owed (Referent.rtF (Referent.fInt Syntax.w8)) (Syntax.tyRef (Syntax.named 1)
-              Syntax.mut (Syntax.tyInt Syntax.w8)) 1 3 (Row.lease (κs .1 .0) (qs .1 .0)),
-        ) (List._∷_ (3, Rows.arr-owed LentTilePartEntry.row 2048 2) (List._∷_ (
           4,
-          Rows'.any-gone
-              (Syntax.tyEnum (List._∷_ 104 (List._∷_ 101 (List._∷_ 97 (List._∷_ 100 (List._∷_ 101 (List._∷_ 114 (List._∷_ 58 (List._∷_ 58 (List._∷_ 112 (List._∷_ 97 (List._∷_ 114
-              (List._∷_ 115 (List._∷_ 101 (List._∷_ 58 (List._∷_ 58 (List._∷_ 77 (List._∷_ 97 (List._∷_ 105 (List._∷_ 110 (List._∷_ 72 (List._∷_ 101 (List._∷_ 97 (List._∷_ 100
-              (List._∷_ 101 (List._∷_ 114 List.[]))))))))))))))))))))))))) (Syntax.ttcons (Syntax.tcons (Syntax.tyStruct (List._∷_ 104 (List._∷_ 101 (List._∷_ 97 (List._∷_ 100
-              (List._∷_ 101 (List._∷_ 114 (List._∷_ 58 (List._∷_ 58 (List._∷_ 112 (List._∷_ 97 (List._∷_ 114 (List._∷_ 115 (List._∷_ 101 (List._∷_ 58 (List._∷_ 58 (List._∷_ 77
-              (List._∷_ 97 (List._∷_ 105 (List._∷_ 110 (List._∷_ 72 (List._∷_ 101 (List._∷_ 97 (List._∷_ 100 (List._∷_ 101 (List._∷_ 114 (List._∷_ 73 (List._∷_ 110 (List._∷_ 102
-              (List._∷_ 111 List.[]))))))))))))))))))))))))))))) (Syntax.tcons (Syntax.tyStruct (List._∷_ 116 (List._∷_ 121 (List._∷_ 112 (List._∷_ 101 (List._∷_ 115 (List._∷_ 58
-              (List._∷_ 58 (List._∷_ 67 (List._∷_ 111 (List._∷_ 100 (List._∷_ 101 (List._∷_ 115 (List._∷_ 116 (List._∷_ 114 (List._∷_ 101 (List._∷_ 97 (List._∷_ 109 (List._∷_ 79
-              (List._∷_ 102 (List._∷_ 102 (List._∷_ 115 (List._∷_ 101 (List._∷_ 116 List.[]))))))))))))))))))))))) (Syntax.tcons (Syntax.tyInt Syntax.w64) Syntax.tnil)) (Syntax.tcons
-              (Syntax.tyInt Syntax.w64) (Syntax.tcons (Syntax.tyInt Syntax.w64) (Syntax.tcons (Syntax.tyInt Syntax.w64) Syntax.tnil))))) Syntax.tnil) (Syntax.ttcons (Syntax.tcons
-              (Syntax.tyStruct (List._∷_ 116 (List._∷_ 121 (List._∷_ 112 (List._∷_ 101 (List._∷_ 115 (List._∷_ 58 (List._∷_ 58 (List._∷_ 82 (List._∷_ 101 (List._∷_ 102 (List._∷_ 117
-              (List._∷_ 115 (List._∷_ 97 (List._∷_ 108 List.[])))))))))))))) (Syntax.tcons (Syntax.tyInt Syntax.w32) (Syntax.tcons (Syntax.tyInt Syntax.w64) Syntax.tnil)))
-              Syntax.tnil) Syntax.ttnil))),
-        ) (List._∷_ (5, Rows'.any-gone (Syntax.tyArray LentTilePartEntry.spelled 2048)) (List._∷_ (
-          6,
-          Rows'.any-gone (Syntax.tyRef Syntax.erased
-              Syntax.mut (Syntax.tyArray LentTilePartEntry.pointee 2048)),
+          Rows.arr-owed
+              LentTilePartEntry.row 2048 2,
         ) (List._∷_ (
-          7,
-          Mut.mslice LentTilePartEntry.row (Syntax.tyRef Syntax.erased Syntax.mut
-              LentTilePartEntry.pointee) 2,
-        ) (List._∷_ (8, Rows'.any-gone (Syntax.tyRef Syntax.erased Syntax.mut (Syntax.tyInt Syntax.w8))) (List._∷_ (
-          9,
-          Mut.mslice (Referent.rtF
-              (Referent.fInt Syntax.w8)) (Syntax.tyRef Syntax.erased Syntax.mut (Syntax.tyInt Syntax.w8)) 3,
-        ) List.[])))))))))
+          5,
+          Rows'.any-gone (Syntax.tyEnum (List._∷_ 104 (List._∷_ 101 (List._∷_ 97 (List._∷_ 100 (List._∷_ 101 (List._∷_ 114 (List._∷_
+              58 (List._∷_ 58 (List._∷_ 112 (List._∷_ 97 (List._∷_ 114 (List._∷_ 115 (List._∷_ 101 (List._∷_ 58 (List._∷_ 58 (List._∷_ 77 (List._∷_ 97 (List._∷_ 105 (List._∷_ 110
+              (List._∷_ 72 (List._∷_ 101 (List._∷_ 97 (List._∷_ 100 (List._∷_ 101 (List._∷_ 114 List.[]))))))))))))))))))))))))) (Syntax.ttcons (Syntax.tcons (Syntax.tyStruct
+              (List._∷_ 104 (List._∷_ 101 (List._∷_ 97 (List._∷_ 100 (List._∷_ 101 (List._∷_ 114 (List._∷_ 58 (List._∷_ 58 (List._∷_ 112 (List._∷_ 97 (List._∷_ 114 (List._∷_ 115
+              (List._∷_ 101 (List._∷_ 58 (List._∷_ 58 (List._∷_ 77 (List._∷_ 97 (List._∷_ 105 (List._∷_ 110 (List._∷_ 72 (List._∷_ 101 (List._∷_ 97 (List._∷_ 100 (List._∷_ 101
+              (List._∷_ 114 (List._∷_ 73 (List._∷_ 110 (List._∷_ 102 (List._∷_ 111 List.[]))))))))))))))))))))))))))))) (Syntax.tcons (Syntax.tyStruct (List._∷_ 116 (List._∷_ 121
+              (List._∷_ 112 (List._∷_ 101 (List._∷_ 115 (List._∷_ 58 (List._∷_ 58 (List._∷_ 67 (List._∷_ 111 (List._∷_ 100 (List._∷_ 101 (List._∷_ 115 (List._∷_ 116 (List._∷_ 114
+              (List._∷_ 101 (List._∷_ 97 (List._∷_ 109 (List._∷_ 79 (List._∷_ 102 (List._∷_ 102 (List._∷_ 115 (List._∷_ 101 (List._∷_ 116 List.[]))))))))))))))))))))))) (Syntax.tcons
+              (Syntax.tyInt Syntax.w64) Syntax.tnil)) (Syntax.tcons (Syntax.tyInt Syntax.w64) (Syntax.tcons (Syntax.tyInt Syntax.w64) (Syntax.tcons (Syntax.tyInt Syntax.w64)
+              Syntax.tnil))))) Syntax.tnil) (Syntax.ttcons (Syntax.tcons (Syntax.tyStruct (List._∷_ 116 (List._∷_ 121 (List._∷_ 112 (List._∷_ 101 (List._∷_ 115 (List._∷_ 58 (List._∷_
+              58 (List._∷_ 82 (List._∷_ 101 (List._∷_ 102 (List._∷_ 117 (List._∷_ 115 (List._∷_ 97 (List._∷_ 108 List.[])))))))))))))) (Syntax.tcons (Syntax.tyInt Syntax.w32)
+              (Syntax.tcons (Syntax.tyInt Syntax.w64) Syntax.tnil))) Syntax.tnil) Syntax.ttnil))),
+        ) (List._∷_ (6, Rows'.any-gone (Syntax.tyArray LentTilePartEntry.spelled 2048))
+            (List._∷_ (7, Rows'.any-gone (Syntax.tyRef Syntax.erased Syntax.mut (Syntax.tyArray LentTilePartEntry.pointee 2048))) (List._∷_ (
+              8,
+              Mut.mslice LentTilePartEntry.row
+                  (Syntax.tyRef Syntax.erased Syntax.mut LentTilePartEntry.pointee) 2,
+            ) (List._∷_ (9, Rows'.any-gone (Syntax.tyRef Syntax.erased Syntax.mut (Syntax.tyInt Syntax.w8)))
+            (List._∷_ (10, Mut.mslice (Referent.rtF (Referent.fInt Syntax.w8)) (Syntax.tyRef Syntax.erased Syntax.mut (Syntax.tyInt Syntax.w8)) 3) List.[]))))))))))
 
         abbrev g9 : List.List Row.Entry
         g9 = List._∷_ (
@@ -1478,27 +1651,28 @@ module _ (claims· : Claims) where
           1,
           Rows'.sslice (Referent.rtF (Referent.fInt Syntax.w8)) (Syntax.tyRef
               (Syntax.named 0) Syntax.imm (Syntax.tyInt Syntax.w8)) 0,
+        ) (List._∷_ (2, Rows'.whole (Declared.row Numbering.the-type)) (List._∷_ (
+          3,
+          Relend.mslice-owed (Referent.rtF
+              (Referent.fInt Syntax.w8)) (Syntax.tyRef (Syntax.named 1) Syntax.mut (Syntax.tyInt Syntax.w8)) 1 3 (Row.lease (κs .1 .0) (qs .1 .0)),
         ) (List._∷_ (
-          2,
-          Relend.mslice-owed (Referent.rtF (Referent.fInt Syntax.w8)) (Syntax.tyRef (Syntax.named 1)
-              Syntax.mut (Syntax.tyInt Syntax.w8)) 1 3 (Row.lease (κs .1 .0) (qs .1 .0)),
-        ) (List._∷_ (3, Rows.arr-owed LentTilePartEntry.row 2048 2) (List._∷_ (
           4,
-          Rows'.whole
-              (Declared.row MainHeader.the-type),
-        ) (List._∷_ (5, Rows'.any-gone (Syntax.tyArray LentTilePartEntry.spelled 2048)) (List._∷_ (
+          Rows.arr-owed
+              LentTilePartEntry.row 2048 2,
+        ) (List._∷_ (5, Rows'.whole (Declared.row MainHeader.the-type)) (List._∷_ (
           6,
-          Rows'.any-gone (Syntax.tyRef
-              Syntax.erased Syntax.mut (Syntax.tyArray LentTilePartEntry.pointee 2048)),
+          Rows'.any-gone (Syntax.tyArray LentTilePartEntry.spelled
+              2048),
+        ) (List._∷_ (7, Rows'.any-gone (Syntax.tyRef Syntax.erased Syntax.mut (Syntax.tyArray LentTilePartEntry.pointee 2048))) (List._∷_ (
+          8,
+          Mut.msleft
+              LentTilePartEntry.row (Syntax.tyRef Syntax.erased Syntax.mut LentTilePartEntry.pointee),
         ) (List._∷_ (
-          7,
-          Mut.msleft LentTilePartEntry.row (Syntax.tyRef Syntax.erased Syntax.mut
-              LentTilePartEntry.pointee),
-        ) (List._∷_ (8, Rows'.any-gone (Syntax.tyRef Syntax.erased Syntax.mut (Syntax.tyInt Syntax.w8))) (List._∷_ (
           9,
-          Mut.msleft (Referent.rtF
-              (Referent.fInt Syntax.w8)) (Syntax.tyRef Syntax.erased Syntax.mut (Syntax.tyInt Syntax.w8)),
-        ) List.[])))))))))
+          Rows'.any-gone (Syntax.tyRef Syntax.erased Syntax.mut
+              (Syntax.tyInt Syntax.w8)),
+        ) (List._∷_ (10, Mut.msleft (Referent.rtF (Referent.fInt Syntax.w8)) (Syntax.tyRef Syntax.erased Syntax.mut (Syntax.tyInt Syntax.w8)))
+            List.[]))))))))))
 
         abbrev g10 : List.List Row.Entry
         g10 = List._∷_ (
@@ -1529,28 +1703,84 @@ module _ (claims· : Claims) where
               (Syntax.named 0) Syntax.imm (Syntax.tyInt Syntax.w8)) 0,
         ) (List._∷_ (
           2,
-          Relend.mslice-owed (Referent.rtF (Referent.fInt Syntax.w8)) (Syntax.tyRef (Syntax.named 1)
-              Syntax.mut (Syntax.tyInt Syntax.w8)) 1 3 (Row.lease (κs .1 .0) (qs .1 .0)),
-        ) (List._∷_ (3, Rows.arrF LentTilePartEntry.row 2048 0) (List._∷_ (
-          4,
-          Rows'.whole
-              (Declared.row MainHeader.the-type),
-        ) (List._∷_ (5, Rows'.any-gone (Syntax.tyArray LentTilePartEntry.spelled 2048)) (List._∷_ (
-          6,
-          Rows'.any-gone (Syntax.tyRef
-              Syntax.erased Syntax.mut (Syntax.tyArray LentTilePartEntry.pointee 2048)),
+          Rows'.any-gone (Syntax.tyEnum (List._∷_ 104 (List._∷_ 101 (List._∷_ 97 (List._∷_ 100 (List._∷_
+              101 (List._∷_ 114 (List._∷_ 58 (List._∷_ 58 (List._∷_ 110 (List._∷_ 117 (List._∷_ 109 (List._∷_ 98 (List._∷_ 101 (List._∷_ 114 (List._∷_ 105 (List._∷_ 110 (List._∷_ 103
+              (List._∷_ 58 (List._∷_ 58 (List._∷_ 78 (List._∷_ 117 (List._∷_ 109 (List._∷_ 98 (List._∷_ 101 (List._∷_ 114 (List._∷_ 105 (List._∷_ 110 (List._∷_ 103
+              List.[])))))))))))))))))))))))))))) (Syntax.ttcons Syntax.tnil (Syntax.ttcons Syntax.tnil Syntax.ttnil))),
         ) (List._∷_ (
+          3,
+          Relend.mslice-owed (Referent.rtF (Referent.fInt
+              Syntax.w8)) (Syntax.tyRef (Syntax.named 1) Syntax.mut (Syntax.tyInt Syntax.w8)) 1 3 (Row.lease (κs .1 .0) (qs .1 .0)),
+        ) (List._∷_ (
+          4,
+          Rows.arr-owed LentTilePartEntry.row
+              2048 2,
+        ) (List._∷_ (5, Rows'.whole (Declared.row MainHeader.the-type)) (List._∷_ (6, Rows'.any-gone (Syntax.tyArray LentTilePartEntry.spelled 2048)) (List._∷_ (
           7,
-          Rows'.any-gone (Syntax.tyStruct (List._∷_ 38 (List._∷_ 91 (List._∷_ 93
-              List.[]))) (Syntax.tcons (Syntax.tyRef Syntax.erased Syntax.mut LentTilePartEntry.pointee) (Syntax.tcons (Syntax.tyInt Syntax.w64) Syntax.tnil))),
+          Rows'.any-gone (Syntax.tyRef Syntax.erased Syntax.mut (Syntax.tyArray LentTilePartEntry.pointee 2048)),
         ) (List._∷_ (
           8,
-          Rows'.any-gone (Syntax.tyRef Syntax.erased Syntax.mut (Syntax.tyInt Syntax.w8)),
+          Mut.msleft LentTilePartEntry.row (Syntax.tyRef
+              Syntax.erased Syntax.mut LentTilePartEntry.pointee),
+        ) (List._∷_ (9, Rows'.any-gone (Syntax.tyRef Syntax.erased Syntax.mut (Syntax.tyInt Syntax.w8))) (List._∷_ (
+          10,
+          Mut.msleft (Referent.rtF (Referent.fInt Syntax.w8)) (Syntax.tyRef Syntax.erased Syntax.mut (Syntax.tyInt Syntax.w8)),
+        ) List.[]))))))))))
+
+        abbrev g11 : List.List Row.Entry
+        g11 = List._∷_ (
+          0,
+          Rows'.any-gone (Syntax.tyStruct (List._∷_ 114 (List._∷_ 101 (List._∷_ 99 (List._∷_ 111 (List._∷_ 114 (List._∷_ 100 (List._∷_ 115 (List._∷_ 58 (List._∷_
+              58 (List._∷_ 116 (List._∷_ 97 (List._∷_ 98 (List._∷_ 108 (List._∷_ 101 (List._∷_ 115 (List._∷_ 58 (List._∷_ 58 (List._∷_ 72 (List._∷_ 101 (List._∷_ 97 (List._∷_ 100
+              (List._∷_ 101 (List._∷_ 114 (List._∷_ 84 (List._∷_ 97 (List._∷_ 98 (List._∷_ 108 (List._∷_ 101 List.[])))))))))))))))))))))))))))) (Syntax.tcons (Syntax.tyEnum
+              (List._∷_ 104 (List._∷_ 101 (List._∷_ 97 (List._∷_ 100 (List._∷_ 101 (List._∷_ 114 (List._∷_ 58 (List._∷_ 58 (List._∷_ 112 (List._∷_ 97 (List._∷_ 114 (List._∷_ 115
+              (List._∷_ 101 (List._∷_ 58 (List._∷_ 58 (List._∷_ 77 (List._∷_ 97 (List._∷_ 105 (List._∷_ 110 (List._∷_ 72 (List._∷_ 101 (List._∷_ 97 (List._∷_ 100 (List._∷_ 101
+              (List._∷_ 114 List.[]))))))))))))))))))))))))) (Syntax.ttcons (Syntax.tcons (Syntax.tyStruct (List._∷_ 104 (List._∷_ 101 (List._∷_ 97 (List._∷_ 100 (List._∷_ 101
+              (List._∷_ 114 (List._∷_ 58 (List._∷_ 58 (List._∷_ 112 (List._∷_ 97 (List._∷_ 114 (List._∷_ 115 (List._∷_ 101 (List._∷_ 58 (List._∷_ 58 (List._∷_ 77 (List._∷_ 97
+              (List._∷_ 105 (List._∷_ 110 (List._∷_ 72 (List._∷_ 101 (List._∷_ 97 (List._∷_ 100 (List._∷_ 101 (List._∷_ 114 (List._∷_ 73 (List._∷_ 110 (List._∷_ 102 (List._∷_ 111
+              List.[]))))))))))))))))))))))))))))) (Syntax.tcons (Syntax.tyStruct (List._∷_ 116 (List._∷_ 121 (List._∷_ 112 (List._∷_ 101 (List._∷_ 115 (List._∷_ 58 (List._∷_ 58
+              (List._∷_ 67 (List._∷_ 111 (List._∷_ 100 (List._∷_ 101 (List._∷_ 115 (List._∷_ 116 (List._∷_ 114 (List._∷_ 101 (List._∷_ 97 (List._∷_ 109 (List._∷_ 79 (List._∷_ 102
+              (List._∷_ 102 (List._∷_ 115 (List._∷_ 101 (List._∷_ 116 List.[]))))))))))))))))))))))) (Syntax.tcons (Syntax.tyInt Syntax.w64) Syntax.tnil)) (Syntax.tcons (Syntax.tyInt
+              Syntax.w64) (Syntax.tcons (Syntax.tyInt Syntax.w64) (Syntax.tcons (Syntax.tyInt Syntax.w64) Syntax.tnil))))) Syntax.tnil) (Syntax.ttcons (Syntax.tcons (Syntax.tyStruct
+              (List._∷_ 116 (List._∷_ 121 (List._∷_ 112 (List._∷_ 101 (List._∷_ 115 (List._∷_ 58 (List._∷_ 58 (List._∷_ 82 (List._∷_ 101 (List._∷_ 102 (List._∷_ 117 (List._∷_ 115
+              (List._∷_ 97 (List._∷_ 108 List.[])))))))))))))) (Syntax.tcons (Syntax.tyInt Syntax.w32) (Syntax.tcons (Syntax.tyInt Syntax.w64) Syntax.tnil))) Syntax.tnil)
+              Syntax.ttnil))) (Syntax.tcons (Syntax.tyArray (Syntax.tyStruct (List._∷_ 116 (List._∷_ 121 (List._∷_ 112 (List._∷_ 101 (List._∷_ 115 (List._∷_ 58 (List._∷_ 58 (List._∷_
+              84 (List._∷_ 105 (List._∷_ 108 (List._∷_ 101 (List._∷_ 80 (List._∷_ 97 (List._∷_ 114 (List._∷_ 116 (List._∷_ 69 (List._∷_ 110 (List._∷_ 116 (List._∷_ 114 (List._∷_ 121
+              List.[])))))))))))))))))))) (Syntax.tcons (Syntax.tyInt Syntax.w16) (Syntax.tcons (Syntax.tyStruct (List._∷_ 116 (List._∷_ 121 (List._∷_ 112 (List._∷_ 101 (List._∷_ 115
+              (List._∷_ 58 (List._∷_ 58 (List._∷_ 67 (List._∷_ 111 (List._∷_ 100 (List._∷_ 101 (List._∷_ 115 (List._∷_ 116 (List._∷_ 114 (List._∷_ 101 (List._∷_ 97 (List._∷_ 109
+              (List._∷_ 79 (List._∷_ 102 (List._∷_ 102 (List._∷_ 115 (List._∷_ 101 (List._∷_ 116 List.[]))))))))))))))))))))))) (Syntax.tcons (Syntax.tyInt Syntax.w64) Syntax.tnil))
+              (Syntax.tcons (Syntax.tyInt Syntax.w64) Syntax.tnil)))) 2048) Syntax.tnil))),
         ) (List._∷_ (
-          9,
-          Mut.msleft (Referent.rtF (Referent.fInt Syntax.w8)) (Syntax.tyRef
-              Syntax.erased Syntax.mut (Syntax.tyInt Syntax.w8)),
-        ) List.[])))))))))
+          1,
+          Rows'.sslice (Referent.rtF (Referent.fInt Syntax.w8)) (Syntax.tyRef
+              (Syntax.named 0) Syntax.imm (Syntax.tyInt Syntax.w8)) 0,
+        ) (List._∷_ (
+          2,
+          Rows'.any-gone (Syntax.tyEnum (List._∷_ 104 (List._∷_ 101 (List._∷_ 97 (List._∷_ 100 (List._∷_
+              101 (List._∷_ 114 (List._∷_ 58 (List._∷_ 58 (List._∷_ 110 (List._∷_ 117 (List._∷_ 109 (List._∷_ 98 (List._∷_ 101 (List._∷_ 114 (List._∷_ 105 (List._∷_ 110 (List._∷_ 103
+              (List._∷_ 58 (List._∷_ 58 (List._∷_ 78 (List._∷_ 117 (List._∷_ 109 (List._∷_ 98 (List._∷_ 101 (List._∷_ 114 (List._∷_ 105 (List._∷_ 110 (List._∷_ 103
+              List.[])))))))))))))))))))))))))))) (Syntax.ttcons Syntax.tnil (Syntax.ttcons Syntax.tnil Syntax.ttnil))),
+        ) (List._∷_ (
+          3,
+          Relend.mslice-owed (Referent.rtF (Referent.fInt
+              Syntax.w8)) (Syntax.tyRef (Syntax.named 1) Syntax.mut (Syntax.tyInt Syntax.w8)) 1 3 (Row.lease (κs .1 .0) (qs .1 .0)),
+        ) (List._∷_ (
+          4,
+          Rows.arrF LentTilePartEntry.row
+              2048 0,
+        ) (List._∷_ (5, Rows'.whole (Declared.row MainHeader.the-type)) (List._∷_ (6, Rows'.any-gone (Syntax.tyArray LentTilePartEntry.spelled 2048)) (List._∷_ (
+          7,
+          Rows'.any-gone (Syntax.tyRef Syntax.erased Syntax.mut (Syntax.tyArray LentTilePartEntry.pointee 2048)),
+        ) (List._∷_ (
+          8,
+          Rows'.any-gone (Syntax.tyStruct (List._∷_ 38
+              (List._∷_ 91 (List._∷_ 93 List.[]))) (Syntax.tcons (Syntax.tyRef Syntax.erased Syntax.mut LentTilePartEntry.pointee) (Syntax.tcons (Syntax.tyInt Syntax.w64)
+              Syntax.tnil))),
+        ) (List._∷_ (9, Rows'.any-gone (Syntax.tyRef Syntax.erased Syntax.mut (Syntax.tyInt Syntax.w8))) (List._∷_ (
+          10,
+          Mut.msleft (Referent.rtF (Referent.fInt
+              Syntax.w8)) (Syntax.tyRef Syntax.erased Syntax.mut (Syntax.tyInt Syntax.w8)),
+        ) List.[]))))))))))
 
         abbrev G0 : Row.Cx
         G0 = record { locals = t0; slots = List._∷_ (Row.lease (κs .0) (qs .0)) (List._∷_ (Row.lease (κs .1 .0) (qs .1 .0)) (List._∷_ Row.off (List._∷_ Row.off List.[]))) }
@@ -1595,25 +1825,25 @@ module _ (claims· : Claims) where
         G13 = record { locals = g9; slots = List._∷_ (Row.lease (κs .0) (qs .0)) (List._∷_ Row.off (List._∷_ Row.alive (List._∷_ Row.alive List.[]))) }
 
         abbrev G14 : Row.Cx
-        G14 = record { locals = g9; slots = List._∷_ (Row.lease (κs .0) (qs .0)) (List._∷_ Row.off (List._∷_ Row.dead (List._∷_ Row.alive List.[]))) }
+        G14 = record { locals = g10; slots = List._∷_ (Row.lease (κs .0) (qs .0)) (List._∷_ Row.off (List._∷_ Row.alive (List._∷_ Row.alive List.[]))) }
 
         abbrev G15 : Row.Cx
         G15 = record { locals = g10; slots = List._∷_ (Row.lease (κs .0) (qs .0)) (List._∷_ Row.off (List._∷_ Row.dead (List._∷_ Row.alive List.[]))) }
 
         abbrev G16 : Row.Cx
-        G16 = record { locals = g10; slots = List._∷_ (Row.lease (κs .0) (qs .0)) (List._∷_ Row.off (List._∷_ Row.off (List._∷_ Row.alive List.[]))) }
+        G16 = record { locals = g11; slots = List._∷_ (Row.lease (κs .0) (qs .0)) (List._∷_ Row.off (List._∷_ Row.dead (List._∷_ Row.alive List.[]))) }
 
         abbrev G17 : Row.Cx
-        G17 = record { locals = g10; slots = List._∷_ (Row.lease (κs .0) (qs .0)) (List._∷_ Row.off (List._∷_ Row.off (List._∷_ Row.dead List.[]))) }
+        G17 = record { locals = g11; slots = List._∷_ (Row.lease (κs .0) (qs .0)) (List._∷_ Row.off (List._∷_ Row.off (List._∷_ Row.alive List.[]))) }
 
         abbrev G18 : Row.Cx
-        G18 = record { locals = t11; slots = List._∷_ (Row.lease (κs .0) (qs .0)) (List._∷_ (Row.lease (κs .1 .0) (qs .1 .0)) (List._∷_ Row.off (List._∷_ Row.dead List.[]))) }
+        G18 = record { locals = g11; slots = List._∷_ (Row.lease (κs .0) (qs .0)) (List._∷_ Row.off (List._∷_ Row.off (List._∷_ Row.dead List.[]))) }
 
         abbrev G19 : Row.Cx
-        G19 = record { locals = t11; slots = List._∷_ (Row.lease (κs .0) (qs .0)) (List._∷_ (Row.lease (κs .1 .0) (qs .1 .0)) (List._∷_ Row.off (List._∷_ Row.dead List.[]))) }
+        G19 = record { locals = t12; slots = List._∷_ (Row.lease (κs .0) (qs .0)) (List._∷_ (Row.lease (κs .1 .0) (qs .1 .0)) (List._∷_ Row.off (List._∷_ Row.dead List.[]))) }
 
         abbrev G20 : Row.Cx
-        G20 = record { locals = t11; slots = List._∷_ (Row.lease (κs .0) (qs .0)) (List._∷_ (Row.lease (κs .1 .0) (qs .1 .0)) (List._∷_ Row.off (List._∷_ Row.off List.[]))) }
+        G20 = record { locals = t12; slots = List._∷_ (Row.lease (κs .0) (qs .0)) (List._∷_ (Row.lease (κs .1 .0) (qs .1 .0)) (List._∷_ Row.off (List._∷_ Row.dead List.[]))) }
 
         abbrev G21 : Row.Cx
         G21 = record { locals = t12; slots = List._∷_ (Row.lease (κs .0) (qs .0)) (List._∷_ (Row.lease (κs .1 .0) (qs .1 .0)) (List._∷_ Row.off (List._∷_ Row.off List.[]))) }
@@ -1628,7 +1858,10 @@ module _ (claims· : Claims) where
         G24 = record { locals = t15; slots = List._∷_ (Row.lease (κs .0) (qs .0)) (List._∷_ (Row.lease (κs .1 .0) (qs .1 .0)) (List._∷_ Row.off (List._∷_ Row.off List.[]))) }
 
         abbrev G25 : Row.Cx
-        G25 = record { locals = t1; slots = List._∷_ (Row.lease (κs .0) (qs .0)) (List._∷_ (Row.lease (κs .1 .0) (qs .1 .0)) (List._∷_ Row.off (List._∷_ Row.off List.[]))) }
+        G25 = record { locals = t16; slots = List._∷_ (Row.lease (κs .0) (qs .0)) (List._∷_ (Row.lease (κs .1 .0) (qs .1 .0)) (List._∷_ Row.off (List._∷_ Row.off List.[]))) }
+
+        abbrev G26 : Row.Cx
+        G26 = record { locals = t1; slots = List._∷_ (Row.lease (κs .0) (qs .0)) (List._∷_ (Row.lease (κs .1 .0) (qs .1 .0)) (List._∷_ Row.off (List._∷_ Row.off List.[]))) }
 
         abbrev Δ0 : Typed.Outs
         Δ0 = record { next = Option.none; exits = List.[]; returns = Option.some G1 }
@@ -1638,15 +1871,15 @@ module _ (claims· : Claims) where
           abbrev E : Wp.Env 𝓤 H
           E = Frame.EnvOf 𝓤 H (List._∷_ (Kinds.tyR r) (Enter.tysP ps xs)) bs
 
-          d0 : Typed.Typed 𝓤 H A 𝓣 E G25 b9 Δ0 (at0 bs)
+          d0 : Typed.Typed 𝓤 H A 𝓣 E G26 b9 Δ0 (at0 bs)
           d0 = Typed.t-return 𝓤 H A W 𝓣 E Δ0 tt
 
-          d1 : Typed.Typed 𝓤 H A 𝓣 E G24 b9 Δ0 (at1 bs)
-          d1 = Typed.g-pre 𝓤 H A W 𝓣 E G24 G25 b9 Δ0 (Typed.pass T24 T25 (s23 bs)) (at0 bs) (Scalar.g-room 𝓤 H A W E G24 5 (Syntax.tyArray LentTilePartEntry.spelled 2048)
+          d1 : Typed.Typed 𝓤 H A 𝓣 E G25 b9 Δ0 (at1 bs)
+          d1 = Typed.g-pre 𝓤 H A W 𝓣 E G25 G26 b9 Δ0 (Typed.pass T25 T26 (s24 bs)) (at0 bs) (Scalar.g-room 𝓤 H A W E G25 6 (Syntax.tyArray LentTilePartEntry.spelled 2048)
               (Init.room-arr 𝓤 H A W LentTilePartEntry.row 2048 0 2048 Path'.refl)) d0
 
-          d2 : Typed.Typed 𝓤 H A 𝓣 E G23 b9 Δ0 (at2 bs)
-          d2 = Typed.g-pre 𝓤 H A W 𝓣 E G23 G24 b9 Δ0 (Typed.pass T23 T24 (s22 bs)) (at1 bs) (Scalar.g-room 𝓤 H A W E G23 4 (Syntax.tyEnum (List._∷_ 104 (List._∷_ 101 (List._∷_ 97
+          d2 : Typed.Typed 𝓤 H A 𝓣 E G24 b9 Δ0 (at2 bs)
+          d2 = Typed.g-pre 𝓤 H A W 𝓣 E G24 G25 b9 Δ0 (Typed.pass T24 T25 (s23 bs)) (at1 bs) (Scalar.g-room 𝓤 H A W E G24 5 (Syntax.tyEnum (List._∷_ 104 (List._∷_ 101 (List._∷_ 97
               (List._∷_ 100 (List._∷_ 101 (List._∷_ 114 (List._∷_ 58 (List._∷_ 58 (List._∷_ 112 (List._∷_ 97 (List._∷_ 114 (List._∷_ 115 (List._∷_ 101 (List._∷_ 58 (List._∷_ 58
               (List._∷_ 77 (List._∷_ 97 (List._∷_ 105 (List._∷_ 110 (List._∷_ 72 (List._∷_ 101 (List._∷_ 97 (List._∷_ 100 (List._∷_ 101 (List._∷_ 114
               List.[]))))))))))))))))))))))))) (Syntax.ttcons (Syntax.tcons (Syntax.tyStruct (List._∷_ 104 (List._∷_ 101 (List._∷_ 97 (List._∷_ 100 (List._∷_ 101 (List._∷_ 114
@@ -1671,13 +1904,13 @@ module _ (claims· : Claims) where
               112 (List._∷_ 101 (List._∷_ 115 (List._∷_ 58 (List._∷_ 58 (List._∷_ 82 (List._∷_ 101 (List._∷_ 102 (List._∷_ 117 (List._∷_ 115 (List._∷_ 97 (List._∷_ 108
               List.[])))))))))))))) (Syntax.tcons (Syntax.tyInt Syntax.w32) (Syntax.tcons (Syntax.tyInt Syntax.w64) Syntax.tnil))) Syntax.tnil) Syntax.ttnil))) Path'.refl)) d1
 
-          d3 : Typed.Typed 𝓤 H A 𝓣 E G22 b10 Δ0 (at3 bs)
-          d3 = Typed.s-seq 𝓤 H A W 𝓣 E G22 G23 b8 b9 Δ0 (Typed.both (s21 bs)) (at2 bs) (Plain.t-call-plain 𝓤 H A W 𝓣 0 ps·2 r·2 (claims· .4) (claims· .5)
-              "records::tables::header_with" (known .2) E (λ pos β. β) G22 (
-                record { pos = 4; st = List.[]; d = 0; at = λ x. x },
+          d3 : Typed.Typed 𝓤 H A 𝓣 E G23 b10 Δ0 (at3 bs)
+          d3 = Typed.s-seq 𝓤 H A W 𝓣 E G23 G24 b8 b9 Δ0 (Typed.both (s22 bs)) (at2 bs) (Plain.t-call-plain 𝓤 H A W 𝓣 0 ps·2 r·2 (claims· .4) (claims· .5)
+              "records::tables::header_with" (known .2) E (λ pos β. β) G23 (
+                record { pos = 5; st = List.[]; d = 0; at = λ x. x },
                 (
                   record {
-                    pos = 5;
+                    pos = 6;
                     st = List.[];
                     d = 0;
                     at = λ x.
@@ -1685,10 +1918,10 @@ module _ (claims· : Claims) where
                   },
                   tt,
                 ),
-              ) 0 List.[] (Call.sub-id 𝓤 H A W (G22 .slots)) (
+              ) 0 List.[] (Call.sub-id 𝓤 H A W (G23 .slots)) (
                 (
                   Yields.yields-copy 𝓤 H A W (λ ρ. Unit) (Declared.row MainHeader.the-type) Path'.refl (Copies.cEnum
-                      MainHeader.the-type Laws.the-laws Laws.the-copy .copy 𝓤 H A W) (Rows'.whole (Declared.row MainHeader.the-type)) (λ x. x) (λ x. x) (λ ρ told. Local.mem-whole 𝓤 H A W
+                      MainHeader.the-type Laws'.the-laws Laws'.the-copy .copy 𝓤 H A W) (Rows'.whole (Declared.row MainHeader.the-type)) (λ x. x) (λ x. x) (λ ρ told. Local.mem-whole 𝓤 H A W
                       (Declared.row MainHeader.the-type) ρ) λ ρ told. Local.whole-mem 𝓤 H A W (Declared.row MainHeader.the-type) ρ,
                   Path'.refl,
                 ),
@@ -1722,50 +1955,60 @@ module _ (claims· : Claims) where
               101 (List._∷_ 116 List.[]))))))))))))))))))))))) (Syntax.tcons (Syntax.tyInt Syntax.w64) Syntax.tnil)) (Syntax.tcons (Syntax.tyInt Syntax.w64) Syntax.tnil)))) 2048)
               Syntax.tnil)))) tt Path'.refl) d2
 
-          d4 : Typed.Typed 𝓤 H A 𝓣 E G21 b10 Δ0 (at4 bs)
-          d4 = Typed.g-pre 𝓤 H A W 𝓣 E G21 G22 b10 Δ0 (Typed.pass T21 T22 (s20 bs)) (at3 bs) (Scalar.g-room 𝓤 H A W E G21 3 (Syntax.tyArray LentTilePartEntry.spelled 2048)
+          d4 : Typed.Typed 𝓤 H A 𝓣 E G22 b10 Δ0 (at4 bs)
+          d4 = Typed.g-pre 𝓤 H A W 𝓣 E G22 G23 b10 Δ0 (Typed.pass T22 T23 (s21 bs)) (at3 bs) (Scalar.g-room 𝓤 H A W E G22 4 (Syntax.tyArray LentTilePartEntry.spelled 2048)
               (Init.room-arr 𝓤 H A W LentTilePartEntry.row 2048 0 2048 Path'.refl)) d3
 
-          d5 : Typed.Typed 𝓤 H A 𝓣 E G20 b11 Δ0 (at5 bs)
-          d5 = Typed.s-seq 𝓤 H A W 𝓣 E G20 G21 b7 b10 Δ0 (Typed.pass T19 T21 (s19 bs)) (at4 bs) (LocalCopy.t-val-copy 𝓤 H A W E 𝓣 (λ ρ. Unit) G20 3 5 (Array'.Array
+          d5 : Typed.Typed 𝓤 H A 𝓣 E G21 b11 Δ0 (at5 bs)
+          d5 = Typed.s-seq 𝓤 H A W 𝓣 E G21 G22 b7 b10 Δ0 (Typed.pass T20 T22 (s20 bs)) (at4 bs) (LocalCopy.t-val-copy 𝓤 H A W E 𝓣 (λ ρ. Unit) G21 4 6 (Array'.Array
               LentTilePartEntry.row 2048) (Syntax.tyArray LentTilePartEntry.spelled 2048) (Syntax.tyArray LentTilePartEntry.spelled 2048) (Rows.arrF LentTilePartEntry.row 2048 0)
-              (Rows.arrF LentTilePartEntry.row 2048 0) (λ x. x) (λ x. x) (λ x. x) Path'.refl (Own.told-none 𝓤 H A (G20 .slots)) (Yields.yields-copy 𝓤 H A W (λ ρ. Unit)
+              (Rows.arrF LentTilePartEntry.row 2048 0) (λ x. x) (λ x. x) (λ x. x) Path'.refl (Own.told-none 𝓤 H A (G21 .slots)) (Yields.yields-copy 𝓤 H A W (λ ρ. Unit)
               (Array'.Array LentTilePartEntry.row 2048) Path'.refl (Copies.cArr LentTilePartEntry.row LentTilePartEntry.copies 2048 .copy 𝓤 H A W) (Rows.arrF LentTilePartEntry.row
               2048 0) (λ x. x) (λ x. x) (λ ρ told. Whole.mem-arr 𝓤 H A W LentTilePartEntry.row 2048 ρ) λ ρ told. Whole.arr-mem 𝓤 H A W LentTilePartEntry.row 2048 tt ρ)
               (Reads.room-gone 𝓤 H A (Syntax.tyArray LentTilePartEntry.spelled 2048)) (Yields.makes-mem 𝓤 H A W (λ ρ. Unit) (Array'.Array LentTilePartEntry.row 2048) Path'.refl
               (Rows.arrF LentTilePartEntry.row 2048 0) (λ x. x) λ ρ told. Whole.arr-mem 𝓤 H A W LentTilePartEntry.row 2048 tt ρ) Path'.refl Path'.refl) d4
 
-          d6 : Typed.Typed 𝓤 H A 𝓣 E G19 b11 Δ0 (at6 bs)
-          d6 = Typed.g-pre 𝓤 H A W 𝓣 E G19 G20 b11 Δ0 (λ Ψ. Ψ) (at5 bs) (Lifetime.g-forget 𝓤 H A W E G19 3 Row.dead Path'.refl) d5
+          d6 : Typed.Typed 𝓤 H A 𝓣 E G20 b11 Δ0 (at6 bs)
+          d6 = Typed.g-pre 𝓤 H A W 𝓣 E G20 G21 b11 Δ0 (λ Ψ. Ψ) (at5 bs) (Lifetime.g-forget 𝓤 H A W E G20 3 Row.dead Path'.refl) d5
 
-          d7 : Typed.Typed 𝓤 H A 𝓣 E G18 b11 Δ0 (at7 bs)
-          d7 = Typed.g-pre 𝓤 H A W 𝓣 E G18 G19 b11 Δ0 (Typed.give (s17 bs)) (at6 bs) (Know.g-sl-known 𝓤 H A W (Referent.fInt Syntax.w8) E G18 2 1 (Syntax.tyRef (Syntax.named 1)
+          d7 : Typed.Typed 𝓤 H A 𝓣 E G19 b11 Δ0 (at7 bs)
+          d7 = Typed.g-pre 𝓤 H A W 𝓣 E G19 G20 b11 Δ0 (Typed.give (s18 bs)) (at6 bs) (Know.g-sl-known 𝓤 H A W (Referent.fInt Syntax.w8) E G19 3 1 (Syntax.tyRef (Syntax.named 1)
               Syntax.mut (Syntax.tyInt Syntax.w8)) (Row.lease (κs .1 .0) (qs .1 .0)) 0 (λ x. x) record { fits = Dec'.lit< tt } (Reads.as-is 𝓤 H A (Mut.mslice (Referent.rtF
               (Referent.fInt Syntax.w8)) (Syntax.tyRef (Syntax.named 1) Syntax.mut (Syntax.tyInt Syntax.w8)) 1)) Path'.refl tt) d6
 
-          d8 : Typed.Typed 𝓤 H A 𝓣 E G17 b11 Δ0 (at8 bs)
-          d8 = Typed.g-pre 𝓤 H A W 𝓣 E G17 G18 b11 Δ0 (Typed.both (s16 bs)) (at7 bs) (Relend.g-back-sl 𝓤 H A W E (Referent.rtF (Referent.fInt Syntax.w8)) G17 9 2 1 3 (Syntax.tyRef
+          d8 : Typed.Typed 𝓤 H A 𝓣 E G18 b11 Δ0 (at8 bs)
+          d8 = Typed.g-pre 𝓤 H A W 𝓣 E G18 G19 b11 Δ0 (Typed.both (s17 bs)) (at7 bs) (Relend.g-back-sl 𝓤 H A W E (Referent.rtF (Referent.fInt Syntax.w8)) G18 10 3 1 3 (Syntax.tyRef
               (Syntax.named 1) Syntax.mut (Syntax.tyInt Syntax.w8)) (Syntax.tyRef Syntax.erased Syntax.mut (Syntax.tyInt Syntax.w8)) (Row.lease (κs .1 .0) (qs .1 .0)) (λ x. x) (λ
               x. x) (Reads.as-is 𝓤 H A (Mut.msleft (Referent.rtF (Referent.fInt Syntax.w8)) (Syntax.tyRef Syntax.erased Syntax.mut (Syntax.tyInt Syntax.w8)))) (Reads.as-is 𝓤 H A
               (Relend.mslice-owed (Referent.rtF (Referent.fInt Syntax.w8)) (Syntax.tyRef (Syntax.named 1) Syntax.mut (Syntax.tyInt Syntax.w8)) 1 3 (Row.lease (κs .1 .0) (qs .1
               .0)))) Path'.refl Path'.refl) d7
 
-          d9 : Typed.Typed 𝓤 H A 𝓣 E G16 b11 Δ0 (at9 bs)
-          d9 = Typed.g-pre 𝓤 H A W 𝓣 E G16 G17 b11 Δ0 (λ Ψ. Ψ) (at8 bs) (Lifetime.g-end 𝓤 H A W E G16 3 Path'.refl) d8
+          d9 : Typed.Typed 𝓤 H A 𝓣 E G17 b11 Δ0 (at9 bs)
+          d9 = Typed.g-pre 𝓤 H A W 𝓣 E G17 G18 b11 Δ0 (λ Ψ. Ψ) (at8 bs) (Lifetime.g-end 𝓤 H A W E G17 3 Path'.refl) d8
 
-          d10 : Typed.Typed 𝓤 H A 𝓣 E G15 b11 Δ0 (at10 bs)
-          d10 = Typed.g-pre 𝓤 H A W 𝓣 E G15 G16 b11 Δ0 (λ Ψ. Ψ) (at9 bs) (Lifetime.g-forget 𝓤 H A W E G15 2 Row.dead Path'.refl) d9
+          d10 : Typed.Typed 𝓤 H A 𝓣 E G16 b11 Δ0 (at10 bs)
+          d10 = Typed.g-pre 𝓤 H A W 𝓣 E G16 G17 b11 Δ0 (λ Ψ. Ψ) (at9 bs) (Lifetime.g-forget 𝓤 H A W E G16 2 Row.dead Path'.refl) d9
 
-          d11 : Typed.Typed 𝓤 H A 𝓣 E G14 b11 Δ0 (at11 bs)
-          d11 = Typed.g-pre 𝓤 H A W 𝓣 E G14 G15 b11 Δ0 (Typed.both (s13 bs)) (at10 bs) (Borrow.g-back-arr 𝓤 H A W E LentTilePartEntry.row G14 7 3 2 2048 (Syntax.tyRef Syntax.erased
+          d11 : Typed.Typed 𝓤 H A 𝓣 E G15 b11 Δ0 (at11 bs)
+          d11 = Typed.g-pre 𝓤 H A W 𝓣 E G15 G16 b11 Δ0 (Typed.both (s14 bs)) (at10 bs) (Borrow.g-back-arr 𝓤 H A W E LentTilePartEntry.row G15 8 4 2 2048 (Syntax.tyRef Syntax.erased
               Syntax.mut LentTilePartEntry.pointee) (λ x. x) (λ x. x) (Reads.as-is 𝓤 H A (Mut.msleft LentTilePartEntry.row (Syntax.tyRef Syntax.erased Syntax.mut
               LentTilePartEntry.pointee))) (Reads.as-is 𝓤 H A (Rows.arr-owed LentTilePartEntry.row 2048 2)) Path'.refl) d10
 
-          d12 : Typed.Typed 𝓤 H A 𝓣 E G13 b11 Δ0 (at12 bs)
-          d12 = Typed.g-pre 𝓤 H A W 𝓣 E G13 G14 b11 Δ0 (λ Ψ. Ψ) (at11 bs) (Lifetime.g-end 𝓤 H A W E G13 2 Path'.refl) d11
+          d12 : Typed.Typed 𝓤 H A 𝓣 E G14 b11 Δ0 (at12 bs)
+          d12 = Typed.g-pre 𝓤 H A W 𝓣 E G14 G15 b11 Δ0 (λ Ψ. Ψ) (at11 bs) (Lifetime.g-end 𝓤 H A W E G14 2 Path'.refl) d11
 
-          d13 : Typed.Typed 𝓤 H A 𝓣 E G12 b12 Δ0 (at13 bs)
-          d13 = Typed.s-seq 𝓤 H A W 𝓣 E G12 G13 b6 b11 Δ0 (Typed.both (s11 bs)) (at12 bs) (Plain.t-call-plain 𝓤 H A W 𝓣 3 ps·1 r·1 (claims· .2) (claims· .3)
+          d13 : Typed.Typed 𝓤 H A 𝓣 E G13 b11 Δ0 (at13 bs)
+          d13 = Typed.g-pre 𝓤 H A W 𝓣 E G13 G14 b11 Δ0 (Typed.pass T13 T14 (s12 bs)) (at12 bs) (Scalar.g-room 𝓤 H A W E G13 2 (Syntax.tyEnum (List._∷_ 104 (List._∷_ 101 (List._∷_
+              97 (List._∷_ 100 (List._∷_ 101 (List._∷_ 114 (List._∷_ 58 (List._∷_ 58 (List._∷_ 110 (List._∷_ 117 (List._∷_ 109 (List._∷_ 98 (List._∷_ 101 (List._∷_ 114 (List._∷_
+              105 (List._∷_ 110 (List._∷_ 103 (List._∷_ 58 (List._∷_ 58 (List._∷_ 78 (List._∷_ 117 (List._∷_ 109 (List._∷_ 98 (List._∷_ 101 (List._∷_ 114 (List._∷_ 105 (List._∷_
+              110 (List._∷_ 103 List.[])))))))))))))))))))))))))))) (Syntax.ttcons Syntax.tnil (Syntax.ttcons Syntax.tnil Syntax.ttnil))) (Local.room-whole 𝓤 H A W (Declared.row
+              Numbering.the-type) (Syntax.tyEnum (List._∷_ 104 (List._∷_ 101 (List._∷_ 97 (List._∷_ 100 (List._∷_ 101 (List._∷_ 114 (List._∷_ 58 (List._∷_ 58 (List._∷_ 110
+              (List._∷_ 117 (List._∷_ 109 (List._∷_ 98 (List._∷_ 101 (List._∷_ 114 (List._∷_ 105 (List._∷_ 110 (List._∷_ 103 (List._∷_ 58 (List._∷_ 58 (List._∷_ 78 (List._∷_ 117
+              (List._∷_ 109 (List._∷_ 98 (List._∷_ 101 (List._∷_ 114 (List._∷_ 105 (List._∷_ 110 (List._∷_ 103 List.[])))))))))))))))))))))))))))) (Syntax.ttcons Syntax.tnil
+              (Syntax.ttcons Syntax.tnil Syntax.ttnil))) Path'.refl)) d12
+
+          d14 : Typed.Typed 𝓤 H A 𝓣 E G12 b12 Δ0 (at14 bs)
+          d14 = Typed.s-seq 𝓤 H A W 𝓣 E G12 G13 b6 b11 Δ0 (Typed.both (s11 bs)) (at13 bs) (Plain.t-call-plain 𝓤 H A W 𝓣 3 ps·1 r·1 (claims· .2) (claims· .3)
               "records::main_header::parse_main_header" (known .1) E (λ pos β. β) G12 (
                 record {
                   pos = 1;
@@ -1774,124 +2017,153 @@ module _ (claims· : Claims) where
                       = λ x. x;
                 },
                 (
-                  record { pos = 7; ty = Syntax.tyRef Syntax.erased Syntax.mut LentTilePartEntry.pointee; ref = λ x. x },
+                  record { pos = 2; st = List.[]; d = 0; at = λ x. x },
                   (
                     record {
-                      pos = 9;
-                      ty = Syntax.tyRef
-                          Syntax.erased Syntax.mut (Syntax.tyInt Syntax.w8);
-                      ref = λ x. x;
+                      pos = 8;
+                      ty = Syntax.tyRef Syntax.erased Syntax.mut LentTilePartEntry.pointee;
+                      ref = λ
+                          x. x;
                     },
-                    tt,
+                    (record { pos = 10; ty = Syntax.tyRef Syntax.erased Syntax.mut (Syntax.tyInt Syntax.w8); ref = λ x. x }, tt),
                   ),
                 ),
-              ) 4 (List._∷_ 0 (List._∷_ 2 (List._∷_ 3 List.[]))) (Call.sub-id 𝓤 H A W (G12 .slots)) (
-                ShrSlice.spares-sslice 𝓤 H A W (Referent.rtF (Referent.fInt Syntax.w8)) (Syntax.tyRef (Syntax.named 0) Syntax.imm (Syntax.tyInt Syntax.w8)) 0,
-                Shared.reads-sslice 𝓤
-                    H A W (Referent.rtF (Referent.fInt Syntax.w8)) (Syntax.tyRef (Syntax.named 0) Syntax.imm (Syntax.tyInt Syntax.w8)) 0,
+              ) 5 (List._∷_ 0 (List._∷_ 2 (List._∷_ 3
+              List.[]))) (Call.sub-id 𝓤 H A W (G12 .slots)) (
+                ShrSlice.spares-sslice 𝓤 H A W (Referent.rtF (Referent.fInt Syntax.w8)) (Syntax.tyRef (Syntax.named 0) Syntax.imm
+                    (Syntax.tyInt Syntax.w8)) 0,
+                Shared.reads-sslice 𝓤 H A W (Referent.rtF (Referent.fInt Syntax.w8)) (Syntax.tyRef (Syntax.named 0) Syntax.imm (Syntax.tyInt Syntax.w8))
+                    0,
                 Path'.refl,
                 (
-                  Reads.as-is 𝓤 H A (Mut.mslice
-                      LentTilePartEntry.row (Syntax.tyRef Syntax.erased Syntax.mut LentTilePartEntry.pointee) 2),
-                  Mut.reads-mslice 𝓤 H A W LentTilePartEntry.row (Syntax.tyRef Syntax.erased
-                      Syntax.mut LentTilePartEntry.pointee) 2,
-                  Path'.refl,
                   (
-                    Reads.as-is 𝓤 H A (Mut.mslice (Referent.rtF (Referent.fInt Syntax.w8)) (Syntax.tyRef Syntax.erased Syntax.mut
-                        (Syntax.tyInt Syntax.w8)) 3),
-                    Mut.reads-mslice 𝓤 H A W (Referent.rtF (Referent.fInt Syntax.w8)) (Syntax.tyRef Syntax.erased Syntax.mut (Syntax.tyInt Syntax.w8)) 3,
+                    Yields.yields-copy 𝓤 H A W (λ ρ. Unit) (Declared.row Numbering.the-type) Path'.refl (Copies.cEnum Numbering.the-type Laws.the-laws Laws.the-copy
+                        .copy 𝓤 H A W) (Rows'.whole (Declared.row Numbering.the-type)) (λ x. x) (λ x. x) (λ ρ told. Local.mem-whole 𝓤 H A W (Declared.row Numbering.the-type) ρ) λ ρ told.
+                        Local.whole-mem 𝓤 H A W (Declared.row Numbering.the-type) ρ,
                     Path'.refl,
-                    tt,
+                  ),
+                  (
+                    Reads.as-is 𝓤 H A (Mut.mslice LentTilePartEntry.row (Syntax.tyRef Syntax.erased Syntax.mut
+                        LentTilePartEntry.pointee) 2),
+                    Mut.reads-mslice 𝓤 H A W LentTilePartEntry.row (Syntax.tyRef Syntax.erased Syntax.mut LentTilePartEntry.pointee) 2,
+                    Path'.refl,
+                    (
+                      Reads.as-is 𝓤 H A (Mut.mslice (Referent.rtF (Referent.fInt Syntax.w8)) (Syntax.tyRef Syntax.erased Syntax.mut (Syntax.tyInt Syntax.w8)) 3),
+                      Mut.reads-mslice 𝓤 H A W
+                          (Referent.rtF (Referent.fInt Syntax.w8)) (Syntax.tyRef Syntax.erased Syntax.mut (Syntax.tyInt Syntax.w8)) 3,
+                      Path'.refl,
+                      tt,
+                    ),
                   ),
                 ),
-              ) (Reads.room-gone 𝓤 H A (Syntax.tyEnum (List._∷_ 104 (List._∷_ 101 (List._∷_ 97 (List._∷_ 100 (List._∷_ 101 (List._∷_ 114 (List._∷_ 58 (List._∷_ 58
-              (List._∷_ 112 (List._∷_ 97 (List._∷_ 114 (List._∷_ 115 (List._∷_ 101 (List._∷_ 58 (List._∷_ 58 (List._∷_ 77 (List._∷_ 97 (List._∷_ 105 (List._∷_ 110 (List._∷_ 72
-              (List._∷_ 101 (List._∷_ 97 (List._∷_ 100 (List._∷_ 101 (List._∷_ 114 List.[]))))))))))))))))))))))))) (Syntax.ttcons (Syntax.tcons (Syntax.tyStruct (List._∷_ 104
-              (List._∷_ 101 (List._∷_ 97 (List._∷_ 100 (List._∷_ 101 (List._∷_ 114 (List._∷_ 58 (List._∷_ 58 (List._∷_ 112 (List._∷_ 97 (List._∷_ 114 (List._∷_ 115 (List._∷_ 101
-              (List._∷_ 58 (List._∷_ 58 (List._∷_ 77 (List._∷_ 97 (List._∷_ 105 (List._∷_ 110 (List._∷_ 72 (List._∷_ 101 (List._∷_ 97 (List._∷_ 100 (List._∷_ 101 (List._∷_ 114
-              (List._∷_ 73 (List._∷_ 110 (List._∷_ 102 (List._∷_ 111 List.[]))))))))))))))))))))))))))))) (Syntax.tcons (Syntax.tyStruct (List._∷_ 116 (List._∷_ 121 (List._∷_ 112
-              (List._∷_ 101 (List._∷_ 115 (List._∷_ 58 (List._∷_ 58 (List._∷_ 67 (List._∷_ 111 (List._∷_ 100 (List._∷_ 101 (List._∷_ 115 (List._∷_ 116 (List._∷_ 114 (List._∷_ 101
-              (List._∷_ 97 (List._∷_ 109 (List._∷_ 79 (List._∷_ 102 (List._∷_ 102 (List._∷_ 115 (List._∷_ 101 (List._∷_ 116 List.[]))))))))))))))))))))))) (Syntax.tcons
-              (Syntax.tyInt Syntax.w64) Syntax.tnil)) (Syntax.tcons (Syntax.tyInt Syntax.w64) (Syntax.tcons (Syntax.tyInt Syntax.w64) (Syntax.tcons (Syntax.tyInt Syntax.w64)
-              Syntax.tnil))))) Syntax.tnil) (Syntax.ttcons (Syntax.tcons (Syntax.tyStruct (List._∷_ 116 (List._∷_ 121 (List._∷_ 112 (List._∷_ 101 (List._∷_ 115 (List._∷_ 58
-              (List._∷_ 58 (List._∷_ 82 (List._∷_ 101 (List._∷_ 102 (List._∷_ 117 (List._∷_ 115 (List._∷_ 97 (List._∷_ 108 List.[])))))))))))))) (Syntax.tcons (Syntax.tyInt
-              Syntax.w32) (Syntax.tcons (Syntax.tyInt Syntax.w64) Syntax.tnil))) Syntax.tnil) Syntax.ttnil)))) (tt, (tt, (tt, tt))) Path'.refl) d12
+              ) (Reads.room-gone 𝓤 H A (Syntax.tyEnum
+              (List._∷_ 104 (List._∷_ 101 (List._∷_ 97 (List._∷_ 100 (List._∷_ 101 (List._∷_ 114 (List._∷_ 58 (List._∷_ 58 (List._∷_ 112 (List._∷_ 97 (List._∷_ 114 (List._∷_ 115
+              (List._∷_ 101 (List._∷_ 58 (List._∷_ 58 (List._∷_ 77 (List._∷_ 97 (List._∷_ 105 (List._∷_ 110 (List._∷_ 72 (List._∷_ 101 (List._∷_ 97 (List._∷_ 100 (List._∷_ 101
+              (List._∷_ 114 List.[]))))))))))))))))))))))))) (Syntax.ttcons (Syntax.tcons (Syntax.tyStruct (List._∷_ 104 (List._∷_ 101 (List._∷_ 97 (List._∷_ 100 (List._∷_ 101
+              (List._∷_ 114 (List._∷_ 58 (List._∷_ 58 (List._∷_ 112 (List._∷_ 97 (List._∷_ 114 (List._∷_ 115 (List._∷_ 101 (List._∷_ 58 (List._∷_ 58 (List._∷_ 77 (List._∷_ 97
+              (List._∷_ 105 (List._∷_ 110 (List._∷_ 72 (List._∷_ 101 (List._∷_ 97 (List._∷_ 100 (List._∷_ 101 (List._∷_ 114 (List._∷_ 73 (List._∷_ 110 (List._∷_ 102 (List._∷_ 111
+              List.[]))))))))))))))))))))))))))))) (Syntax.tcons (Syntax.tyStruct (List._∷_ 116 (List._∷_ 121 (List._∷_ 112 (List._∷_ 101 (List._∷_ 115 (List._∷_ 58 (List._∷_ 58
+              (List._∷_ 67 (List._∷_ 111 (List._∷_ 100 (List._∷_ 101 (List._∷_ 115 (List._∷_ 116 (List._∷_ 114 (List._∷_ 101 (List._∷_ 97 (List._∷_ 109 (List._∷_ 79 (List._∷_ 102
+              (List._∷_ 102 (List._∷_ 115 (List._∷_ 101 (List._∷_ 116 List.[]))))))))))))))))))))))) (Syntax.tcons (Syntax.tyInt Syntax.w64) Syntax.tnil)) (Syntax.tcons
+              (Syntax.tyInt Syntax.w64) (Syntax.tcons (Syntax.tyInt Syntax.w64) (Syntax.tcons (Syntax.tyInt Syntax.w64) Syntax.tnil))))) Syntax.tnil) (Syntax.ttcons (Syntax.tcons
+              (Syntax.tyStruct (List._∷_ 116 (List._∷_ 121 (List._∷_ 112 (List._∷_ 101 (List._∷_ 115 (List._∷_ 58 (List._∷_ 58 (List._∷_ 82 (List._∷_ 101 (List._∷_ 102 (List._∷_
+              117 (List._∷_ 115 (List._∷_ 97 (List._∷_ 108 List.[])))))))))))))) (Syntax.tcons (Syntax.tyInt Syntax.w32) (Syntax.tcons (Syntax.tyInt Syntax.w64) Syntax.tnil)))
+              Syntax.tnil) Syntax.ttnil)))) (tt, (tt, (tt, tt))) Path'.refl) d13
 
-          d14 : Typed.Typed 𝓤 H A 𝓣 E G11 b13 Δ0 (at14 bs)
-          d14 = Typed.s-seq 𝓤 H A W 𝓣 E G11 G12 b5 b12 Δ0 (Typed.ask (s10 bs)) (at13 bs) (Relend.t-sl-aggregate 𝓤 H A W E (Referent.rtF (Referent.fInt Syntax.w8)) 𝓣 (Relend.asMut
-              (Referent.rtF (Referent.fInt Syntax.w8))) G11 8 9 3 (Syntax.tyRef Syntax.erased Syntax.mut (Syntax.tyInt Syntax.w8)) (Syntax.tyRef Syntax.erased Syntax.mut
-              (Syntax.tyInt Syntax.w8)) (λ x. x) (Scalar.oFld 2 (List._∷_ (Syntax.field 1) List.[]) (Syntax.tyInt Syntax.w64) 8 λ v. Shared.lenV (v .0)) (Reads.as-is 𝓤 H A
+          d15 : Typed.Typed 𝓤 H A 𝓣 E G11 b13 Δ0 (at15 bs)
+          d15 = Typed.s-seq 𝓤 H A W 𝓣 E G11 G12 b5 b12 Δ0 (Typed.ask (s10 bs)) (at14 bs) (Relend.t-sl-aggregate 𝓤 H A W E (Referent.rtF (Referent.fInt Syntax.w8)) 𝓣 (Relend.asMut
+              (Referent.rtF (Referent.fInt Syntax.w8))) G11 9 10 3 (Syntax.tyRef Syntax.erased Syntax.mut (Syntax.tyInt Syntax.w8)) (Syntax.tyRef Syntax.erased Syntax.mut
+              (Syntax.tyInt Syntax.w8)) (λ x. x) (Scalar.oFld 3 (List._∷_ (Syntax.field 1) List.[]) (Syntax.tyInt Syntax.w64) 8 λ v. Shared.lenV (v .0)) (Reads.as-is 𝓤 H A
               (Relend.msptr (Referent.rtF (Referent.fInt Syntax.w8)) (Syntax.tyRef Syntax.erased Syntax.mut (Syntax.tyInt Syntax.w8)) 3)) (Reads.room-gone 𝓤 H A (Syntax.tyStruct
               (List._∷_ 38 (List._∷_ 91 (List._∷_ 93 List.[]))) (Syntax.tcons (Syntax.tyRef Syntax.erased Syntax.mut (Syntax.tyInt Syntax.w8)) (Syntax.tcons (Syntax.tyInt
               Syntax.w64) Syntax.tnil)))) (
                 Relend.reads-owed-len 𝓤 H A W (Referent.rtF (Referent.fInt Syntax.w8)) (Syntax.tyRef (Syntax.named 1) Syntax.mut (Syntax.tyInt
                     Syntax.w8)) 1 3 (Row.lease (κs .1 .0) (qs .1 .0)) 8 Path'.refl,
                 Path'.refl,
-              ) Path'.refl Path'.refl λ b o k. tt) d13
+              ) Path'.refl Path'.refl λ b o k. tt) d14
 
-          d15 : Typed.Typed 𝓤 H A 𝓣 E G10 b14 Δ0 (at15 bs)
-          d15 = Typed.s-seq 𝓤 H A W 𝓣 E G10 G11 b4 b13 Δ0 (Typed.give (s9 bs)) (at14 bs) (Relend.t-sl-relend 𝓤 H A W E (Referent.rtF (Referent.fInt Syntax.w8)) 𝓣 G10 2 8 1 3
+          d16 : Typed.Typed 𝓤 H A 𝓣 E G10 b14 Δ0 (at16 bs)
+          d16 = Typed.s-seq 𝓤 H A W 𝓣 E G10 G11 b4 b13 Δ0 (Typed.give (s9 bs)) (at15 bs) (Relend.t-sl-relend 𝓤 H A W E (Referent.rtF (Referent.fInt Syntax.w8)) 𝓣 G10 3 9 1 3
               (Syntax.tyRef (Syntax.named 1) Syntax.mut (Syntax.tyInt Syntax.w8)) (Syntax.tyRef Syntax.erased Syntax.mut (Syntax.tyInt Syntax.w8)) (Row.lease (κs .1 .0) (qs .1 .0))
               0 (λ x. x) (Reads.as-is 𝓤 H A (Mut.mslice (Referent.rtF (Referent.fInt Syntax.w8)) (Syntax.tyRef (Syntax.named 1) Syntax.mut (Syntax.tyInt Syntax.w8)) 1))
-              (Reads.room-gone 𝓤 H A (Syntax.tyRef Syntax.erased Syntax.mut (Syntax.tyInt Syntax.w8))) Path'.refl tt Path'.refl Path'.refl Path'.refl λ b o. tt) d14
+              (Reads.room-gone 𝓤 H A (Syntax.tyRef Syntax.erased Syntax.mut (Syntax.tyInt Syntax.w8))) Path'.refl tt Path'.refl Path'.refl Path'.refl λ b o. tt) d15
 
-          d16 : Typed.Typed 𝓤 H A 𝓣 E G9 b14 Δ0 (at16 bs)
-          d16 = Typed.g-pre 𝓤 H A W 𝓣 E G9 G10 b14 Δ0 (λ Ψ. Ψ) (at15 bs) (Lifetime.g-begin 𝓤 H A W E G9 3 (tt, (tt, (tt, (tt, (tt, (tt, (tt, (tt, (tt, (tt, tt))))))))))) d15
+          d17 : Typed.Typed 𝓤 H A 𝓣 E G9 b14 Δ0 (at17 bs)
+          d17 = Typed.g-pre 𝓤 H A W 𝓣 E G9 G10 b14 Δ0 (λ Ψ. Ψ) (at16 bs) (Lifetime.g-begin 𝓤 H A W E G9 3 (tt, (tt, (tt, (tt, (tt, (tt, (tt, (tt, (tt, (tt, (tt, tt)))))))))))) d16
 
-          d17 : Typed.Typed 𝓤 H A 𝓣 E G8 b15 Δ0 (at17 bs)
-          d17 = Typed.s-seq 𝓤 H A W 𝓣 E G8 G9 b3 b14 Δ0 (Typed.ask (s7 bs)) (at16 bs) (Relend.t-sl-aggregate 𝓤 H A W E LentTilePartEntry.row 𝓣 (Relend.asMut LentTilePartEntry.row)
-              G8 6 7 2 (Syntax.tyRef Syntax.erased Syntax.mut (Syntax.tyArray LentTilePartEntry.pointee 2048)) (Syntax.tyRef Syntax.erased Syntax.mut LentTilePartEntry.pointee) (λ
+          d18 : Typed.Typed 𝓤 H A 𝓣 E G8 b15 Δ0 (at18 bs)
+          d18 = Typed.s-seq 𝓤 H A W 𝓣 E G8 G9 b3 b14 Δ0 (Typed.ask (s7 bs)) (at17 bs) (Relend.t-sl-aggregate 𝓤 H A W E LentTilePartEntry.row 𝓣 (Relend.asMut LentTilePartEntry.row)
+              G8 7 8 2 (Syntax.tyRef Syntax.erased Syntax.mut (Syntax.tyArray LentTilePartEntry.pointee 2048)) (Syntax.tyRef Syntax.erased Syntax.mut LentTilePartEntry.pointee) (λ
               x. x) (Scalar.oBig Syntax.w64 2048) (Reads.as-is 𝓤 H A (Relend.msptr LentTilePartEntry.row (Syntax.tyRef Syntax.erased Syntax.mut (Syntax.tyArray
               LentTilePartEntry.pointee 2048)) 2)) (Reads.room-gone 𝓤 H A (Syntax.tyStruct (List._∷_ 38 (List._∷_ 91 (List._∷_ 93 List.[]))) (Syntax.tcons (Syntax.tyRef
               Syntax.erased Syntax.mut LentTilePartEntry.pointee) (Syntax.tcons (Syntax.tyInt Syntax.w64) Syntax.tnil)))) record { lower = record { fits = Dec'.lit< tt } }
-              Path'.refl Path'.refl λ b o k. tt) d16
+              Path'.refl Path'.refl λ b o k. tt) d17
 
-          d18 : Typed.Typed 𝓤 H A 𝓣 E G7 b16 Δ0 (at18 bs)
-          d18 = Typed.s-seq 𝓤 H A W 𝓣 E G7 G8 b2 b15 Δ0 (Typed.give (s6 bs)) (at17 bs) (Borrow.t-arr-borrow 𝓤 H A W E 𝓣 LentTilePartEntry.row G7 3 6 2048 2 (Syntax.tyRef
+          d19 : Typed.Typed 𝓤 H A 𝓣 E G7 b16 Δ0 (at19 bs)
+          d19 = Typed.s-seq 𝓤 H A W 𝓣 E G7 G8 b2 b15 Δ0 (Typed.give (s6 bs)) (at18 bs) (Borrow.t-arr-borrow 𝓤 H A W E 𝓣 LentTilePartEntry.row G7 4 7 2048 2 (Syntax.tyRef
               Syntax.erased Syntax.mut (Syntax.tyArray LentTilePartEntry.pointee 2048)) (λ x. x) (Reads.as-is 𝓤 H A (Rows.arrF LentTilePartEntry.row 2048 0)) (Reads.room-gone 𝓤 H A
-              (Syntax.tyRef Syntax.erased Syntax.mut (Syntax.tyArray LentTilePartEntry.pointee 2048))) Path'.refl (λ b o. tt) (Dec'.lit< tt, Dec'.lit< tt)) d17
+              (Syntax.tyRef Syntax.erased Syntax.mut (Syntax.tyArray LentTilePartEntry.pointee 2048))) Path'.refl (λ b o. tt) (Dec'.lit< tt, Dec'.lit< tt)) d18
 
-          d19 : Typed.Typed 𝓤 H A 𝓣 E G6 b16 Δ0 (at19 bs)
-          d19 = Typed.g-pre 𝓤 H A W 𝓣 E G6 G7 b16 Δ0 (λ Ψ. Ψ) (at18 bs) (Lifetime.g-begin 𝓤 H A W E G6 2 (tt, (tt, (tt, (tt, (tt, (tt, (tt, (tt, (tt, (tt, tt))))))))))) d18
+          d20 : Typed.Typed 𝓤 H A 𝓣 E G6 b16 Δ0 (at20 bs)
+          d20 = Typed.g-pre 𝓤 H A W 𝓣 E G6 G7 b16 Δ0 (λ Ψ. Ψ) (at19 bs) (Lifetime.g-begin 𝓤 H A W E G6 2 (tt, (tt, (tt, (tt, (tt, (tt, (tt, (tt, (tt, (tt, (tt, tt)))))))))))) d19
 
-          d20 : Typed.Typed 𝓤 H A 𝓣 E G5 b16 Δ0 (at20 bs)
-          d20 = Typed.g-pre 𝓤 H A W 𝓣 E G5 G6 b16 Δ0 (Typed.pass T5 T6 (s4 bs)) (at19 bs) (Scalar.g-room 𝓤 H A W E G5 5 (Syntax.tyArray LentTilePartEntry.spelled 2048)
-              (Init.room-arr 𝓤 H A W LentTilePartEntry.row 2048 0 2048 Path'.refl)) d19
+          d21 : Typed.Typed 𝓤 H A 𝓣 E G5 b16 Δ0 (at21 bs)
+          d21 = Typed.g-pre 𝓤 H A W 𝓣 E G5 G6 b16 Δ0 (Typed.pass T5 T6 (s4 bs)) (at20 bs) (Scalar.g-room 𝓤 H A W E G5 6 (Syntax.tyArray LentTilePartEntry.spelled 2048)
+              (Init.room-arr 𝓤 H A W LentTilePartEntry.row 2048 0 2048 Path'.refl)) d20
 
-          d21 : Typed.Typed 𝓤 H A 𝓣 E G4 b17 Δ0 (at21 bs)
-          d21 = Typed.s-seq 𝓤 H A W 𝓣 E G4 G5 b1 b16 Δ0 (Typed.pass T4 T5 (s3 bs)) (at20 bs) (LocalCopy.t-val-copy 𝓤 H A W E 𝓣 (λ ρ. Unit) G4 5 3 (Array'.Array
+          d22 : Typed.Typed 𝓤 H A 𝓣 E G4 b17 Δ0 (at22 bs)
+          d22 = Typed.s-seq 𝓤 H A W 𝓣 E G4 G5 b1 b16 Δ0 (Typed.pass T4 T5 (s3 bs)) (at21 bs) (LocalCopy.t-val-copy 𝓤 H A W E 𝓣 (λ ρ. Unit) G4 6 4 (Array'.Array
               LentTilePartEntry.row 2048) (Syntax.tyArray LentTilePartEntry.spelled 2048) (Syntax.tyArray LentTilePartEntry.spelled 2048) (Rows.arrF LentTilePartEntry.row 2048 0)
               (Rows.arrF LentTilePartEntry.row 2048 0) (λ x. x) (λ x. x) (λ x. x) Path'.refl (Own.told-none 𝓤 H A (G4 .slots)) (Yields.yields-copy 𝓤 H A W (λ ρ. Unit) (Array'.Array
               LentTilePartEntry.row 2048) Path'.refl (Copies.cArr LentTilePartEntry.row LentTilePartEntry.copies 2048 .copy 𝓤 H A W) (Rows.arrF LentTilePartEntry.row 2048 0) (λ x.
               x) (λ x. x) (λ ρ told. Whole.mem-arr 𝓤 H A W LentTilePartEntry.row 2048 ρ) λ ρ told. Whole.arr-mem 𝓤 H A W LentTilePartEntry.row 2048 tt ρ) (Reads.room-gone 𝓤 H A
               (Syntax.tyArray LentTilePartEntry.spelled 2048)) (Yields.makes-mem 𝓤 H A W (λ ρ. Unit) (Array'.Array LentTilePartEntry.row 2048) Path'.refl (Rows.arrF
-              LentTilePartEntry.row 2048 0) (λ x. x) λ ρ told. Whole.arr-mem 𝓤 H A W LentTilePartEntry.row 2048 tt ρ) Path'.refl Path'.refl) d20
+              LentTilePartEntry.row 2048 0) (λ x. x) λ ρ told. Whole.arr-mem 𝓤 H A W LentTilePartEntry.row 2048 tt ρ) Path'.refl Path'.refl) d21
 
-          d22 : Typed.Typed 𝓤 H A 𝓣 E G3 b18 Δ0 (at22 bs)
-          d22 = Typed.s-seq 𝓤 H A W 𝓣 E G3 G4 b0 b17 Δ0 (Typed.both (s2 bs)) (at21 bs) (Plain.t-call-plain 𝓤 H A W 𝓣 0 ps·0 r·0 (claims· .0) (claims· .1)
-              "records::tables::new_table" (known .0) E (λ pos β. β) G3 tt 5 List.[] (Call.sub-id 𝓤 H A W (G3 .slots)) tt (Reads.room-gone 𝓤 H A (Syntax.tyArray
-              LentTilePartEntry.spelled 2048)) tt Path'.refl) d21
+          d23 : Typed.Typed 𝓤 H A 𝓣 E G3 b18 Δ0 (at23 bs)
+          d23 = Typed.s-seq 𝓤 H A W 𝓣 E G3 G4 b0 b17 Δ0 (Typed.both (s2 bs)) (at22 bs) (Plain.t-call-plain 𝓤 H A W 𝓣 0 ps·0 r·0 (claims· .0) (claims· .1)
+              "records::tables::new_table" (known .0) E (λ pos β. β) G3 tt 6 List.[] (Call.sub-id 𝓤 H A W (G3 .slots)) tt (Reads.room-gone 𝓤 H A (Syntax.tyArray
+              LentTilePartEntry.spelled 2048)) tt Path'.refl) d22
 
-          d23 : Typed.Typed 𝓤 H A 𝓣 E G2 b18 Δ0 (at23 bs)
-          d23 = Typed.g-pre 𝓤 H A W 𝓣 E G2 G3 b18 Δ0 (Typed.give (s1 bs)) (at22 bs) (Know.g-sl-known 𝓤 H A W (Referent.fInt Syntax.w8) E G2 2 1 (Syntax.tyRef (Syntax.named 1)
+          d24 : Typed.Typed 𝓤 H A 𝓣 E G2 b18 Δ0 (at24 bs)
+          d24 = Typed.g-pre 𝓤 H A W 𝓣 E G2 G3 b18 Δ0 (Typed.give (s1 bs)) (at23 bs) (Know.g-sl-known 𝓤 H A W (Referent.fInt Syntax.w8) E G2 3 1 (Syntax.tyRef (Syntax.named 1)
               Syntax.mut (Syntax.tyInt Syntax.w8)) (Row.lease (κs .1 .0) (qs .1 .0)) 0 (λ x. x) record { fits = Dec'.lit< tt } (Reads.as-is 𝓤 H A (Mut.mslice (Referent.rtF
-              (Referent.fInt Syntax.w8)) (Syntax.tyRef (Syntax.named 1) Syntax.mut (Syntax.tyInt Syntax.w8)) 1)) Path'.refl tt) d22
+              (Referent.fInt Syntax.w8)) (Syntax.tyRef (Syntax.named 1) Syntax.mut (Syntax.tyInt Syntax.w8)) 1)) Path'.refl tt) d23
 
-          d24 : Typed.Typed 𝓤 H A 𝓣 E G0 b18 Δ0 (at24 bs)
-          d24 = Typed.g-pre 𝓤 H A W 𝓣 E G0 G2 b18 Δ0 (Typed.give (s0 bs)) (at23 bs) (Know.g-shs-known 𝓤 H A W (Referent.fInt Syntax.w8) E G0 1 0 (Syntax.tyRef (Syntax.named 0)
+          d25 : Typed.Typed 𝓤 H A 𝓣 E G0 b18 Δ0 (at25 bs)
+          d25 = Typed.g-pre 𝓤 H A W 𝓣 E G0 G2 b18 Δ0 (Typed.give (s0 bs)) (at24 bs) (Know.g-shs-known 𝓤 H A W (Referent.fInt Syntax.w8) E G0 1 0 (Syntax.tyRef (Syntax.named 0)
               Syntax.imm (Syntax.tyInt Syntax.w8)) (Row.lease (κs .0) (qs .0)) 0 (λ x. x) record { fits = Dec'.lit< tt } (Reads.as-is 𝓤 H A (Rows'.sslice (Referent.rtF
-              (Referent.fInt Syntax.w8)) (Syntax.tyRef (Syntax.named 0) Syntax.imm (Syntax.tyInt Syntax.w8)) 0)) Path'.refl tt) d23
+              (Referent.fInt Syntax.w8)) (Syntax.tyRef (Syntax.named 0) Syntax.imm (Syntax.tyInt Syntax.w8)) 0)) Path'.refl tt) d24
 
           pub typed : Typed.Typed 𝓤 H A 𝓣 E (Function.Γin 2 ps r xs m κs qs) b18 (Function.Δret 2 ps r xs m κs qs) (Φ bs)
-          typed = d24
+          typed = d25
 
       module _ (κs : Lifetimes.Lfts 2) where
         pub record Args : Type 0 where
           pub codestream : Kinds.Den {n = 2} κs (ShrSlice.pShrS (Referent.rtF (Referent.fInt Syntax.w8)) 0 tt)
+          pub numbering : Kinds.Den {n = 2} κs (Value.pVal record {
+            ty = Declared.row Numbering.the-type;
+            one = Path'.refl;
+            val = Laws'3.val Numbering.the-type Laws.the-laws;
+            tells
+                = Laws'3.tells Numbering.the-type Laws.the-laws;
+            still = Laws'3.still Numbering.the-type Laws.the-copy Exit.yes;
+            row = Rows'.whole (Declared.row Numbering.the-type);
+            rd = λ x. x;
+            mk = λ x. x;
+          } λ M 𝓤 H A W. record {
+            copies = Laws'3.copy Numbering.the-type Laws.the-copy 𝓤 H A W;
+            lawful = Laws'3.lawful Numbering.the-type
+                Laws.the-laws 𝓤 H A W tt;
+            makes = Laws'3.makes Numbering.the-type Laws.the-plain 𝓤 H A;
+            in-mem = Local.mem-whole 𝓤 H A W (Declared.row Numbering.the-type);
+            of-mem =
+                Local.whole-mem 𝓤 H A W (Declared.row Numbering.the-type);
+          })
           pub out : Kinds.Den {n = 2} κs (MutSlice.pMutS (Referent.rtF (Referent.fInt Syntax.w8)) 1 tt)
 
         abbrev pub dens : (a : Args) → Kinds.Dens κs ps
-        dens = λ a. (a .codestream, (a .out, tt))
+        dens = λ a. (a .codestream, (a .numbering, (a .out, tt)))
 
       abbrev pub m0 : (κs : Lifetimes.Lfts 2) → (args : Args κs) → (blocks : List.List Nat.ℕ) → Typed.Mo T0
       m0 = λ κs args blocks. (tt, Enter.partsP κs 1 ps xs (dens κs args))
@@ -1968,7 +2240,7 @@ module _ (claims· : Claims) where
         pub table : After-table·own before
 
       abbrev pub Need-slice-aggregate-parse-main-header : Type 0
-      Need-slice-aggregate-parse-main-header = (c : After-table) → Relend.CountIs T8 6 7 (λ x. x) (λ u. 2048) (m6 (c .before) (c .table .given))
+      Need-slice-aggregate-parse-main-header = (c : After-table) → Relend.CountIs T8 7 8 (λ x. x) (λ u. 2048) (m6 (c .before) (c .table .given))
 
       abbrev pub m7 : (before : After-new-table) → (given : s6 (before .before .before .before .blocks) .gives (m5 (before .before) (After-new-table·gave before))) → Typed.Mo T9
       m7 = λ before given. s7 (before .before .before .before .blocks) .next (m6 before given)
@@ -2005,18 +2277,14 @@ module _ (claims· : Claims) where
                 x;
           },
           (
-            record { pos = 7; ty = Syntax.tyRef Syntax.erased Syntax.mut LentTilePartEntry.pointee; ref = λ x. x },
+            record { pos = 2; st = List.[]; d = 0; at = λ x. x },
             (
-              record {
-                pos = 9;
-                ty = Syntax.tyRef Syntax.erased
-                    Syntax.mut (Syntax.tyInt Syntax.w8);
-                ref = λ x. x;
-              },
-              tt,
+              record { pos = 8; ty = Syntax.tyRef Syntax.erased Syntax.mut LentTilePartEntry.pointee; ref = λ x. x },
+              (record { pos = 10; ty = Syntax.tyRef Syntax.erased Syntax.mut (Syntax.tyInt Syntax.w8); ref = λ x. x }, tt),
             ),
           ),
-        ) (m9 (before· .before) (before· .parse-main-header-arg .given))
+        ) (m9 (before· .before) (before· .parse-main-header-arg
+            .given))
 
       pub record After-parse-main-header : Type 0 where
         pub before : After-parse-main-header-arg
@@ -2032,98 +2300,98 @@ module _ (claims· : Claims) where
               x. x;
         },
         (
-          record { pos = 7; ty = Syntax.tyRef Syntax.erased Syntax.mut LentTilePartEntry.pointee; ref = λ x. x },
+          record { pos = 2; st = List.[]; d = 0; at = λ x. x },
           (
-            record {
-              pos = 9;
-              ty = Syntax.tyRef Syntax.erased
-                  Syntax.mut (Syntax.tyInt Syntax.w8);
-              ref = λ x. x;
-            },
-            tt,
+            record { pos = 8; ty = Syntax.tyRef Syntax.erased Syntax.mut LentTilePartEntry.pointee; ref = λ x. x },
+            (record { pos = 10; ty = Syntax.tyRef Syntax.erased Syntax.mut (Syntax.tyInt Syntax.w8); ref = λ x. x }, tt),
           ),
         ),
-      ) (m9 (c .before .before) (c .before .parse-main-header-arg .given)) (c .parse-main-header)
+      ) (m9 (c .before .before) (c .before .parse-main-header-arg
+          .given)) (c .parse-main-header)
 
-      abbrev pub m11 : (before : After-parse-main-header) → (given : s13 (before .before .before .before .before .before .before .blocks) .gives (m10 (before .before)
-          (After-parse-main-header·gave before))) → Typed.Mo T15
-      m11 = λ before given. s13 (before .before .before .before .before .before .before .blocks) .next (m10 (before .before) (After-parse-main-header·gave before)) given
+      abbrev pub m11 : (before : After-parse-main-header-arg) → (given : s11 (before .before .before .before .before .before .blocks) .gives (m9 (before .before) (before
+          .parse-main-header-arg .given))) → Typed.Mo T14
+      m11 = λ before given. s12 (before .before .before .before .before .before .blocks) (m10 before given)
+
+      abbrev pub m12 : (before : After-parse-main-header) → (given : s14 (before .before .before .before .before .before .before .blocks) .gives (m11 (before .before)
+          (After-parse-main-header·gave before))) → Typed.Mo T16
+      m12 = λ before given. s14 (before .before .before .before .before .before .before .blocks) .next (m11 (before .before) (After-parse-main-header·gave before)) given
 
       module _ (before· : After-parse-main-header) where
         pub record After-table2·own : Type 0 where
-          pub given : s13 (before· .before .before .before .before .before .before .blocks) .gives (m10 (before· .before) (After-parse-main-header·gave before·))
+          pub given : s14 (before· .before .before .before .before .before .before .blocks) .gives (m11 (before· .before) (After-parse-main-header·gave before·))
 
       pub record After-table2 : Type 0 where
         pub before : After-parse-main-header
         pub table2 : After-table2·own before
 
-      abbrev pub m12 : (before : After-table2) → (given : s16 (before .before .before .before .before .before .before .before .blocks) .gives (m11 (before .before) (before .table2
-          .given))) → Typed.Mo T18
-      m12 = λ before given. s16 (before .before .before .before .before .before .before .before .blocks) .next (m11 (before .before) (before .table2 .given)) given
+      abbrev pub m13 : (before : After-table2) → (given : s17 (before .before .before .before .before .before .before .before .blocks) .gives (m12 (before .before) (before .table2
+          .given))) → Typed.Mo T19
+      m13 = λ before given. s17 (before .before .before .before .before .before .before .before .blocks) .next (m12 (before .before) (before .table2 .given)) given
 
       module _ (before· : After-table2) where
         pub record After-out·own : Type 0 where
-          pub given : s16 (before· .before .before .before .before .before .before .before .blocks) .gives (m11 (before· .before) (before· .table2 .given))
+          pub given : s17 (before· .before .before .before .before .before .before .before .blocks) .gives (m12 (before· .before) (before· .table2 .given))
 
       pub record After-out : Type 0 where
         pub before : After-table2
         pub out : After-out·own before
 
-      abbrev pub m13 : (before : After-out) → (given : s17 (before .before .before .before .before .before .before .before .before .blocks) .gives (m12 (before .before) (before
-          .out .given))) → Typed.Mo T19
-      m13 = λ before given. s17 (before .before .before .before .before .before .before .before .before .blocks) .next (m12 (before .before) (before .out .given)) given
+      abbrev pub m14 : (before : After-out) → (given : s18 (before .before .before .before .before .before .before .before .before .blocks) .gives (m13 (before .before) (before
+          .out .given))) → Typed.Mo T20
+      m14 = λ before given. s18 (before .before .before .before .before .before .before .before .before .blocks) .next (m13 (before .before) (before .out .given)) given
 
-      abbrev pub m14 : (before : After-out) → (given : s17 (before .before .before .before .before .before .before .before .before .blocks) .gives (m12 (before .before) (before
-          .out .given))) → Typed.Mo T21
-      m14 = λ before given. s19 (before .before .before .before .before .before .before .before .before .blocks) (m13 before given)
-
-      abbrev pub m15 : (before : After-out) → (given : s17 (before .before .before .before .before .before .before .before .before .blocks) .gives (m12 (before .before) (before
+      abbrev pub m15 : (before : After-out) → (given : s18 (before .before .before .before .before .before .before .before .before .blocks) .gives (m13 (before .before) (before
           .out .given))) → Typed.Mo T22
       m15 = λ before given. s20 (before .before .before .before .before .before .before .before .before .blocks) (m14 before given)
 
+      abbrev pub m16 : (before : After-out) → (given : s18 (before .before .before .before .before .before .before .before .before .blocks) .gives (m13 (before .before) (before
+          .out .given))) → Typed.Mo T23
+      m16 = λ before given. s21 (before .before .before .before .before .before .before .before .before .blocks) (m15 before given)
+
       module _ (before· : After-out) where
         pub record After-slice-known2·own : Type 0 where
-          pub given : s17 (before· .before .before .before .before .before .before .before .before .blocks) .gives (m12 (before· .before) (before· .out .given))
+          pub given : s18 (before· .before .before .before .before .before .before .before .before .blocks) .gives (m13 (before· .before) (before· .out .given))
 
       pub record After-slice-known2 : Type 0 where
         pub before : After-out
         pub slice-known2 : After-slice-known2·own before
 
       abbrev pub Need-header-with-requires : Type 0
-      Need-header-with-requires = (c : After-slice-known2) → s21 (c .before .before .before .before .before .before .before .before .before .blocks) .asks (m15 (c .before) (c
+      Need-header-with-requires = (c : After-slice-known2) → s22 (c .before .before .before .before .before .before .before .before .before .blocks) .asks (m16 (c .before) (c
           .slice-known2 .given))
 
-      abbrev pub m16 : (before : After-slice-known2) → (given : s21 (before .before .before .before .before .before .before .before .before .before .blocks) .gives (m15 (before
-          .before) (before .slice-known2 .given))) → Typed.Mo T23
-      m16 = λ before given. s21 (before .before .before .before .before .before .before .before .before .before .blocks) .next (m15 (before .before) (before .slice-known2 .given))
+      abbrev pub m17 : (before : After-slice-known2) → (given : s22 (before .before .before .before .before .before .before .before .before .before .blocks) .gives (m16 (before
+          .before) (before .slice-known2 .given))) → Typed.Mo T24
+      m17 = λ before given. s22 (before .before .before .before .before .before .before .before .before .before .blocks) .next (m16 (before .before) (before .slice-known2 .given))
           given
 
       module _ (before· : After-slice-known2) where
         abbrev pub After-header-with·own : Type 0
-        After-header-with·own = Called.Called ps·2 r·2 (claims· .5) T22 (
-          record { pos = 4; st = List.[]; d = 0; at = λ x. x },
+        After-header-with·own = Called.Called ps·2 r·2 (claims· .5) T23 (
+          record { pos = 5; st = List.[]; d = 0; at = λ x. x },
           (
             record {
-              pos = 5;
+              pos = 6;
               st = List.[];
               d = 0;
               at = λ x. x;
             },
             tt,
           ),
-        ) (m15 (before· .before) (before· .slice-known2 .given))
+        ) (m16 (before· .before) (before· .slice-known2 .given))
 
       pub record After-header-with : Type 0 where
         pub before : After-slice-known2
         pub header-with : After-header-with·own before
 
-      abbrev pub After-header-with·gave : (c : After-header-with) → s21 (c .before .before .before .before .before .before .before .before .before .before .blocks) .gives (m15 (c
+      abbrev pub After-header-with·gave : (c : After-header-with) → s22 (c .before .before .before .before .before .before .before .before .before .before .blocks) .gives (m16 (c
           .before .before) (c .before .slice-known2 .given))
-      After-header-with·gave = λ c. Called.given ps·2 r·2 (claims· .5) T22 (
-        record { pos = 4; st = List.[]; d = 0; at = λ x. x },
+      After-header-with·gave = λ c. Called.given ps·2 r·2 (claims· .5) T23 (
+        record { pos = 5; st = List.[]; d = 0; at = λ x. x },
         (
           record {
-            pos = 5;
+            pos = 6;
             st = List.[];
             d = 0;
             at = λ x.
@@ -2131,52 +2399,54 @@ module _ (claims· : Claims) where
           },
           tt,
         ),
-      ) (m15 (c .before .before) (c .before .slice-known2 .given)) (c .header-with)
+      ) (m16 (c .before .before) (c .before .slice-known2 .given)) (c .header-with)
 
-      abbrev pub m17 : (before : After-slice-known2) → (given : s21 (before .before .before .before .before .before .before .before .before .before .blocks) .gives (m15 (before
-          .before) (before .slice-known2 .given))) → Typed.Mo T24
-      m17 = λ before given. s22 (before .before .before .before .before .before .before .before .before .before .blocks) (m16 before given)
-
-      abbrev pub m18 : (before : After-slice-known2) → (given : s21 (before .before .before .before .before .before .before .before .before .before .blocks) .gives (m15 (before
+      abbrev pub m18 : (before : After-slice-known2) → (given : s22 (before .before .before .before .before .before .before .before .before .before .blocks) .gives (m16 (before
           .before) (before .slice-known2 .given))) → Typed.Mo T25
       m18 = λ before given. s23 (before .before .before .before .before .before .before .before .before .before .blocks) (m17 before given)
 
+      abbrev pub m19 : (before : After-slice-known2) → (given : s22 (before .before .before .before .before .before .before .before .before .before .blocks) .gives (m16 (before
+          .before) (before .slice-known2 .given))) → Typed.Mo T26
+      m19 = λ before given. s24 (before .before .before .before .before .before .before .before .before .before .blocks) (m18 before given)
+
       abbrev pub Need-same-length : Type 0
-      Need-same-length = (c : After-header-with) → MutSlice.SameLen (Row.get 2 (T25 .locals) (m18 (c .before) (After-header-with·gave c))) (dens (c .before .before .before .before
-          .before .before .before .before .before .before .κs) (c .before .before .before .before .before .before .before .before .before .before .args) .1 .0)
+      Need-same-length = (c : After-header-with) → MutSlice.SameLen (Row.get 3 (T26 .locals) (m19 (c .before) (After-header-with·gave c))) (dens (c .before .before .before .before
+          .before .before .before .before .before .before .κs) (c .before .before .before .before .before .before .before .before .before .before .args) .1 .1 .0)
 
       abbrev pub Need-returns : Type 0
       Need-returns = (c : After-header-with) → Post· (c .before .before .before .before .before .before .before .before .before .before .κs) (dens (c .before .before .before
           .before .before .before .before .before .before .before .κs) (c .before .before .before .before .before .before .before .before .before .before .args)) (Function.resV r
-          (c .before .before .before .before .before .before .before .before .before .before .κs) (m18 (c .before) (After-header-with·gave c) .0)) (Clauses.atExit (Kinds.endedOf 2
+          (c .before .before .before .before .before .before .before .before .before .before .κs) (m19 (c .before) (After-header-with·gave c) .0)) (Clauses.atExit (Kinds.endedOf 2
           ps r) (c .before .before .before .before .before .before .before .before .before .before .κs) (dens (c .before .before .before .before .before .before .before .before
           .before .before .κs) (c .before .before .before .before .before .before .before .before .before .before .args)) (Enter.lastsP (c .before .before .before .before .before
           .before .before .before .before .before .κs) 1 ps xs (dens (c .before .before .before .before .before .before .before .before .before .before .κs) (c .before .before
-          .before .before .before .before .before .before .before .before .args)) (m18 (c .before) (After-header-with·gave c) .1)))
+          .before .before .before .before .before .before .before .before .args)) (m19 (c .before) (After-header-with·gave c) .1)))
 
       module _ (new-table-requires : Need-new-table-requires) (slice-aggregate-parse-main-header : Need-slice-aggregate-parse-main-header) (parse-main-header-requires :
           Need-parse-main-header-requires) (header-with-requires : Need-header-with-requires) (same-length : Need-same-length) (returns : Need-returns) where
         lay3 : (c : After-header-with) → at2 (c .before .before .before .before .before .before .before .before .before .before .blocks) (W0 (c .before .before .before .before
             .before .before .before .before .before .before .κs) (c .before .before .before .before .before .before .before .before .before .before .args) (c .before .before
-            .before .before .before .before .before .before .before .before .blocks)) (m16 (c .before) (After-header-with·gave c))
+            .before .before .before .before .before .before .before .before .blocks)) (m17 (c .before) (After-header-with·gave c))
         lay3 = λ c. (
           (
             Path'.refl,
             (
-              MutSlice.fix-len (Row.get 2 (T25 .locals) (m18 (c .before) (After-header-with·gave c)) .ptr) (Row.get 2 (T25 .locals) (m18 (c .before)
-                  (After-header-with·gave c)) .name) (Row.get 2 (T25 .locals) (m18 (c .before) (After-header-with·gave c)) .now) (dens (c .before .before .before .before .before .before
-                  .before .before .before .before .κs) (c .before .before .before .before .before .before .before .before .before .before .args) .1 .0 .now) (same-length record {
-                    before
-                        = c .before;
-                    header-with = c .header-with;
-                  }),
               tt,
+              (
+                MutSlice.fix-len (Row.get 3 (T26 .locals) (m19 (c .before) (After-header-with·gave c)) .ptr) (Row.get 3 (T26 .locals) (m19 (c .before)
+                    (After-header-with·gave c)) .name) (Row.get 3 (T26 .locals) (m19 (c .before) (After-header-with·gave c)) .now) (dens (c .before .before .before .before .before .before
+                    .before .before .before .before .κs) (c .before .before .before .before .before .before .before .before .before .before .args) .1 .1 .0 .now) (same-length record {
+                      before = c .before;
+                      header-with = c .header-with;
+                    }),
+                tt,
+              ),
             ),
           ),
           returns record { before = c .before; header-with = c .header-with },
         )
 
-        lay2 : (c : After-parse-main-header) → at12 (c .before .before .before .before .before .before .blocks) (W0 (c .before .before .before .before .before .before .κs) (c
+        lay2 : (c : After-parse-main-header) → at13 (c .before .before .before .before .before .before .blocks) (W0 (c .before .before .before .before .before .before .κs) (c
             .before .before .before .before .before .before .args) (c .before .before .before .before .before .before .blocks)) (m10 (c .before) (After-parse-main-header·gave c))
         lay2 = λ c. (
           Path'.refl,
@@ -2210,16 +2480,16 @@ module _ (claims· : Claims) where
                       };
                       slice-known2 = record { given = g'' };
                     };
-                    header-with = Called.called ps·2 r·2 (claims· .5) T22 (
+                    header-with = Called.called ps·2 r·2 (claims· .5) T23 (
                       record {
-                        pos = 4;
+                        pos = 5;
                         st =
                             List.[];
                         d = 0;
                         at = λ x. x;
                       },
-                      (record { pos = 5; st = List.[]; d = 0; at = λ x. x }, tt),
-                    ) (m15 record {
+                      (record { pos = 6; st = List.[]; d = 0; at = λ x. x }, tt),
+                    ) (m16 record {
                       before = record {
                         before = record {
                           before = c .before;
@@ -2234,10 +2504,10 @@ module _ (claims· : Claims) where
           ),
         )
 
-        lay1 : (c : After-new-table) → at21 (c .before .before .before .blocks) (W0 (c .before .before .before .κs) (c .before .before .before .args) (c .before .before .before
+        lay1 : (c : After-new-table) → at22 (c .before .before .before .blocks) (W0 (c .before .before .before .κs) (c .before .before .before .args) (c .before .before .before
             .blocks)) (m3 (c .before) (After-new-table·gave c))
         lay1 = λ c. λ g. (
-          Relend.count-is T8 6 7 (λ x. x) (λ u. 2048) (m6 record { before = c .before; new-table = c .new-table } g) (slice-aggregate-parse-main-header record {
+          Relend.count-is T8 7 8 (λ x. x) (λ u. 2048) (m6 record { before = c .before; new-table = c .new-table } g) (slice-aggregate-parse-main-header record {
             before = record { before = c .before; new-table = c .new-table };
             table = record { given = g };
           }),
@@ -2263,27 +2533,25 @@ module _ (claims· : Claims) where
                         ref = λ x. x;
                       },
                       (
-                        record { pos = 7; ty = Syntax.tyRef Syntax.erased Syntax.mut LentTilePartEntry.pointee; ref = λ x. x },
+                        record { pos = 2; st = List.[]; d = 0; at = λ x. x },
                         (
-                          record
-                              { pos = 9; ty = Syntax.tyRef Syntax.erased Syntax.mut (Syntax.tyInt Syntax.w8); ref = λ x. x },
-                          tt,
+                          record {
+                            pos = 8;
+                            ty = Syntax.tyRef Syntax.erased
+                                Syntax.mut LentTilePartEntry.pointee;
+                            ref = λ x. x;
+                          },
+                          (record { pos = 10; ty = Syntax.tyRef Syntax.erased Syntax.mut (Syntax.tyInt Syntax.w8); ref = λ x. x }, tt),
                         ),
                       ),
-                    ) (m9 record {
-                      before = record {
-                        before = c .before;
-                        new-table = c
-                            .new-table;
-                      };
-                      table = record { given = g };
-                    } g') g'';
+                    )
+                        (m9 record { before = record { before = c .before; new-table = c .new-table }; table = record { given = g } } g') g'';
                   },
             ),
           ),
         )
 
-        pub laid : (c : Start) → at24 (c .blocks) (W0 (c .κs) (c .args) (c .blocks)) (m0 (c .κs) (c .args) (c .blocks))
+        pub laid : (c : Start) → at25 (c .blocks) (W0 (c .κs) (c .args) (c .blocks)) (m0 (c .κs) (c .args) (c .blocks))
         laid = λ c. λ g. λ g'. (
           new-table-requires record { before = record { before = c; shared-slice-known = record { given = g } }; slice-known = record { given = g' } },
           λ
@@ -2297,7 +2565,7 @@ module _ (claims· : Claims) where
         module _ (κs : Lifetimes.Lfts 2) (qs : Lifetimes.Shares 2) where
           pub asked : (a : Kinds.Dens κs ps) → (good : Kinds.GoodsP κs ps a) → (pre : Pre· κs a) → (bs : List.List Nat.ℕ) → Φ bs (Any.wantQ 2 ps r xs m κs qs a (Post· κs a))
               (Function.init 2 ps r xs m κs qs a)
-          asked = λ a good pre bs. laid record { κs = κs; args = record { codestream = a .0; out = a .1 .0 }; blocks = bs; good = good; pre = pre }
+          asked = λ a good pre bs. laid record { κs = κs; args = record { codestream = a .0; numbering = a .1 .0; out = a .1 .1 .0 }; blocks = bs; good = good; pre = pre }
 
         module _ {M : Type 1} (𝓤 : URA.URA M) (H : Wp.Heap 𝓤) (A : Atoms.Atoms 𝓤) (W : Kit.Given 𝓤 H A) (𝓣 : Wp.Tables 𝓤 H) (known0 : Plain.Known 𝓤 H A W 𝓣 0 ps·0 r·0 (claims· .0)
             (claims· .1) "records::tables::new_table") (known1 : Plain.Known 𝓤 H A W 𝓣 3 ps·1 r·1 (claims· .2) (claims· .3) "records::main_header::parse_main_header") (known2 :

@@ -1,0 +1,16 @@
+-- The test is the definition's.
+use borrow.Author.Tests.{eq-eqb, ne-eqb}
+use Rattle.header.specs.Numbering.{numberingOf}
+use Rattle.header.proofs.numbering.numbering_of.Statement.{statement}
+use Rattle.header.proofs.numbering.numbering_of.Tie as tie
+
+returns : tie.Need-returns
+unfolding numberingOf
+returns c = rw (eq-eqb _ _ (c .if1 .taken))
+
+returns-2 : tie.Need-returns-2
+unfolding numberingOf
+returns-2 c = rw (ne-eqb _ _ (c .if1 .left))
+
+pub numbering-of-spec : {M : Type 1} → statement M
+numbering-of-spec = tie.close (tie.spec returns returns-2)
