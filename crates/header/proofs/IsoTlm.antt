@@ -61,6 +61,10 @@ module _ (s : List ℕ) (at ST SP : ℕ) (narrow : indexSize (stlm s at) ≡ ST)
 
 -- ---- a segment
 
+pub length-tlm : (t : TlmSegment) → length (bytesOfRows (tlmRows t)) ≡ 6 + length (t .pointers) * (t .ST + pointerWidth (t .SP))
+unfolding tlmRows widths
+length-tlm t = length-rows (tlmRows t) ∙ omega (arith, widths-pointers (t .ST) (t .SP) (t .pointers))
+
 module _ (front : List ℕ) (t : TlmSegment) (rest : List ℕ) (r : TlmRanges t) where
   pub tlm-marker : be 2 (front ++ (bytesOfRows (tlmRows t) ++ rest)) (length front) ≡ TLM
   unfolding tlmRows widths
@@ -84,11 +88,10 @@ module _ (front : List ℕ) (t : TlmSegment) (rest : List ℕ) (r : TlmRanges t)
   -- it is passed whole
   pub tlm-step : stepAt (front ++ (bytesOfRows (tlmRows t) ++ rest)) (length front)
       ≡ Segment (record { code = TLM; «high_ff» = true; next = length front + length (bytesOfRows (tlmRows t)) })
-  unfolding delimits highFF segmentEnd tlmRows widths
+  unfolding delimits highFF segmentEnd
   tlm-step =
       let s : List ℕ = front ++ (bytesOfRows (tlmRows t) ++ rest) in
-      let size : length (bytesOfRows (tlmRows t)) ≡ 6 + length (t .pointers) * (t .ST + pointerWidth (t .SP)) =
-      length-rows (tlmRows t) ∙ omega (arith, widths-pointers (t .ST) (t .SP) (t .pointers)) in
+      let size = length-tlm t in
       let whole : length s ≡ length front + (length (bytesOfRows (tlmRows t)) + length rest) = simp length-append in
       let ends : segmentEnd s (length front) ≡ length front + length (bytesOfRows (tlmRows t)) = omega (arith, length-field) in
       step-segment s (length front) (omega arith) (λ e. omega (arith, tlm-marker)) (ap delimits tlm-marker) (omega arith) (omega arith)

@@ -17,3 +17,4 @@ pub mod Base
 pub mod Iso
 pub mod IsoTlm
 pub mod IsoMain
+pub mod IsoNumbering

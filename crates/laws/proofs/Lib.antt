@@ -1,6 +1,7 @@
 pub mod SampleComputing
 pub mod SampleEdges
 pub mod SampleStandard
+pub mod SampleNumbering
 pub mod SamplePartition
 pub mod Demand3Entries
 pub mod Demand3Items

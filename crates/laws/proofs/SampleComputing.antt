@@ -1,14 +1,15 @@
--- What is unfolded to compute a walk, a marker, a scan, a split, an assembly, a search or component sizes over sample bytes.
+-- What is unfolded to compute a walk, a numbering, a marker, a scan, a split, an assembly, a search or component sizes over sample bytes.
 use Rattle.numbers.specs.Bytes.{be, bytesOf, put}
 use Rattle.numbers.specs.Ceiling.{ceilDiv}
 use Rattle.types.specs.Row.{rowOf, rowsOf}
 use Rattle.chain.specs.Chain.{also, onMove, counted, chain}
 use Rattle.header.specs.Step.{delimits, highFF, isFiller, segmentEnd, stepAt, moveOf, moveAt, stepsFrom}
 use Rattle.header.specs.Extent.{endedAs, extentEnd, extentOf}
-use Rattle.header.specs.Tlm.{entryCount, tlmAt, entryIn, entriesIn, placed}
+use Rattle.header.specs.Tlm.{entryCount, tlmAt, entryIn, entriesIn, unindexed, entryOn, entriesOn, placed}
 use Rattle.header.specs.Walk.{cutAt, tlmStep, passedAt, walkStepOf, walkStepAt, walkMove, walkAt, walkFrom}
 use Rattle.header.specs.Strip.{fillers, kept, decodeHeader, tlmEntries}
-use Rattle.header.specs.Parse.{readAs, stands, frontOf, behindFront, judged, tlmTable}
+use Rattle.header.specs.Numbering.{nextNumber, entriesBy, endedBy, unindexedSegments}
+use Rattle.header.specs.Parse.{readAs, stands, frontOf, behindFront, judged, behindFrontBy, judgedBy, tlmTable, tableBy}
 use Rattle.header.specs.Find.{firstOf, findIn, finding}
 use Rattle.parts.specs.Scan.{eocAt, sotStepAt, scanStepAt, scanFrom, entriesFrom, scanned, written, scannedTable}
 use Rattle.parts.specs.Split.{partEnd, splitStepAt, splitFrom, partsFrom, partsOf}
@@ -39,6 +40,10 @@ extents = tt
 unfoldable pub walks : Unit {0}
 unfolding samples delimits highFF isFiller segmentEnd stepAt entryCount tlmAt entryIn entriesIn placed cutAt tlmStep passedAt walkStepOf walkStepAt walkMove walkAt walkFrom fillers kept decodeHeader tlmEntries readAs stands frontOf behindFront judged tlmTable
 walks = tt
+
+unfoldable pub numberings : Unit {0}
+unfolding walks unindexed entryOn entriesOn nextNumber entriesBy endedBy unindexedSegments behindFrontBy judgedBy tableBy
+numberings = tt
 
 unfoldable pub findings : Unit {0}
 unfolding walks firstOf findIn finding

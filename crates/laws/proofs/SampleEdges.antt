@@ -6,6 +6,7 @@ use mathlib.Core.Path.{_≡_, refl, sym, _∙_}
 use mathlib.Core.Bool.{Bool, true, false}
 use mathlib.Core.List.{List, [], _∷_, _++_}
 use lib.ListN.{length, take, replicate}
+use Rattle.numbers.specs.Bytes.{bytesOf}
 use Rattle.types.specs.Markers.{SOC, SOT}
 use Rattle.types.specs.Refusals.{refusal}
 use Rattle.types.specs.Row.{rowOf, rowsOf}
@@ -15,7 +16,12 @@ use Rattle.header.specs.Step.{stepAt}
 use Rattle.header.specs.Extent.{extentOf}
 use Rattle.header.specs.Walk.{walkFrom}
 use Rattle.header.specs.Strip.{decodeHeader}
-use Rattle.header.specs.Parse.{judged, tlmTable}
+use Rattle.header.specs.Numbering.{unindexedSegments}
+use Rattle.header.specs.Parse.{judged, judgedBy, tlmTable, tableBy}
+use Rattle.header.specs.IsoMain.{mainHeader}
+use Rattle.header.specs.declared.numbering.Numbering.the-variants.{CarriedOn, Restarting}
+use Rattle.header.proofs.Numberings.{tables-agree}
+use Rattle.header.proofs.IsoMain.{upToSot}
 use Rattle.header.specs.Find.{finding}
 use Rattle.header.specs.declared.step.HeaderStep.the-variants.{Delimiter, Segment}
 use Rattle.header.specs.declared.find.Finding.{Finding}
@@ -41,8 +47,11 @@ use Rattle.reader.specs.Search.{foundIn}
 use Rattle.reader.specs.Growth.{regionAt, grown}
 use Rattle.reader.specs.declared.search.Found.the-variants.{Codestream}
 use Rattle.reader.proofs.GrowthLaws.{region-pow, whole-suffices, truncated-not, grown-end, grown-on}
-use Rattle.laws.proofs.SampleComputing.{samples, extents, walks, findings, scan-runs, split-runs, tiles, searches, siz-readings, components}
+use Rattle.laws.proofs.SampleComputing.{samples, extents, walks, numberings, findings, scan-runs, split-runs, tiles, searches, siz-readings, components}
+use Rattle.laws.proofs.SampleNumbering.{three}
 use Rattle.laws.specs.Sample.{two, zeros, sizOf, header, grid, counting, tlm, sot, part, head, withTlm, A, signature, jp2c}
+use Rattle.laws.proofs.SampleStandard as standard
+use Rattle.laws.proofs.SampleNumbering as many
 use Rattle.header.specs.declared.parse.MainHeader.the-variants as parse
 use Rattle.header.specs.declared.find.Finding.the-variants as finds
 use Rattle.parts.specs.declared.scan.Scanned.the-variants as scans
@@ -328,7 +337,7 @@ pub ltlm-7 : judged (withTlm (tlm 0x10 (0 ∷ 0 ∷ 14 ∷ []))) ≡ accepted 54
 unfolding walks
 ltlm-7 = refl
 
--- ---- * Two TLM segments, ST 0, two entries each: indices 0, 1, 0, 1.
+-- ---- * Two TLM segments, ST 0, two entries each: restarting, indices 0, 1, 0, 1; carried on, 0, 1, 2, 3.
 
 abbrev two-segments : List ℕ
 two-segments = withTlm (tlm 0 (0 ∷ 20 ∷ 0 ∷ 30 ∷ []) ++ tlm 0 (0 ∷ 40 ∷ 0 ∷ 50 ∷ []))
@@ -336,6 +345,83 @@ two-segments = withTlm (tlm 0 (0 ∷ 20 ∷ 0 ∷ 30 ∷ []) ++ tlm 0 (0 ∷ 40 
 pub from-0 : tlmTable two-segments ≡ entry 0 65 20 ∷ entry 1 85 30 ∷ entry 0 115 40 ∷ entry 1 155 50 ∷ []
 unfolding walks
 from-0 = refl
+
+pub restarted : tableBy Restarting two-segments ≡ entry 0 65 20 ∷ entry 1 85 30 ∷ entry 0 115 40 ∷ entry 1 155 50 ∷ []
+unfolding numberings
+restarted = refl
+
+pub carried-on : tableBy CarriedOn two-segments ≡ entry 0 65 20 ∷ entry 1 85 30 ∷ entry 2 115 40 ∷ entry 3 155 50 ∷ []
+unfolding numberings
+carried-on = refl
+
+-- both accept it; two segments have entries without an index, one more than the law on agreement asks
+pub carried-accepted : judgedBy CarriedOn two-segments ≡ accepted 65 45 4
+unfolding numberings
+carried-accepted = refl
+
+pub two-unindexed : unindexedSegments two-segments (walkFrom two-segments 2 .visits) ≡ 2
+unfolding numberings
+two-unindexed = refl
+
+-- ---- * An indexed segment between two of ST 0 does not move the count, and its index 65,535 stays: 0, 65,535, 1. Restarting: 0, 65,535, 0.
+
+abbrev between : List ℕ
+between = withTlm (tlm 0 (0 ∷ 20 ∷ []) ++ tlm 0x20 (0xff ∷ 0xff ∷ 0 ∷ 30 ∷ []) ++ tlm 0 (0 ∷ 40 ∷ []))
+
+pub carried-between : tableBy CarriedOn between ≡ entry 0 71 20 ∷ entry 65_535 91 30 ∷ entry 1 121 40 ∷ []
+unfolding numberings
+carried-between = refl
+
+pub restarted-between : tableBy Restarting between ≡ entry 0 71 20 ∷ entry 65_535 91 30 ∷ entry 0 121 40 ∷ []
+unfolding numberings
+restarted-between = refl
+
+-- ---- * One segment of ST 0 behind an indexed one: 7, 0, 1 by either.
+
+abbrev single : List ℕ
+single = withTlm (tlm 0x10 (7 ∷ 0 ∷ 20 ∷ []) ++ tlm 0 (0 ∷ 30 ∷ 0 ∷ 40 ∷ []))
+
+pub one-unindexed : unindexedSegments single (walkFrom single 2 .visits) ≤ 1
+unfolding numberings
+one-unindexed = omega arith
+
+pub single-agrees : tableBy CarriedOn single ≡ tableBy Restarting single
+single-agrees = tables-agree single one-unindexed
+
+pub single-carried : tableBy CarriedOn single ≡ entry 7 64 20 ∷ entry 0 84 30 ∷ entry 1 114 40 ∷ []
+unfolding numberings
+single-carried = refl
+
+-- ---- * 65,535 entries of ST 0, in segments of 32,765, 32,765 and 5: accepted. 65,536: 26 at the third; restarting accepts them.
+
+pub carried-65535 : judgedBy CarriedOn (upToSot standard.siz (three 32_765 5) []) ≡ accepted 131_133 45 65_535
+carried-65535 = many.carried 32_765 5 (omega arith) (omega arith) (omega arith)
+
+pub carried-65536 : judgedBy CarriedOn (upToSot standard.siz (three 32_765 6) []) ≡ parse.Refused (refusal 26 131_117)
+unfolding bytesOf
+carried-65536 = many.past 32_765 6 (omega arith) (omega arith) (omega arith) (omega arith) (bytesOf 2 SOT ++ []) (omega arith)
+
+pub restarting-65536 : judgedBy Restarting (upToSot standard.siz (three 32_765 6) []) ≡ accepted 131_135 45 65_536
+restarting-65536 = many.restarting 32_765 6 (omega arith) (omega arith)
+
+-- ---- * 65,536 of them, and behind them a segment that is cut: 26 at the third of theirs; restarting, 3.
+
+pub past-before-3 : judgedBy CarriedOn (mainHeader standard.siz (three 32_765 6) ++ many.cut) ≡ parse.Refused (refusal 26 131_117)
+past-before-3 = many.past 32_765 6 (omega arith) (omega arith) (omega arith) (omega arith) many.cut (omega arith)
+
+pub restarting-3 : judgedBy Restarting (mainHeader standard.siz (three 32_765 6) ++ many.cut) ≡ parse.Refused (refusal 3 131_135)
+restarting-3 = many.own-restarts 32_765 6 (omega arith) (omega arith) many.cut (omega arith) 3 many.cut-there
+
+-- ---- * 65,535 of them, and behind them one that is cut, with Ltlm 3, or with ST 3: 3, 4, 5 there.
+
+pub at-65535-3 : judgedBy CarriedOn (mainHeader standard.siz (three 32_765 5) ++ many.cut) ≡ parse.Refused (refusal 3 131_133)
+at-65535-3 = many.own-carries 32_765 5 (omega arith) (omega arith) many.cut (omega arith) 3 many.cut-there (omega arith)
+
+pub at-65535-4 : judgedBy CarriedOn (mainHeader standard.siz (three 32_765 5) ++ many.ltlm-3) ≡ parse.Refused (refusal 4 131_133)
+at-65535-4 = many.own-carries 32_765 5 (omega arith) (omega arith) many.ltlm-3 (omega arith) 4 many.ltlm-3-there (omega arith)
+
+pub at-65535-5 : judgedBy CarriedOn (mainHeader standard.siz (three 32_765 5) ++ many.st-3) ≡ parse.Refused (refusal 5 131_133)
+at-65535-5 = many.own-carries 32_765 5 (omega arith) (omega arith) many.st-3 (omega arith) 5 many.st-3-there (omega arith)
 
 -- ---- * Psot equal to the rest: accepted; one more: 9.
 

@@ -4,7 +4,7 @@ use native.Mathlib.Omega.{arith}
 use mathlib.Core.Path.{_≡_, refl}
 use mathlib.Core.Bool.{false}
 use mathlib.Core.List.{List, [], _∷_, _++_}
-use lib.ListN.{drop}
+use lib.ListN.{length, drop}
 use Rattle.numbers.specs.Bytes.{bytesOf}
 use Rattle.numbers.specs.Rows.{bytesOfRows}
 use Rattle.types.specs.Markers.{SIZ, EOC}
@@ -17,7 +17,7 @@ use Rattle.laws.specs.Sample.{A}
 use Rattle.laws.proofs.SampleComputing.{samples}
 
 -- 10 by 6 in tiles of 4 by 4, one component of 8 bits
-abbrev size : Size
+abbrev pub size : Size
 size =
     record {
       Rsiz = 0;
@@ -34,7 +34,7 @@ size =
     }
 
 -- SIZ as a segment: what its rows have behind SOC, marker and length
-abbrev siz : Segment
+abbrev pub siz : Segment
 siz = record { marker = SIZ; parameters = drop 6 (bytesOfRows (sizRows size)) }
 
 -- two lengths, with indices of 1 byte
@@ -68,6 +68,10 @@ A-main =
       fits = omega arith;
       pieces = (record { Ztlm = omega arith; ST = omega arith; SP = omega arith; Ltlm = omega arith; held = ((λ _. omega arith, omega arith), ((λ _. omega arith, omega arith), tt)) }, tt);
     }
+
+pub siz-length : length (segmentBytes siz) ≡ 43
+unfolding standards
+siz-length = refl
 
 -- and its tile-parts what those of scans ask
 pub A-parts : AllRanges parts
