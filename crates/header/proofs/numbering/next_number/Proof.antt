@@ -45,7 +45,7 @@ returns-2 c =
     let a = told .before .before .before .args in
     let p = told .before .before .before .pre in
     sym (ap (λ (n : Numbering). nextNumber n (a .codestream .now) (a .at) (a .first)) (told .enum-told2 .given .1)
-    ∙ next-counts _ _ _ (sym (c .before .index-size .ensures) ∙ c .if1 .taken)
+    ∙ next-counts _ _ _ (omega (arith, c .before .index-size .ensures, c .if1 .taken))
     ∙ ap (λ (m : ℕ). a .first + m) (sym (p .1 .0)))
 
 returns-3 : tie.Need-returns-3
@@ -53,7 +53,7 @@ returns-3 c =
     let told = c .before .before .before in
     let a = told .before .before .before .args in
     sym (ap (λ (n : Numbering). nextNumber n (a .codestream .now) (a .at) (a .first)) (told .enum-told2 .given .1)
-    ∙ next-stays _ _ _ (λ e. c .if1 .left (c .before .index-size .ensures ∙ e)))
+    ∙ next-stays _ _ _ (λ e. omega (arith, c .before .index-size .ensures, c .if1 .left)))
 
 pub next-number-spec : {M : Type 1} → statement M
 next-number-spec =

@@ -9,10 +9,10 @@ use Rattle.header.proofs.tlm.entry_index.Statement.{statement}
 use Rattle.header.proofs.tlm.entry_index.Tie as tie
 
 cast-result : tie.Need-cast-result
-cast-result c = omega (arith, c .before .before .pre .1 (c .if1 .taken))
+cast-result c = omega (arith, c .before .before .pre .1 (omega (arith, c .if1 .taken)))
 
 returns : tie.Need-returns
-returns c = rw (eq-eqb _ _ (c .if1 .taken))
+returns c = rw (eq-eqb (c .before .before .args .size) 0 (omega (arith, c .if1 .taken)))
 
 shared-slice-read-result : tie.Need-shared-slice-read-result
 shared-slice-read-result c = search needs
