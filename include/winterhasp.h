@@ -51,6 +51,7 @@ extern "C" {
 #define WINTERHASP_LISTING_TOO_LONG            23 /* the file is too long for the listing program */
 #define WINTERHASP_COMPONENTS_NOT_HELD         24 /* the image size segment (SIZ) does not hold the components that it counts */
 #define WINTERHASP_SUBSAMPLING_OF_0            25 /* a component's samples lie 0 apart */
+#define WINTERHASP_TLM_TOO_MANY_ENTRIES        26 /* the tile-part length segments (TLM) have more entries without an index than there are tile numbers */
 #define WINTERHASP_NO_GRID                     30 /* the image size segment (SIZ) lays no grid of tiles over the image */
 #define WINTERHASP_NO_SUCH_TILE                31 /* the grid has no tile of this index */
 
@@ -67,6 +68,15 @@ enum { WINTERHASP_NO_SUCH_COMPONENT = 256, WINTERHASP_NO_SUCH_MARKER = 257 };
    Any other number means Annex B's. The refusals of a tile are 30, then 31, and by the original's rule 10. */
 
 enum { WINTERHASP_RULE_ANNEX_B = 0, WINTERHASP_RULE_ORIGINAL = 1, WINTERHASP_RULE_IN_PLACE = 2 };
+
+/* Numberings: docs/RULES.md, "TLM". Which tile an entry of the main header's table is of, where it has no index; one that it has stays
+   what is read.
+   - WINTERHASP_NUMBERING_CARRIED_ON, by which winterhasp_parse_main_header goes: numbered on over the segments, as the standard has
+     it for segments in its order.
+   - WINTERHASP_NUMBERING_RESTARTING, to compare with the program that this library is ported from: from 0 in each segment.
+   Any other number means the first. */
+
+enum { WINTERHASP_NUMBERING_CARRIED_ON = 0, WINTERHASP_NUMBERING_RESTARTING = 1 };
 
 /* A table is lent as bytes, and has a row for each 18: a tile's index (2 bytes), the tile-part's offset in the codestream
    (8) and its length (8), big-endian. Bytes behind the last whole row are none. */
@@ -120,10 +130,18 @@ uint32_t winterhasp_main_header_extent(const uint8_t *prefix, size_t prefix_len,
 /* "Main header". Its TLM entries go to the rows of `table`, the header without TLM segments to `out`: the decode header, which
    rewrite and assembly take. `first_sot` is where the first tile-part stands, then the decode header's length and the number
    of rows. `fillers` counts the delimiters (second byte 92, or 30 to 3F) whose first byte is not FF: the walk passes them, and no
-   edition of the standard allows them. Refusals: 19, 1 to 6, 18, 17. */
+   edition of the standard allows them. Entries without an index are numbered on over the TLM segments. Refusals: 19, 1 to 6, 26,
+   18, 17. */
 uint32_t winterhasp_parse_main_header(const uint8_t *codestream, size_t codestream_len, uint8_t *table, size_t table_len,
                                       uint8_t *out, size_t out_len, uint64_t *first_sot, uint64_t *decode_length,
                                       uint64_t *entries, uint64_t *fillers);
+
+/* "Main header". The same by a numbering, which WINTERHASP_NUMBERING_.. names. Refusals: 19, 1 to 6, 26 where the numbers are carried
+   on, 18, 17. */
+uint32_t winterhasp_parse_main_header_by_numbering(const uint8_t *codestream, size_t codestream_len, uint32_t numbering,
+                                                   uint8_t *table, size_t table_len, uint8_t *out, size_t out_len,
+                                                   uint64_t *first_sot, uint64_t *decode_length, uint64_t *entries,
+                                                   uint64_t *fillers);
 
 /* "Markers in the header". Where the first marker of a code, such as 0xFF60 (PPM), stands in the main header: of those that the walk
    stops at, from SIZ at 2 on and without the first SOT, so that bytes inside a segment are none. WINTERHASP_NO_SUCH_MARKER where

@@ -24,7 +24,7 @@ from pathlib import Path
 from typing import NamedTuple
 
 import packed
-from listing import EOC, LONGEST, PROGRAM as LISTING, ROOT, SIGNATURE, SOC, codestream, listing, part, rows, segment, siz
+from listing import EOC, LONGEST, PROGRAM as LISTING, ROOT, SIGNATURE, SOC, codestream, listing, part, rows, segment, siz, tlm
 from refusals import RULES, refusals
 
 WORKERS = 2
@@ -39,6 +39,9 @@ SAME = "this is the file that is read, and it is not written over"
 NOT_AN_INDEX = "a number from 0 to 65535 is needed, in plain digits"
 # The first is the default.
 IN_PLACE, ANNEX_B, ORIGINAL = RULES_OF_TILES = ["in-place", "annex-b", "original"]
+
+# The first is the default.
+RESTARTING, CARRIED_ON = NUMBERINGS = ["restarting", "carried-on"]
 
 # What was in OUT before, where something was.
 KEPT = b"kept"
@@ -799,6 +802,62 @@ class Runs:
         }
         self.hold(f"list --json {file}", (status, json.loads(out), said), (0, accepted, ""))
 
+    def numberings(self):
+        """TLM entries without an index in several segments, bare and in a JP2: from 0 in each, which the listing program does, or on
+        over the segments; an index that is there stays, and does not count."""
+        split = [tlm([20, 30]), segment(0xFF55, b"\1\x20\xff\xff\0\x28"), tlm([50, 60])]
+        content = with_header(siz(), *split, parts=part(0, 14) + part(1, 16))
+        first = len(HEADER) + sum(map(len, split))
+        tiles = {RESTARTING: [0, 1, 65535, 0, 1], CARRIED_ON: [0, 1, 65535, 2, 3]}
+        parts = rows(first, [14, 16])
+        for file, start in ("split.j2k", 0), ("split.jp2", START):
+            (self.folder / file).write_bytes(jp2(content) if start else content)
+            for numbering, words in (RESTARTING, []), *((numbering, ["--numbering", numbering]) for numbering in NUMBERINGS):
+                entries = rows(first, [20, 30, 40, 50, 60], lambda number: tiles[numbering][number])
+                told = listing(start, len(content), first, len(HEADER), entries, parts)
+                self.case(Case(["list", file, *words], out=told))
+                if numbering == RESTARTING and not start:
+                    self.hold(f"{file}, the listing program", self.listing(content), told)
+                status, out, said = self.run("list", "--json", file, *words)
+                saw = [row["tile"] for row in json.loads(out)["header"]["tlm"]]
+                self.hold(f"list --json {file} {words}", (status, saw, said), (0, tiles[numbering], ""))
+        status, out, said = self.run("show", "split.j2k")
+        self.hold("show split.j2k", (status, "tlm         5 entries" in out.splitlines(), said), (0, True, ""))
+        self.numbers_that_pass()
+
+    def numbers_that_pass(self):
+        """65,535 entries without an index are numbered on, and with one more `list` and `show` refuse it, each by its own numbering;
+        a tile and a picture are made all the same."""
+        for entries, file, start in (5, "numbers.j2k", 0), (6, "past.j2k", 0), (6, "past.jp2", START):
+            lengths = [14] * 32765, [14] * 32765, [14] * entries
+            segments = [tlm(each) for each in lengths]
+            content = with_header(siz(), *segments, parts=part(0, 14) + part(1, 16))
+            (self.folder / file).write_bytes(jp2(content) if start else content)
+            first, third = (len(HEADER) + sum(map(len, segments[:count])) for count in (3, 2))
+            many = sum(lengths, [])
+            parts = rows(first, [14, 16])
+            told = {
+                RESTARTING: listing(start, len(content), first, len(HEADER), rows(first, many, lambda number: number % 32765), parts),
+                CARRIED_ON: listing(start, len(content), first, len(HEADER), rows(first, many), parts),
+            }
+            self.case(Case(["list", file], out=told[RESTARTING]))
+            error = about(file, sentence(26, third, start)) if entries > 5 else ""
+            refused = f"codestream {start} {len(content)}\nrefused 26 {third}\n"
+            carried_on = Case(["list", file, "--numbering", CARRIED_ON], 1, refused, error) if error else Case(
+                ["list", file, "--numbering", CARRIED_ON], out=told[CARRIED_ON]
+            )
+            self.case(carried_on)
+            status, out, said = self.run("show", file)
+            lines = out.splitlines()
+            wanted = f"refused     {refused_line(26, third)}" if error else "tlm         65535 entries"
+            saw = status, wanted in lines, any(line.startswith("tile-parts  2, 30 bytes, ") for line in lines), said
+            self.hold(f"show {file}", saw, (int(bool(error)), True, True, error))
+            header = HEADER + part(0, 14) + EOC
+            status, _, said = self.run("tile", file, "0", "-o", OUT)
+            self.hold(f"tile 0 of {file}", (status, said, len((self.folder / OUT).read_bytes())), (0, "", len(header)))
+            status, _, said = self.run("grid", file, "-o", "out.svg")
+            self.hold(f"grid {file}", (status, said), (0, ""))
+
     def fillers_of_openjpeg(self):
         """In a file of OpenJPEG, between two segments of its main header: it decodes none with a filler, whole or a tile of it, and
         one with another delimiter as before."""
@@ -1074,6 +1133,15 @@ class Runs:
             self.hold(f"--rule {rule}", (status, out, why, (self.folder / OUT).exists()), (2, "", True, False))
         twice = self.run("tile", "a.j2k", "5", "-o", OUT, "--rule", ANNEX_B, "--rule", ORIGINAL)
         self.hold("--rule twice", (twice[0], (self.folder / OUT).exists()), (2, False))
+        for numbering in "x", "", "carried", "Carried-On", "carried_on", "restart", "0", "1", b"\xff":
+            status, out, error = self.run("list", "a.j2k", "--numbering", numbering)
+            why = "[possible values: restarting, carried-on]" in error or numbering == b"\xff"
+            self.hold(f"--numbering {numbering}", (status, out, why), (2, "", True))
+        for words in ["show"], ["tile", "a.j2k", "5"], ["grid"]:
+            self.hold(f"{words} --numbering", self.run(*words, "a.j2k", "--numbering", RESTARTING)[0], 2)
+        help_text = self.run("list", "--help")[1]
+        for words in "carried-on    on over the segments in the order of the file", "[default: restarting]":
+            self.hold(f"list --help: {words}", words in help_text, True)
         help_text = self.run("tile", "--help")[1]
         for words in "in-place    the tile stays where it lies, with its own pixels", "[default: in-place]":
             self.hold(f"tile --help: {words}", words in help_text, True)
@@ -1084,7 +1152,7 @@ class Runs:
             self.hold(f"{words} --help", (status, f"  winterhasp {words[0] if words else 'list'} " in out, error), (0, True, ""))
         status, out, _ = self.run("completions", "bash")
         judged = subprocess.run(["bash", "-n"], input=out.encode(), capture_output=True)
-        words = [*COMMANDS, "--rule", "in-place annex-b original"]
+        words = [*COMMANDS, "--rule", "in-place annex-b original", "--numbering", "restarting carried-on"]
         self.hold("completions bash", (status, judged.returncode, [word for word in words if word not in out]), (0, 0, []))
 
     def not_written(self):
@@ -1341,8 +1409,8 @@ class Runs:
 
 
 GROUPS = [
-    Runs.accepted, Runs.refused, Runs.components, Runs.tiles, Runs.packed, Runs.fillers, Runs.rules, Runs.never_over_the_input,
-    Runs.machines, Runs.pictures, Runs.not_read, Runs.words, Runs.not_written, Runs.streams, Runs.damaged, Runs.folders,
+    Runs.accepted, Runs.refused, Runs.components, Runs.tiles, Runs.packed, Runs.fillers, Runs.numberings, Runs.rules,
+    Runs.never_over_the_input, Runs.machines, Runs.pictures, Runs.not_read, Runs.words, Runs.not_written, Runs.streams, Runs.damaged, Runs.folders,
     Runs.large, Runs.shrinking, Runs.encoders,
 ]  # fmt: skip
 

@@ -233,6 +233,54 @@ static void header_with_fillers(void)
     CHECK(first == 18 && length == 18 && entries == 0 && fillers == 2 && memcmp(out, codestream, 18) == 0);
 }
 
+/* Two TLM segments of two lengths each without an index, and between them one with the index 65,535. */
+static void numberings(void)
+{
+    static const uint8_t codestream[] = { 0xFF, 0x4F, 0xFF, 0x51, 0, 2, 0xFF, 0x55, 0, 8, 0, 0, 0, 20, 0, 30,
+                                          0xFF, 0x55, 0, 8, 1, 0x20, 0xFF, 0xFF, 0, 40,
+                                          0xFF, 0x55, 0, 8, 2, 0, 0, 50, 0, 60, 0xFF, 0x90 };
+    static const uint16_t carried_on[] = { 0, 1, 65535, 2, 3 }, restarting[] = { 0, 1, 65535, 0, 1 };
+    static const uint32_t numbers[] = { WINTERHASP_NUMBERING_CARRIED_ON, WINTERHASP_NUMBERING_RESTARTING, 2, UINT32_MAX };
+    uint8_t table[5 * WINTERHASP_ROW_BYTES], out[6];
+    uint64_t first = 7, length = 7, entries = 7, fillers = 7;
+    for (int call = -1; call < 4; call++) {
+        memset(table, HELD, sizeof table);
+        uint32_t status = call < 0 ? winterhasp_parse_main_header(codestream, sizeof codestream, table, sizeof table, out, sizeof out,
+                                                                  &first, &length, &entries, &fillers)
+                                   : winterhasp_parse_main_header_by_numbering(codestream, sizeof codestream, numbers[call], table,
+                                                                               sizeof table, out, sizeof out, &first, &length,
+                                                                               &entries, &fillers);
+        CHECK(status == 0 && first == 36 && length == 6 && entries == 5 && fillers == 0);
+        const uint16_t *wanted = call == WINTERHASP_NUMBERING_RESTARTING ? restarting : carried_on;
+        for (int row = 0; row < 5; row++)
+            CHECK(winterhasp_row_index(table + row * WINTERHASP_ROW_BYTES) == wanted[row]);
+    }
+}
+
+/* Three segments of 22,000 lengths each without an index: where numbers are carried on the third has one that is past 65,534. */
+static void too_many_entries(void)
+{
+    enum { SEGMENT = 44006 };
+    static uint8_t codestream[6 + 3 * SEGMENT + 2] = { 0xFF, 0x4F, 0xFF, 0x51, 0, 2 };
+    static uint8_t table[66000 * WINTERHASP_ROW_BYTES];
+    static const uint8_t front[] = { 0xFF, 0x55, 0xAB, 0xE4, 0, 0 }, sot[] = { 0xFF, 0x90 };
+    uint8_t out[6];
+    uint64_t first = 7, length = 7, entries = 7, fillers = 7;
+    for (int segment = 0; segment < 3; segment++)
+        memcpy(codestream + 6 + segment * SEGMENT, front, sizeof front);
+    memcpy(codestream + 6 + 3 * SEGMENT, sot, sizeof sot);
+    memset(table, HELD, sizeof table);
+    memset(out, HELD, sizeof out);
+    CHECK(winterhasp_parse_main_header(codestream, sizeof codestream, table, sizeof table, out, sizeof out, &first, &length, &entries,
+                                       &fillers) == WINTERHASP_TLM_TOO_MANY_ENTRIES);
+    CHECK(first == 6 + 2 * SEGMENT && length == 7 && entries == 7 && fillers == 7);
+    CHECK(all_held(table, sizeof table) && all_held(out, sizeof out));
+    CHECK(winterhasp_parse_main_header_by_numbering(codestream, sizeof codestream, WINTERHASP_NUMBERING_RESTARTING, table, sizeof table,
+                                                    out, sizeof out, &first, &length, &entries, &fillers) == 0);
+    CHECK(first == 6 + 3 * SEGMENT && length == 6 && entries == 66000);
+    CHECK(winterhasp_row_index(table + 65999 * (size_t)WINTERHASP_ROW_BYTES) == 21999);
+}
+
 static void parts(const uint8_t *sample)
 {
     uint8_t table[2 * WINTERHASP_ROW_BYTES], out[17];
@@ -393,6 +441,8 @@ int main(void)
     components_by_rule(sample);
     main_header(sample, decode_header);
     header_with_fillers();
+    numberings();
+    too_many_entries();
     parts(sample);
     tile(sample, decode_header);
     tile_by_rule(sample);

@@ -52,6 +52,6 @@ pub extern "C" fn winterhasp_parse_main_header_by_numbering(
     ensures { λ _. ⌜ now (out .exit) ≡ outAfter (parsed (numberingOf numbering) (now (codestream .entry)) (length (now (table .entry)) / 18) (length (now (out .entry)))) (now (codestream .entry)) (now (out .entry)) ⌝ }
 {
     let numbering = header::numbering::numbering_of(numbering);
-    let answer = header::parse::parse_main_header(codestream, numbering, table, out);
-    header::parse::tell(answer, first_sot, decode_length, entries, fillers)
+    let read = header::parse::parse_main_header(codestream, numbering, table, out);
+    header::parse::tell(read, first_sot, decode_length, entries, fillers)
 }

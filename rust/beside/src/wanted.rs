@@ -20,8 +20,10 @@ pub const EXTENT: Wanted = Wanted {
 pub const TOO_LONG: &str = "refused 19";
 /// Of a header with fillers; the original tells all but their number.
 pub const FILLERS: &str = "accepted with fillers";
-pub const HEADER: Wanted = Wanted {
-    name: "parse_main_header",
+/// Of a table that is another one where the numbers restart; of this the original says nothing.
+pub const NUMBERED_ON: &str = "accepted, numbered on";
+pub const HEADER_RESTARTING: Wanted = Wanted {
+    name: "parse_main_header_by_numbering, restarting",
     answers: &[
         (ACCEPTED, 85_000),
         (FILLERS, 15_000),
@@ -36,14 +38,52 @@ pub const HEADER: Wanted = Wanted {
         (TOO_LONG, 0),
     ],
 };
+pub const RECORDS_RESTARTING: Wanted = Wanted {
+    name: "header_records, restarting",
+    ..HEADER_RESTARTING
+};
+/// Carried on; the original's answers count where the numberings have to agree.
+pub const HEADER: Wanted = Wanted {
+    name: "parse_main_header",
+    answers: &[
+        (ACCEPTED, 80_000),
+        (FILLERS, 15_000),
+        (NUMBERED_ON, 0),
+        ("refused 1", 100_000),
+        ("refused 2", 15_000),
+        ("refused 3", 200_000),
+        ("refused 4", 15_000),
+        ("refused 5", 30_000),
+        ("refused 6", 8_000),
+        ("refused 17", 0),
+        ("refused 18", 0),
+        (TOO_LONG, 0),
+        ("refused 26", 0),
+    ],
+};
+pub const HEADER_CARRIED_ON: Wanted = Wanted {
+    name: "parse_main_header_by_numbering, carried on",
+    ..HEADER
+};
+pub const RECORDS_CARRIED_ON: Wanted = Wanted {
+    name: "header_records, carried on",
+    ..HEADER
+};
+/// By either.
+pub const HEADER_BY_NUMBERING: Wanted = Wanted {
+    name: "parse_main_header_by_numbering",
+    ..HEADER
+};
 pub const HEADER_RECORDS: Wanted = Wanted {
     name: "header_records",
     ..HEADER
 };
 
-pub fn header(fillers: u64) -> &'static str {
-    match fillers {
-        0 => ACCEPTED,
+/// By the number of fillers, and whether the table is another one than restarting.
+pub fn header(fillers: u64, numbered_on: bool) -> &'static str {
+    match (fillers, numbered_on) {
+        (_, true) => NUMBERED_ON,
+        (0, false) => ACCEPTED,
         _ => FILLERS,
     }
 }

@@ -27,7 +27,11 @@ Lines:
   tlm TILE OFFSET LENGTH          a tile-part by the header's own table
   part TILE OFFSET LENGTH         a tile-part that stands there
   end | refused NUMBER PLACE | unread      the last; standard error has the words
-Offsets behind `codestream` count from the codestream's start.";
+Offsets behind `codestream` count from the codestream's start.
+
+Numberings, of tile-parts for which the header's own table has no tile:
+  restarting    from 0 in each of the table's segments, as the listing program and the ported program do
+  carried-on    on over the segments in the order of the file, as the standard has it; more than 65,535 are refused";
 
 const SHOW: &str = "\
 Examples:
@@ -109,6 +113,26 @@ pub struct List {
     /// So many files side by side, 1 to 64; else as many as there are processors
     #[arg(short, long, value_name = "N", value_parser = value_parser!(u16).range(1..=64))]
     pub jobs: Option<u16>,
+    /// How tile-parts are numbered that the header's own table (tlm) gives no tile
+    #[arg(long, value_enum, default_value_t)]
+    pub numbering: Numbering,
+}
+
+/// The default is not the library's, which carries on: the lines are those of the listing program.
+#[derive(Clone, Copy, Default, ValueEnum)]
+pub enum Numbering {
+    #[default]
+    Restarting,
+    CarriedOn,
+}
+
+impl From<Numbering> for winterhasp::Numbering {
+    fn from(numbering: Numbering) -> Self {
+        match numbering {
+            Numbering::Restarting => winterhasp::Numbering::Restarting,
+            Numbering::CarriedOn => winterhasp::Numbering::CarriedOn,
+        }
+    }
 }
 
 #[derive(Args)]
@@ -212,6 +236,28 @@ mod tests {
             assert_eq!(rule(&["--rule", wrong]), None, "{wrong}");
         }
         assert_eq!(rule(&["--rule"]), None);
+    }
+
+    fn numbering(words: &[&str]) -> Option<winterhasp::Numbering> {
+        let words = ["winterhasp", "list", "flights"].iter().chain(words);
+        let arguments = Arguments::try_parse_from(words).ok()?;
+        match arguments.command {
+            Command::List(list) => Some(list.numbering.into()),
+            _ => None,
+        }
+    }
+
+    #[test]
+    fn a_listing_restarts_the_numbers_by_default() {
+        let restarting = Some(winterhasp::Numbering::Restarting);
+        assert_eq!(numbering(&[]), restarting);
+        assert_eq!(numbering(&["--numbering", "restarting"]), restarting);
+        let carried_on = Some(winterhasp::Numbering::CarriedOn);
+        assert_eq!(numbering(&["--numbering=carried-on"]), carried_on);
+        for wrong in ["", "carried", "carried_on", "CarriedOn", "restart", "0"] {
+            assert_eq!(numbering(&["--numbering", wrong]), None, "{wrong}");
+        }
+        assert_eq!(numbering(&["--numbering"]), None);
     }
 
     #[test]

@@ -8,7 +8,7 @@ use indicatif::{ProgressBar, ProgressStyle};
 use rayon::prelude::*;
 use rayon::{ThreadPool, ThreadPoolBuilder};
 use serde::Serialize;
-use winterhasp::{FileOffset, Refusal, TilePart};
+use winterhasp::{FileOffset, Numbering, Refusal, TilePart};
 
 use crate::arguments::List;
 use crate::contents::Contents;
@@ -27,6 +27,7 @@ pub fn list(arguments: &List) -> Result<Status, Trouble> {
     let form = Form {
         json: arguments.json,
         named: !files.alone,
+        numbering: arguments.numbering.into(),
     };
     let mut run = Run::new(form, files.paths.len());
     for trouble in &files.troubles {
@@ -84,7 +85,7 @@ impl Run {
 
     /// Printed line by line: of one file, however long its list, no text is kept.
     fn single(&mut self, path: &Path) -> Result<(), Trouble> {
-        let listing = listed(path);
+        let listing = listed(path, self.form.numbering);
         let printed = self.form.print(&mut self.out, path, &listing);
         printed.map_err(not_printed)?;
         self.ended(Ended::of(path, &listing))
@@ -204,9 +205,9 @@ struct Header {
     tlm: Vec<TilePart>,
 }
 
-fn listed(path: &Path) -> Result<Listing, Trouble> {
+fn listed(path: &Path, numbering: Numbering) -> Result<Listing, Trouble> {
     let contents = Contents::open(path)?;
-    let listing = Listing::of(Stages::of(contents.bytes()));
+    let listing = Listing::of(Stages::of(contents.bytes(), numbering));
     contents.unchanged(path)?;
     Ok(listing)
 }
@@ -314,11 +315,12 @@ struct Form {
     json: bool,
     /// Whether each begins with its name.
     named: bool,
+    numbering: Numbering,
 }
 
 impl Form {
     fn block(&self, path: &Path) -> Block {
-        let listing = listed(path);
+        let listing = listed(path, self.numbering);
         let mut text = Vec::new();
         // A vector takes all that is written to it.
         let _ = self.print(&mut text, path, &listing);

@@ -5,7 +5,9 @@ use std::ops::RangeInclusive;
 use std::path::Path;
 
 use serde::Serialize;
-use winterhasp::{parse_siz_marker, Codestream, Components, FileOffset, Refusal, TilePart};
+use winterhasp::{
+    parse_siz_marker, Codestream, Components, FileOffset, Numbering, Refusal, TilePart,
+};
 
 use crate::arguments;
 use crate::components::{InTile, Line, Sizes};
@@ -120,7 +122,7 @@ struct Ended {
 impl Report {
     /// And a sentence where the file is refused, or the tile that is asked for.
     fn of(path: &Path, file: &[u8], tile: Option<u16>) -> (Self, Option<String>) {
-        let stages = Stages::of(file);
+        let stages = Stages::of(file, Numbering::default());
         let start = stages.start();
         let header = header_with_siz(&stages);
         let (siz, siz_refused) = header.map_or((None, None), siz_of);
@@ -319,7 +321,7 @@ fn refused(read: Option<Result<Components, Refusal>>) -> Option<Refusal> {
 
 /// The walk over the header has passed SIZ, and gave up at TLM.
 fn of_tlm(refusal: Refusal) -> bool {
-    matches!(refusal.number(), 4 | 5)
+    matches!(refusal.number(), 4 | 5 | 26)
 }
 
 /// What the scan lists where only TLM is wrong, as the remedy says.

@@ -1,9 +1,9 @@
 //! From a file's bytes to its tile-parts, stage by stage.
 
 use winterhasp::{
-    find_codestream, find_marker, grow_header_region, main_header_extent, parse_main_header,
-    scan_sot_markers, Codestream, CodestreamOffset, FileOffset, MainHeader, MainHeaderExtent,
-    Refusal, TilePart,
+    find_codestream, find_marker, grow_header_region, main_header_extent,
+    parse_main_header_by_numbering, scan_sot_markers, Codestream, CodestreamOffset, FileOffset,
+    MainHeader, MainHeaderExtent, Numbering, Refusal, TilePart,
 };
 
 const MARKER: u64 = 2;
@@ -29,16 +29,16 @@ pub struct Accepted<'a> {
 }
 
 impl<'a> Stages<'a> {
-    pub fn of(file: &'a [u8]) -> Self {
+    pub fn of(file: &'a [u8], numbering: Numbering) -> Self {
         let mut stages = Stages::default();
-        stages.refused = stages.go(file).err();
+        stages.refused = stages.go(file, numbering).err();
         stages
     }
 
-    fn go(&mut self, file: &'a [u8]) -> Result<(), Refusal> {
+    fn go(&mut self, file: &'a [u8], numbering: Numbering) -> Result<(), Refusal> {
         let codestream = find_codestream(file)?;
         self.codestream = Some(codestream);
-        let header = main_header(codestream.bytes)?;
+        let header = main_header(codestream.bytes, numbering)?;
         let first_sot = header.first_sot;
         self.header = Some(header);
         self.parts = Some(scan_sot_markers(codestream.bytes, first_sot)?);
@@ -52,11 +52,12 @@ impl<'a> Stages<'a> {
 }
 
 impl<'a> Accepted<'a> {
-    /// Or the refusal, and where the codestream starts in the file if it was found.
+    /// Or the refusal, and where the codestream starts in the file if it was found. The header's own table
+    /// is not looked at, so it is numbered so that no number is refused.
     pub fn of(file: &'a [u8]) -> Result<Self, (Refusal, Option<FileOffset>)> {
         let codestream = find_codestream(file).map_err(|refusal| (refusal, None))?;
         let refused = |refusal| (refusal, Some(codestream.start));
-        let header = main_header(codestream.bytes).map_err(refused)?;
+        let header = main_header(codestream.bytes, Numbering::Restarting).map_err(refused)?;
         let parts = scan_sot_markers(codestream.bytes, header.first_sot).map_err(refused)?;
         Ok(Accepted {
             codestream,
@@ -68,13 +69,13 @@ impl<'a> Accepted<'a> {
 
 /// Of a long codestream only the first bytes are lent. A header that ends is copied first: its
 /// reading counts in one pass and writes in the next, and a mapped file might change between them.
-fn main_header(codestream: &[u8]) -> Result<MainHeader, Refusal> {
+fn main_header(codestream: &[u8], numbering: Numbering) -> Result<MainHeader, Refusal> {
     let region = first(codestream, grow_header_region(codestream).length);
     match main_header_extent(region) {
         MainHeaderExtent::Complete(first_sot) => {
-            parse_main_header(&with_first_sot(region, first_sot))
+            parse_main_header_by_numbering(&with_first_sot(region, first_sot), numbering)
         }
-        MainHeaderExtent::Truncated => parse_main_header(region),
+        MainHeaderExtent::Truncated => parse_main_header_by_numbering(region, numbering),
     }
 }
 

@@ -31,6 +31,7 @@ mod archive {
         pub fn winterhasp_header_records(
             codestream: *const u8,
             codestream_len: usize,
+            numbering: u32,
             table: *mut TilePartEntry,
             table_len: usize,
             out: *mut u8,
@@ -60,9 +61,10 @@ mod archive {
     }
 }
 
-/// As `parse_main_header`, with the TLM entries as records.
+/// As `parse_main_header_by_numbering`, with the TLM entries as records.
 pub fn header_records(
     codestream: &[u8],
+    numbering: u32,
     table: &mut [TilePartEntry],
     out: &mut [u8],
     [first_sot, decode_length, entries, fillers]: &mut [u64; 4],
@@ -72,6 +74,7 @@ pub fn header_records(
         archive::winterhasp_header_records(
             codestream.as_ptr(),
             codestream.len(),
+            numbering,
             table.as_mut_ptr(),
             table.len(),
             out.as_mut_ptr(),

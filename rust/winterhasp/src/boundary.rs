@@ -28,6 +28,20 @@ mod archive {
             fillers: *mut u64,
         ) -> u32;
 
+        pub fn winterhasp_parse_main_header_by_numbering(
+            codestream: *const u8,
+            codestream_len: usize,
+            numbering: u32,
+            table: *mut u8,
+            table_len: usize,
+            out: *mut u8,
+            out_len: usize,
+            first_sot: *mut u64,
+            decode_length: *mut u64,
+            entries: *mut u64,
+            fillers: *mut u64,
+        ) -> u32;
+
         pub fn winterhasp_find_marker(
             codestream: *const u8,
             codestream_len: usize,
@@ -246,7 +260,8 @@ pub fn main_header_extent(prefix: &[u8], value: &mut u64) -> u32 {
     unsafe { archive::winterhasp_main_header_extent(prefix.as_ptr(), prefix.len(), value) }
 }
 
-/// TLM entries go to `table` as rows of 18 bytes, the decode header to `out`. Numbers: first SOT,
+/// TLM entries go to `table` as rows of 18 bytes, numbered on over the segments where they have no
+/// index, the decode header to `out`. Numbers: first SOT,
 /// the decode header's length, entries, fillers.
 pub fn parse_main_header(
     codestream: &[u8],
@@ -259,6 +274,36 @@ pub fn parse_main_header(
         archive::winterhasp_parse_main_header(
             codestream.as_ptr(),
             codestream.len(),
+            table.as_mut_ptr(),
+            table.len(),
+            out.as_mut_ptr(),
+            out.len(),
+            first_sot,
+            decode_length,
+            entries,
+            fillers,
+        )
+    }
+}
+
+/// The numberings as the function below takes them; any other number means the first.
+pub const CARRIED_ON: u32 = 0;
+pub const RESTARTING: u32 = 1;
+
+/// The same by a numbering.
+pub fn parse_main_header_by_numbering(
+    codestream: &[u8],
+    numbering: u32,
+    table: &mut [u8],
+    out: &mut [u8],
+    [first_sot, decode_length, entries, fillers]: &mut [u64; 4],
+) -> u32 {
+    // SAFETY: as at the top of this file.
+    unsafe {
+        archive::winterhasp_parse_main_header_by_numbering(
+            codestream.as_ptr(),
+            codestream.len(),
+            numbering,
             table.as_mut_ptr(),
             table.len(),
             out.as_mut_ptr(),

@@ -2,6 +2,7 @@
 
 use crate::boundary;
 use crate::lent::lend;
+use crate::numbering::Numbering;
 use crate::offsets::CodestreamOffset;
 use crate::refusal::Refusal;
 use crate::tile_part::{from_rows, TilePart};
@@ -23,7 +24,8 @@ pub struct MainHeader {
 
 /// Reads the main header of `codestream`, which may be cut behind the first SOT marker. At most
 /// 2^32-1 bytes are taken: of a longer one hand over the region that
-/// [`grow_header_region`](crate::grow_header_region) gives.
+/// [`grow_header_region`](crate::grow_header_region) gives. Entries of the length table without an
+/// index are numbered on over its segments ([`Numbering::CarriedOn`]).
 ///
 /// ```
 /// use winterhasp::{parse_main_header, CodestreamOffset};
@@ -46,9 +48,44 @@ pub struct MainHeader {
 /// # Ok::<(), Box<dyn std::error::Error>>(())
 /// ```
 pub fn parse_main_header(codestream: &[u8]) -> Result<MainHeader, Refusal> {
-    let (lent, numbers) = lend(|lent, numbers| {
-        boundary::parse_main_header(codestream, &mut lent.table, &mut lent.out, numbers)
-    })?;
+    read(|table, out, numbers| boundary::parse_main_header(codestream, table, out, numbers))
+}
+
+/// The same by a [`Numbering`].
+///
+/// ```
+/// use winterhasp::{parse_main_header, parse_main_header_by_numbering, Numbering};
+///
+/// // a table that has all its indices is the same by either
+/// let codestream = std::fs::read("sample-a.j2k")?;
+/// for numbering in [Numbering::CarriedOn, Numbering::Restarting] {
+///     let header = parse_main_header_by_numbering(&codestream, numbering)?;
+///     assert_eq!(header, parse_main_header(&codestream)?);
+/// }
+///
+/// // SOC, SIZ without a body, three segments of 22,000 lengths without an index, SOT
+/// let segment = [&[0xFF, 0x55, 0xAB, 0xE4, 0, 0][..], &[0; 44_000]].concat();
+/// let front = [0xFF, 0x4F, 0xFF, 0x51, 0x00, 0x02];
+/// let many = [&front, &segment[..], &segment, &segment, &[0xFF, 0x90]].concat();
+/// let refusal = parse_main_header_by_numbering(&many, Numbering::CarriedOn).unwrap_err();
+/// assert_eq!((refusal.number(), refusal.place()), (26, 6 + 2 * 44_006));
+/// let header = parse_main_header_by_numbering(&many, Numbering::Restarting)?;
+/// assert_eq!(header.tlm.map(|parts| parts.len()), Some(66_000));
+/// # Ok::<(), Box<dyn std::error::Error>>(())
+/// ```
+pub fn parse_main_header_by_numbering(
+    codestream: &[u8],
+    numbering: Numbering,
+) -> Result<MainHeader, Refusal> {
+    let numbering = numbering.number();
+    read(|table, out, numbers| {
+        boundary::parse_main_header_by_numbering(codestream, numbering, table, out, numbers)
+    })
+}
+
+/// What a call reads into the memory that it asks for.
+fn read(call: impl Fn(&mut [u8], &mut [u8], &mut [u64; 4]) -> u32) -> Result<MainHeader, Refusal> {
+    let (lent, numbers) = lend(|lent, numbers| call(&mut lent.table, &mut lent.out, numbers))?;
     let [first_sot, _, entries, fillers] = numbers;
     Ok(MainHeader {
         first_sot: CodestreamOffset(first_sot),

@@ -37,6 +37,7 @@ mod growth;
 mod header;
 mod lent;
 mod marker;
+mod numbering;
 mod offsets;
 mod refusal;
 mod rule;
@@ -53,8 +54,9 @@ pub use components::{
 };
 pub use extent::{main_header_extent, MainHeaderExtent};
 pub use growth::{grow_header_region, next_region, HeaderRegion};
-pub use header::{parse_main_header, MainHeader};
+pub use header::{parse_main_header, parse_main_header_by_numbering, MainHeader};
 pub use marker::find_marker;
+pub use numbering::Numbering;
 pub use offsets::{CodestreamOffset, FileOffset};
 pub use refusal::{Origin, Refusal};
 pub use rule::Rule;

@@ -212,6 +212,13 @@ const REFUSALS: &[Words] = &[
         remedy: "ask for the file again: its size segment is damaged",
     },
     Words {
+        number: 26,
+        name: "TLM_TOO_MANY_ENTRIES",
+        wrong: "the tile-part length segments (TLM) have more entries without an index than there are tile numbers",
+        origin: Origin::Codestream,
+        remedy: "tell the writer of the file; the scan lists the tile-parts without TLM, and a reading that restarts the numbers takes the file",
+    },
+    Words {
         number: 30,
         name: "NO_GRID",
         wrong: "the image size segment (SIZ) lays no grid of tiles over the image",

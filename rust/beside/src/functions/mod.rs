@@ -76,4 +76,6 @@ pub const KINDS: &[Kind] = &[
     rewrite::KIND_IN_PLACE,
     assembly::KIND_IN_PLACE,
     marker::KIND,
+    header::CARRIED_ON,
+    header::RECORDS_CARRIED_ON,
 ];

@@ -42,8 +42,9 @@ impl File {
         }
         let [start, length] = found.map(|number| number as usize);
         let codestream = &self.bytes[start..start + length];
-        let [first_sot, _, entries, _] =
-            lent(|table, out, numbers| host::parse_main_header(codestream, table, out, numbers))?;
+        let [first_sot, _, entries, _] = lent(|table, out, numbers| {
+            host::parse_main_header_by_numbering(codestream, host::RESTARTING, table, out, numbers)
+        })?;
         let [parts] =
             lent(|table, _, [value]| host::scan_sot_markers(codestream, first_sot, table, value))?;
         Some([entries, parts])

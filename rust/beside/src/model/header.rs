@@ -22,9 +22,27 @@ impl Header {
     }
 }
 
-const LONGEST_LOAN: u64 = u32::MAX as u64;
+/// How entries without an index are numbered: on over the segments, in file order, or from 0 in each.
+#[derive(Debug, Clone, Copy, PartialEq, Eq)]
+pub enum Numbering {
+    CarriedOn,
+    Restarting,
+}
 
-pub fn parse_main_header(codestream: &[u8]) -> Result<Header, Refusal> {
+impl Numbering {
+    /// As C gives it.
+    pub fn of(number: u32) -> Self {
+        match number {
+            1 => Numbering::Restarting,
+            _ => Numbering::CarriedOn,
+        }
+    }
+}
+
+const LONGEST_LOAN: u64 = u32::MAX as u64;
+const LAST_NUMBER: u16 = 65_534;
+
+pub fn parse_main_header(codestream: &[u8], numbering: Numbering) -> Result<Header, Refusal> {
     let length = codestream.len() as u64;
     if length > LONGEST_LOAN {
         return Err(Refusal::new(19, 0));
@@ -33,6 +51,7 @@ pub fn parse_main_header(codestream: &[u8]) -> Result<Header, Refusal> {
     let mut at = 2;
     let mut decode_header = codestream[..2].to_vec();
     let mut listed = Vec::new();
+    let mut numbers = 0..=LAST_NUMBER;
     loop {
         let marker = read(codestream, at, 2).ok_or(Refusal::new(6, length))?;
         if marker == SOT.into() {
@@ -41,7 +60,13 @@ pub fn parse_main_header(codestream: &[u8]) -> Result<Header, Refusal> {
         let end = step(codestream, marker, at).ok_or(Refusal::new(3, at))?;
         let whole = &codestream[at as usize..end as usize];
         if marker == TLM.into() {
-            listed.extend(tlm(&whole[2..]).map_err(|number| Refusal::new(number, at))?);
+            if numbering == Numbering::Restarting {
+                numbers = 0..=LAST_NUMBER;
+            }
+            for (index, length) in tlm(&whole[2..]).map_err(|number| Refusal::new(number, at))? {
+                let index = index.or_else(|| numbers.next());
+                listed.push((index.ok_or(Refusal::new(26, at))?, length));
+            }
         } else {
             decode_header.extend(whole);
         }
@@ -67,8 +92,8 @@ pub fn opens_with_siz(codestream: &[u8]) -> Result<(), Refusal> {
 }
 
 /// Entries of the table and bytes of output; some of each where the header is refused.
-pub fn needed(codestream: &[u8]) -> (usize, usize) {
-    match parse_main_header(codestream) {
+pub fn needed(codestream: &[u8], numbering: Numbering) -> (usize, usize) {
+    match parse_main_header(codestream, numbering) {
         Ok(header) => (header.entries.len(), header.decode_header.len()),
         Err(_) => (2, 50),
     }
@@ -79,7 +104,8 @@ pub const NO_SUCH_MARKER: u32 = 257;
 
 /// Where the first marker of this code stands; nothing where there is none.
 pub fn find_marker(codestream: &[u8], marker: u16) -> Result<Option<u64>, Refusal> {
-    parse_main_header(codestream)?;
+    // which tells no index
+    parse_main_header(codestream, Numbering::Restarting)?;
     let found = markers(codestream).find(|&(_, here)| here == marker);
     Ok(found.map(|(at, _)| at))
 }
@@ -94,6 +120,20 @@ pub fn markers(codestream: &[u8]) -> impl Iterator<Item = (u64, u16)> + '_ {
     iter::successors(stands(2), move |&(at, marker)| {
         stands(step(codestream, marker.into(), at)?)
     })
+}
+
+/// Whether the numberings have to give the same: no more than one of the segments at which the steps
+/// stand has entries without an index.
+pub fn have_to_agree(codestream: &[u8]) -> bool {
+    let unindexed = |&(at, marker): &(u64, u16)| {
+        let end = step(codestream, marker.into(), at);
+        let whole = end.map(|end| &codestream[at as usize..end as usize]);
+        let listed = whole
+            .filter(|_| marker == TLM)
+            .map(|whole| tlm(&whole[2..]));
+        listed.is_some_and(|listed| matches!(listed.as_deref(), Ok([(None, _), ..])))
+    };
+    markers(codestream).filter(unindexed).count() <= 1
 }
 
 /// Of the places at which the steps stand: delimiters whose first byte isn't FF.
@@ -131,8 +171,8 @@ pub fn is_delimiter(marker: u16) -> bool {
     matches!(marker & 0xFF, 0x92 | 0x30..=0x3F)
 }
 
-/// Index and length of each entry; `body` is from Ltlm on. Or the refusal's number.
-fn tlm(body: &[u8]) -> Result<Vec<(u16, u64)>, u32> {
+/// Index, if there is one, and length of each entry; `body` is from Ltlm on. Or the refusal's number.
+fn tlm(body: &[u8]) -> Result<Vec<(Option<u16>, u64)>, u32> {
     let [_, _, _, stlm, entries @ ..] = body else {
         return Err(4);
     };
@@ -141,16 +181,13 @@ fn tlm(body: &[u8]) -> Result<Vec<(u16, u64)>, u32> {
         st => usize::from(st),
     };
     let length_size = if stlm & 0x40 == 0 { 2 } else { 4 };
-    let entry = |(counted, bytes): (usize, &[u8])| {
+    let entry = |bytes: &[u8]| {
         let (index, length) = bytes.split_at(index_size);
-        let index = match index {
-            [] => counted as u16,
-            _ => number(index) as u16,
-        };
+        let index = (!index.is_empty()).then(|| number(index) as u16);
         (index, number(length))
     };
     let whole = entries.chunks_exact(index_size + length_size);
-    Ok(whole.enumerate().map(entry).collect())
+    Ok(whole.map(entry).collect())
 }
 
 fn placed(first_sot: u64, listed: Vec<(u16, u64)>) -> Vec<Entry> {
@@ -165,10 +202,10 @@ fn placed(first_sot: u64, listed: Vec<(u16, u64)>) -> Vec<Entry> {
 
 #[cfg(test)]
 mod tests {
-    use super::{find_marker, markers, parse_main_header};
+    use super::{find_marker, have_to_agree, markers, parse_main_header, Header, Numbering};
     use crate::model::Refusal;
     use crate::sample::codestream::{Codestream, COM, EPH, PPM, SIZ, SOC, SOT, TLM};
-    use crate::sample::{fillers, opened, sample_a};
+    use crate::sample::{fillers, numbers, opened, sample_a};
 
     /// In a header that is accepted.
     fn place(codestream: &[u8], marker: u16) -> Option<u64> {
@@ -198,7 +235,7 @@ mod tests {
     #[test]
     fn fillers_are_counted_as_by_hand() {
         let count = |codestream: &[u8]| {
-            let header = parse_main_header(codestream).expect("accepted");
+            let header = parse_main_header(codestream, Numbering::CarriedOn).expect("accepted");
             header.fillers
         };
         assert_eq!(count(&sample_a()), 0);
@@ -217,5 +254,35 @@ mod tests {
         built.segment(TLM, &[0]);
         assert_eq!(refused(&built.bytes), Refusal::new(4, 10));
         assert_eq!(refused(&built.bytes[..13]), Refusal::new(3, 10));
+    }
+
+    /// Carried on, and restarting.
+    fn both(codestream: &[u8]) -> [Result<Header, Refusal>; 2] {
+        [Numbering::CarriedOn, Numbering::Restarting]
+            .map(|numbering| parse_main_header(codestream, numbering))
+    }
+
+    #[test]
+    fn indices_are_as_by_hand() {
+        for (codestream, by_hand) in numbers::by_hand() {
+            let indices = both(&codestream).map(|read| {
+                let entries = read.expect("accepted").entries;
+                entries.iter().map(|entry| entry.0).collect::<Vec<_>>()
+            });
+            assert_eq!(indices, by_hand, "{codestream:02X?}");
+            let agree = by_hand[0] == by_hand[1];
+            assert_eq!(have_to_agree(&codestream), agree, "{codestream:02X?}");
+        }
+    }
+
+    #[test]
+    fn refused_where_a_number_passes() {
+        for (codestream, carried_on, restarting) in numbers::at_the_last() {
+            let refused = both(&codestream).map(|read| read.err());
+            let by_hand = [carried_on, restarting];
+            let by_hand =
+                by_hand.map(|by_hand| by_hand.map(|(number, place)| Refusal::new(number, place)));
+            assert_eq!(refused, by_hand);
+        }
     }
 }

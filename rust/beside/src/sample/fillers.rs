@@ -117,7 +117,7 @@ fn step(random: &mut Random, built: &mut Codestream) {
 #[cfg(test)]
 mod tests {
     use super::{counted, header};
-    use crate::model::header::{markers, parse_main_header};
+    use crate::model::header::{markers, parse_main_header, Numbering};
     use crate::random::Random;
     use std::collections::BTreeMap;
 
@@ -138,7 +138,10 @@ mod tests {
         let mut steps: BTreeMap<u16, u32> = BTreeMap::new();
         for _ in 0..1_000 {
             let built = header(&mut random);
-            match parse_main_header(&built).expect("accepted").fillers {
+            match parse_main_header(&built, Numbering::CarriedOn)
+                .expect("accepted")
+                .fillers
+            {
                 0 => none += 1,
                 1..=255 => some += 1,
                 _ => many += 1,

@@ -7,6 +7,7 @@ pub mod damage;
 pub mod fillers;
 pub mod headers;
 pub mod markers;
+pub mod numbers;
 pub mod parts;
 pub mod short;
 pub mod sizes;

@@ -3,8 +3,9 @@
 
 use beside::model::header::NO_SUCH_MARKER;
 use beside::model::rows;
-use beside::sample::codestream::{Codestream, Tlm, COM, EOC, EPH, PPM, SIZ, SOC, SOD, SOT, TLM};
+use beside::sample::codestream::{Codestream, COM, EOC, EPH, PPM, SIZ, SOC, SOD, SOT, TLM};
 use beside::sample::fillers::counted;
+use beside::sample::numbers;
 use beside::sample::tlms::STLM;
 use beside::sample::{opened, sample_a};
 use probe::{host, TilePartEntry};
@@ -58,16 +59,75 @@ fn an_entry_must_be_whole() {
     assert_eq!(one, rows(&[(5, 15, 16)]));
 }
 
-#[test]
-fn each_segment_numbers_from_0() {
-    let tlm = Tlm {
-        ztlm: 0,
-        stlm: 0x00,
-        entries: vec![(0, 20), (0, 30)],
+/// A numbering's number, or none, and what the rows and the records then hold: the tiles' indices, or
+/// the refusal.
+fn numbered(codestream: &[u8], numbering: Option<u32>) -> Result<Vec<u16>, (u32, u64)> {
+    let rows = 66_000;
+    let (mut table, mut out, mut values) = (vec![0xEE; 18 * rows], vec![0; 64], [7; 4]);
+    let status = match numbering {
+        None => host::parse_main_header(codestream, &mut table, &mut out, &mut values),
+        Some(number) => host::parse_main_header_by_numbering(
+            codestream,
+            number,
+            &mut table,
+            &mut out,
+            &mut values,
+        ),
     };
-    let four = entries(opened().tlm(&tlm).tlm(&tlm));
-    let expected = [(0, 26, 20), (1, 46, 30), (0, 76, 20), (1, 96, 30)];
-    assert_eq!(four, rows(&expected));
+    let mut records = vec![TilePartEntry::default(); rows];
+    let number = numbering.unwrap_or(host::CARRIED_ON);
+    let mut of_records = [7; 4];
+    let status_of_records =
+        probe::header_records(codestream, number, &mut records, &mut out, &mut of_records);
+    assert_eq!((status_of_records, of_records), (status, values));
+    if status != 0 {
+        assert_eq!(values[1..], [7; 3]);
+        assert!(table.iter().all(|&byte| byte == 0xEE));
+        assert!(records
+            .iter()
+            .all(|record| *record == TilePartEntry::default()));
+        return Err((status, values[0]));
+    }
+    let entries = values[2] as usize;
+    let index = |row: &[u8]| u16::from_be_bytes([row[0], row[1]]);
+    let indices: Vec<u16> = table.chunks_exact(18).take(entries).map(index).collect();
+    let of_records = records[..entries].iter().map(|record| record.tile_index);
+    assert!(of_records.eq(indices.iter().copied()));
+    Ok(indices)
+}
+
+/// Without a number, by 0, and by one that means nothing.
+const CARRIED_ON: [Option<u32>; 4] = [None, Some(0), Some(2), Some(u32::MAX)];
+
+#[test]
+fn the_numberings_have_their_numbers() {
+    assert_eq!((host::CARRIED_ON, host::RESTARTING), (0, 1));
+}
+
+#[test]
+fn entries_are_numbered_on_or_from_0_as_by_hand() {
+    for (codestream, [carried_on, restarting]) in numbers::by_hand() {
+        for number in CARRIED_ON {
+            assert_eq!(numbered(&codestream, number), Ok(carried_on.clone()));
+        }
+        assert_eq!(numbered(&codestream, Some(1)), Ok(restarting));
+    }
+}
+
+#[test]
+fn a_number_past_65534_is_refused_where_it_stands() {
+    for (codestream, carried_on, restarting) in numbers::at_the_last() {
+        for number in CARRIED_ON {
+            assert_eq!(numbered(&codestream, number).err(), carried_on);
+        }
+        // of the longest the table has too few rows
+        if codestream.len() < 140_000 {
+            assert_eq!(numbered(&codestream, Some(1)).err(), restarting);
+        }
+    }
+    let (last, ..) = &numbers::at_the_last()[1];
+    let indices = numbered(last, None).expect("accepted");
+    assert!(indices.into_iter().eq(0..=65_534));
 }
 
 #[test]
@@ -102,13 +162,15 @@ fn sample_a_s_entries_as_records() {
     let record = TilePartEntry::new;
     let untouched = record(9, 9, 9);
     let (mut table, mut out, mut values) = ([untouched; 3], [0xEE; 45], [7; 4]);
-    let status = probe::header_records(&sample, &mut table, &mut out, &mut values);
+    let status =
+        probe::header_records(&sample, host::CARRIED_ON, &mut table, &mut out, &mut values);
     assert_eq!((status, values), (0, [57, 45, 2, 0]));
     assert_eq!(table, [record(0, 57, 14), record(5, 71, 16), untouched]);
     assert_eq!(out, sample[..45]);
 
     let (mut table, mut out, mut values) = ([untouched; 1], [0xEE; 45], [7; 4]);
-    let status = probe::header_records(&sample, &mut table, &mut out, &mut values);
+    let status =
+        probe::header_records(&sample, host::CARRIED_ON, &mut table, &mut out, &mut values);
     assert_eq!((status, values), (18, [2, 7, 7, 7]));
     assert_eq!((table, out), ([untouched; 1], [0xEE; 45]));
 }
@@ -121,14 +183,26 @@ fn fillers_are_counted_as_by_hand() {
         let status = host::parse_main_header(&codestream, &mut rows, &mut out, &mut values);
         assert_eq!((status, values[3]), (0, count), "{codestream:02X?}");
         let (mut records, mut of_records) = ([TilePartEntry::default()], [7; 4]);
-        let status = probe::header_records(&codestream, &mut records, &mut out, &mut of_records);
+        let status = probe::header_records(
+            &codestream,
+            host::CARRIED_ON,
+            &mut records,
+            &mut out,
+            &mut of_records,
+        );
         assert_eq!((status, of_records), (0, values), "{codestream:02X?}");
 
         let mut values = [7; 4];
         let status = host::parse_main_header(&codestream, &mut rows, &mut out[..5], &mut values);
         assert_eq!((status, values[3]), (17, 7), "{codestream:02X?}");
         let mut values = [7; 4];
-        let status = probe::header_records(&codestream, &mut records, &mut out[..5], &mut values);
+        let status = probe::header_records(
+            &codestream,
+            host::CARRIED_ON,
+            &mut records,
+            &mut out[..5],
+            &mut values,
+        );
         assert_eq!((status, values[3]), (17, 7), "{codestream:02X?}");
     }
 }

@@ -2,13 +2,13 @@
 
 use beside::lent::{room, table};
 use beside::model::components::NO_SUCH_COMPONENT;
-use beside::model::header::NO_SUCH_MARKER;
+use beside::model::header::{Numbering, NO_SUCH_MARKER};
 use beside::model::{self, Refusal};
 use beside::random::Random;
 use beside::sample::damage::damage;
-use beside::sample::{boxes, components, headers, markers, padded, parts, sizes, tiles};
+use beside::sample::{boxes, components, headers, markers, numbers, padded, parts, sizes, tiles};
 use beside::wanted::{self, Wanted, COMPLETE, COUNT, NONE, NO_MARKER, TRUNCATED};
-use probe::host;
+use probe::{host, TilePartEntry};
 
 use super::calls::{Calls, ROOM};
 
@@ -18,6 +18,7 @@ pub type Function = (Wanted, fn(&mut Calls));
 pub const FUNCTIONS: &[Function] = &[
     (wanted::EXTENT, extent),
     (wanted::HEADER, header),
+    (wanted::HEADER_BY_NUMBERING, header_by_numbering),
     (wanted::HEADER_RECORDS, header_records),
     (wanted::FIND_MARKER, find_marker),
     (wanted::SCAN, scan),
@@ -73,25 +74,45 @@ fn extent(calls: &mut Calls) {
 }
 
 /// A codestream, and room for its entries and its decode header, or about that.
-fn header_input(random: &mut Random) -> (Vec<u8>, usize, usize) {
-    let codestream = codestream(random);
-    let (entries, size) = model::header::needed(&codestream);
+fn header_input(random: &mut Random, numbering: u32) -> (Vec<u8>, usize, usize) {
+    let codestream = match random.below(64) {
+        0..=9 => numbers::few(random),
+        10 => past_the_last(random),
+        _ => codestream(random),
+    };
+    let (entries, size) = model::header::needed(&codestream, Numbering::of(numbering));
     (codestream, room(random, entries), room(random, size))
 }
 
-/// What is accepted is told apart by whether it has fillers.
-fn header_answer(codestream: &[u8]) -> impl Fn(u32) -> &'static str {
+/// A header that is refused where its numbers are carried on; where they restart it has more entries
+/// than may be lent here.
+fn past_the_last(random: &mut Random) -> Vec<u8> {
+    loop {
+        let built = numbers::many(random);
+        if model::header::parse_main_header(&built, Numbering::CarriedOn).is_err() {
+            return built;
+        }
+    }
+}
+
+/// What is accepted is told apart by whether it has fillers, and whether the numberings differ.
+fn header_answer(codestream: &[u8], numbering: u32) -> impl Fn(u32) -> &'static str {
     let fillers = model::header::fillers(codestream);
+    let entries = |numbering| {
+        let read = model::header::parse_main_header(codestream, numbering);
+        read.ok().map(|header| header.entries)
+    };
+    let numbered_on = entries(Numbering::of(numbering)) != entries(Numbering::Restarting);
     move |status| match status {
-        0 => wanted::header(fillers),
+        0 => wanted::header(fillers, numbered_on),
         _ => usual(status),
     }
 }
 
 fn header(calls: &mut Calls) {
-    let (codestream, entries, size) = header_input(&mut calls.random);
+    let (codestream, entries, size) = header_input(&mut calls.random, host::CARRIED_ON);
     let table = table(&mut calls.random, entries);
-    let answer = header_answer(&codestream);
+    let answer = header_answer(&codestream, host::CARRIED_ON);
     calls.call(
         [codestream],
         [table, size],
@@ -102,15 +123,38 @@ fn header(calls: &mut Calls) {
     );
 }
 
+/// Carried on, restarting, or a number that means nothing.
+fn any_numbering(random: &mut Random) -> u32 {
+    random.pick(&[0, 0, 1, 1, 2, u32::MAX])
+}
+
+fn header_by_numbering(calls: &mut Calls) {
+    let numbering = any_numbering(&mut calls.random);
+    let (codestream, entries, size) = header_input(&mut calls.random, numbering);
+    let table = table(&mut calls.random, entries);
+    let answer = header_answer(&codestream, numbering);
+    calls.call(
+        [codestream],
+        [table.min(ROOM), size],
+        answer,
+        |[codestream], [table, out], values| {
+            host::parse_main_header_by_numbering(codestream, numbering, table, out, values)
+        },
+    );
+}
+
 fn header_records(calls: &mut Calls) {
-    let (codestream, entries, size) = header_input(&mut calls.random);
-    let answer = header_answer(&codestream);
+    let numbering = any_numbering(&mut calls.random);
+    let (codestream, entries, size) = header_input(&mut calls.random, numbering);
+    let answer = header_answer(&codestream, numbering);
     calls.with_table(
         [codestream],
         [size],
-        entries,
+        entries.min(ROOM / size_of::<TilePartEntry>()),
         answer,
-        |[codestream], [out], table, values| probe::header_records(codestream, table, out, values),
+        |[codestream], [out], table, values| {
+            probe::header_records(codestream, numbering, table, out, values)
+        },
     );
 }
 

@@ -1,5 +1,6 @@
 //! The comparison: first SOT, decode header, table of rows and of records, refusals, and all that is
-//! not to be written; and the number of fillers, by the model.
+//! not to be written; and the number of fillers, by the model. Restarting, as the original numbers;
+//! carried on beside the model, and beside the original where the numberings have to agree.
 
 use probe::host;
 
@@ -9,22 +10,28 @@ use crate::compare::{self, Comparison};
 use crate::functions::records;
 use crate::judge::{Case, Leaves, Told};
 use crate::lent::{room, table, Lent};
-use crate::model::header::{needed, parse_main_header, Header};
-use crate::model::rows;
+use crate::model::header::{have_to_agree, needed, parse_main_header, Header, Numbering};
+use crate::model::{rows, Refusal};
+use crate::random::Random;
 use crate::sample::codestream::{Codestream, SOT, TLM};
 use crate::sample::markers::holding;
 use crate::sample::short::each_behind;
 use crate::sample::zeros::zeros;
-use crate::sample::{fillers, headers, opened, sample_a, tlms, TELLING};
-use crate::tally::hex_of_front;
+use crate::sample::{fillers, headers, numbers, opened, sample_a, tlms, TELLING};
+use crate::tally::{hex_of_front, Tally};
 use crate::wanted;
 
 type Original = fn(&[u8]) -> Option<Header>;
 type Run = compare::Run<Original>;
 
 pub const COMPARISON: Comparison<Original> = Comparison {
-    wanted: wanted::HEADER,
-    also: &[wanted::HEADER_RECORDS],
+    wanted: wanted::HEADER_RESTARTING,
+    also: &[
+        wanted::RECORDS_RESTARTING,
+        wanted::HEADER,
+        wanted::HEADER_CARRIED_ON,
+        wanted::RECORDS_CARRIED_ON,
+    ],
     minimum: 1_200_000,
     original,
     fixed,
@@ -39,6 +46,7 @@ fn fixed(run: &mut Run) {
     many_entries(run);
     every_marker(run);
     many_fillers(run);
+    numbers_by_hand(run);
 }
 
 impl Leaves<4, 2> for Header {
@@ -55,38 +63,118 @@ impl Leaves<4, 2> for Header {
 
 /// With rooms for what is needed, or about that.
 fn check(run: &mut Run, codestream: &[u8]) {
-    let (entries, size) = needed(codestream);
+    let (entries, size) = needed(codestream, Numbering::Restarting);
     let entries = room(&mut run.random, entries);
     let size = room(&mut run.random, size);
     check_with(run, codestream, entries, size);
 }
 
+/// By a numbering's number, or without one.
+fn rows_by(
+    numbering: Option<u32>,
+    codestream: &[u8],
+    [table, out]: [&mut [u8]; 2],
+    values: &mut [u64; 4],
+) -> u32 {
+    match numbering {
+        None => host::parse_main_header(codestream, table, out, values),
+        Some(number) => {
+            host::parse_main_header_by_numbering(codestream, number, table, out, values)
+        }
+    }
+}
+
+fn records_by(
+    numbering: u32,
+    codestream: &[u8],
+    [table, out]: [&mut [u8]; 2],
+    values: &mut [u64; 4],
+) -> u32 {
+    records::instead_of(table, |table| {
+        probe::header_records(codestream, numbering, table, out, values)
+    })
+}
+
 fn check_with(run: &mut Run, codestream: &[u8], entries: usize, size: usize) {
     let table = table(&mut run.random, entries);
     let before = Lent::preset(&mut run.random, [table, size]);
-    let of_records = before.left_by(|[table, out], values| {
-        records::instead_of(table, |table| {
-            probe::header_records(codestream, table, out, values)
-        })
-    });
-    let case = Case {
-        ours: before.left_by(|[table, out], values| {
-            host::parse_main_header(codestream, table, out, values)
-        }),
-        before,
-        told: Told::by(|| (run.original)(codestream)),
-        document: parse_main_header(codestream).and_then(|header| header.fit(table, size)),
+    let document = |numbering| {
+        parse_main_header(codestream, numbering).and_then(|header| header.fit(table, size))
     };
-    let fillers = case.document.as_ref().map_or(0, |header| header.fillers);
-    case.judge_both(wanted::header(fillers), of_records, run, || {
-        let codestream = hex_of_front(codestream);
-        format!("{codestream}; table {table}, output {size}")
-    });
+    let [restarting, carried_on] = [Numbering::Restarting, Numbering::CarriedOn].map(document);
+    let numbered_on = match (&restarting, &carried_on) {
+        (Ok(restarting), Ok(carried_on)) => restarting.entries != carried_on.entries,
+        _ => false,
+    };
+    let told = Told::by(|| (run.original)(codestream));
+    let agreed = told.clone().only_if(have_to_agree(codestream));
+    let number = carried_on_number(&mut run.random);
+
+    let judge = |tally: &mut Tally, ours, told, document: &Result<Header, Refusal>, another| {
+        let fillers = document.as_ref().map_or(0, |header| header.fillers);
+        let case = Case {
+            ours,
+            before: before.clone(),
+            told,
+            document: document.clone(),
+        };
+        case.judge_under(wanted::header(fillers, another), tally, || {
+            let codestream = hex_of_front(codestream);
+            format!("{codestream}; table {table}, output {size}, carried on by {number}")
+        });
+    };
+    let rows = |number| before.left_by(|lent, values| rows_by(number, codestream, lent, values));
+    let of_records =
+        |number| before.left_by(|lent, values| records_by(number, codestream, lent, values));
+    let again = host::RESTARTING;
+    judge(
+        &mut run.tally,
+        rows(Some(again)),
+        told.clone(),
+        &restarting,
+        false,
+    );
+    judge(
+        &mut run.also[0],
+        of_records(again),
+        told,
+        &restarting,
+        false,
+    );
+    judge(
+        &mut run.also[1],
+        rows(None),
+        agreed.clone(),
+        &carried_on,
+        numbered_on,
+    );
+    judge(
+        &mut run.also[2],
+        rows(Some(number)),
+        agreed.clone(),
+        &carried_on,
+        numbered_on,
+    );
+    judge(
+        &mut run.also[3],
+        of_records(number),
+        agreed,
+        &carried_on,
+        numbered_on,
+    );
+}
+
+/// 0, or a number that means nothing, and so the same.
+fn carried_on_number(random: &mut Random) -> u32 {
+    match random.below(4) {
+        0 => random.pick(&[2, 256, 1 << 31, u32::MAX]),
+        _ => host::CARRIED_ON,
+    }
 }
 
 /// Each pair of one short, exact and one more, and nothing lent at all.
 fn every_room(run: &mut Run, codestream: &[u8]) {
-    let (entries, size) = needed(codestream);
+    let (entries, size) = needed(codestream, Numbering::Restarting);
     check_with(run, codestream, 0, 0);
     for entries in [entries.saturating_sub(1), entries, entries + 1] {
         for size in [size - 1, size, size + 1] {
@@ -170,7 +258,24 @@ fn many_fillers(run: &mut Run) {
     }
 }
 
+/// Of each numbering, and about as many entries as there are numbers.
+fn numbers_by_hand(run: &mut Run) {
+    for (codestream, _) in numbers::by_hand() {
+        every_room(run, &codestream);
+    }
+    for (codestream, ..) in numbers::at_the_last() {
+        every_room(run, &codestream);
+    }
+}
+
 fn random(run: &mut Run) {
+    let built = numbers::few(&mut run.random);
+    check(run, &built);
+    run.damaged(2, &built, check);
+    if run.random.once_in(1 << 10) {
+        let built = numbers::many(&mut run.random);
+        check(run, &built);
+    }
     let built = headers::codestream(&mut run.random);
     every_room(run, &built);
     run.cut(2, &built, check);
@@ -185,11 +290,11 @@ mod tests {
     use super::{check_with, original, Original};
     use crate::compare::holds_on;
     use crate::model::header::{fillers as counted, is_delimiter, markers, Header};
-    use crate::sample::fillers;
+    use crate::sample::{fillers, numbers};
 
     /// On the headers whose fillers are counted by hand.
     fn holds(original: Original) -> bool {
-        holds_on::<1, _>(original, |run| {
+        holds_on::<4, _>(original, |run| {
             for (codestream, _) in fillers::counted() {
                 check_with(run, &codestream, 1, codestream.len());
             }
@@ -240,6 +345,38 @@ mod tests {
         ];
         for (nth, wrong) in wrong.into_iter().enumerate() {
             assert!(!holds(wrong), "{nth}");
+        }
+    }
+
+    /// On the headers whose indices are known by hand.
+    fn holds_numbered(original: Original) -> bool {
+        holds_on::<4, _>(original, |run| {
+            for (codestream, _) in numbers::by_hand() {
+                check_with(run, &codestream, 9, codestream.len());
+            }
+        })
+    }
+
+    /// The original's answer with other indices.
+    fn indexed(codestream: &[u8], index: fn(usize, u16) -> u16) -> Option<Header> {
+        let mut told = original(codestream)?;
+        for (row, entry) in told.entries.iter_mut().enumerate() {
+            entry.0 = index(row, entry.0);
+        }
+        Some(told)
+    }
+
+    #[test]
+    fn another_index_shows() {
+        assert!(holds_numbered(original));
+        let wrong: [Original; 3] = [
+            // by the row, none, and one more
+            |codestream| indexed(codestream, |row, _| row as u16),
+            |codestream| indexed(codestream, |_, _| 0),
+            |codestream| indexed(codestream, |_, index| index.wrapping_add(1)),
+        ];
+        for (nth, wrong) in wrong.into_iter().enumerate() {
+            assert!(!holds_numbered(wrong), "{nth}");
         }
     }
 }

@@ -1,13 +1,14 @@
 //! The benchmark: headers of one and many TLM segments, the entries into rows of bytes or into
-//! records, and of few and many fillers, which the original passes too and does not count. The table
-//! and the output that ours is lent are not cleared between calls; the original allocates its own.
+//! records, and of few and many fillers, which the original passes too and does not count. Entries are
+//! numbered as the original does, from 0 in each segment, or on over the segments. The table and the
+//! output that ours is lent are not cleared between calls; the original allocates its own.
 
 use std::cell::RefCell;
 
 use probe::{host, TilePartEntry};
 
 use crate::bench::{row, Benchmark, ORIGINAL};
-use crate::model::header::{parse_main_header, Header};
+use crate::model::header::{parse_main_header, Header, Numbering};
 use crate::model::ROW;
 use crate::sample::codestream::{Codestream, SOT};
 use crate::sample::{fillers, sample_a, tlms};
@@ -32,7 +33,8 @@ impl Input {
             entries,
             decode_header,
             ..
-        } = parse_main_header(&codestream).expect("a header to be timed is sound");
+        } = parse_main_header(&codestream, Numbering::CarriedOn)
+            .expect("a header to be timed is sound");
         Input {
             codestream,
             table: vec![0; ROW * entries.len()].into(),
@@ -44,16 +46,38 @@ impl Input {
 
 /// First SOT, the decode header's length, entries: the numbers that the original has too.
 fn ours(input: &Input) -> Option<[u64; 3]> {
+    by_numbering(input, host::RESTARTING)
+}
+
+fn carried_on(input: &Input) -> Option<[u64; 3]> {
+    by_numbering(input, host::CARRIED_ON)
+}
+
+fn by_numbering(input: &Input, numbering: u32) -> Option<[u64; 3]> {
     let mut values = [0; 4];
     let (mut table, mut out) = (input.table.borrow_mut(), input.out.borrow_mut());
-    let status = host::parse_main_header(&input.codestream, &mut table, &mut out, &mut values);
+    let codestream = &input.codestream;
+    let status = host::parse_main_header_by_numbering(
+        codestream,
+        numbering,
+        &mut table,
+        &mut out,
+        &mut values,
+    );
     shared(status, values)
 }
 
 fn recorded(input: &Input) -> Option<[u64; 3]> {
     let mut values = [0; 4];
     let (mut records, mut out) = (input.records.borrow_mut(), input.out.borrow_mut());
-    let status = probe::header_records(&input.codestream, &mut records, &mut out, &mut values);
+    let codestream = &input.codestream;
+    let status = probe::header_records(
+        codestream,
+        host::RESTARTING,
+        &mut records,
+        &mut out,
+        &mut values,
+    );
     shared(status, values)
 }
 
@@ -84,6 +108,18 @@ fn rows() {
     measure("10 fillers", fillers::many(10));
     measure("1,000 fillers", fillers::many(1_000));
     measure("100,000 fillers", fillers::many(100_000));
+    let numbered = |name, codestream| row(name, &Input::of(codestream), carried_on, theirs);
+    numbered("10 TLM of 1, carried on", tlms::many(10, 1, 0x00));
+    numbered("1,000 TLM of 1, carried on", tlms::many(1_000, 1, 0x00));
+    numbered("1,000 TLM of 65, carried on", tlms::many(1_000, 65, 0x00));
+    numbered(
+        "100,000 indexed TLM of 1, carried on",
+        tlms::many(100_000, 1, 0x60),
+    );
+    numbered(
+        "100 TLM of 10,000 indexed, carried on",
+        tlms::many(100, 10_000, 0x60),
+    );
 }
 
 fn both(name: &str, codestream: Vec<u8>) {
