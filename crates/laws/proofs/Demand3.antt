@@ -17,7 +17,11 @@ use Rattle.types.specs.declared.Refusal.{Refusal}
 use Rattle.types.specs.declared.TilePartEntry.{TilePartEntry}
 use Rattle.header.specs.Walk.{walkFrom}
 use Rattle.header.specs.Strip.{fillers, decodeHeader, tlmEntries}
-use Rattle.header.specs.Parse.{readAs, stands, judged}
+use Rattle.header.specs.Parse.{readAs, stands, judged, judgedBy}
+use Rattle.header.specs.declared.numbering.Numbering.{Numbering}
+use Rattle.header.specs.declared.numbering.Numbering.the-variants.{CarriedOn, Restarting}
+use Rattle.header.proofs.NumberingLaws.{judged-restart}
+use Rattle.header.proofs.Numberings.{carried-accepts}
 use Rattle.header.specs.declared.parse.MainHeaderInfo.{MainHeaderInfo}
 use Rattle.header.specs.declared.parse.MainHeader.{MainHeader}
 use Rattle.header.specs.declared.parse.MainHeader.the-variants.{Header}
@@ -79,7 +83,7 @@ module _ (s : List ℕ) (h : MainHeaderInfo) (e : judged s ≡ Header h) where
 -- ---- a header walk that stops at an SOT accepts
 
 accepted-at : (s a : List ℕ) (to : ℕ) → be 2 s 0 ≡ SOC → be 2 s 2 ≡ SIZ → length a ≤ 0xffff_ffff → Rewalked s a to
-    → (info : MainHeaderInfo) × (judged a ≡ Header info) × (info .«first_sot_offset» .0 ≡ to)
+    → (info : MainHeaderInfo) × (judged a ≡ Header info) × (info .«first_sot_offset» .0 ≡ to) × ((n : Numbering) → judgedBy n a ≡ judged a)
 unfolding readAs
 accepted-at s a to soc siz short r =
     let long = r .long in
@@ -94,7 +98,12 @@ accepted-at s a to soc siz short r =
       judged-walk a short (stands-there a 0 SOC (omega arith) (r .soc ∙ soc)) (stands-there a 2 SIZ (omega arith) (r .siz ∙ siz))
           ∙ ap (readAs a (walkFrom a 2)) (r .stops .ended),
       r .stops .stopped,
+      either,
     )
+  where
+    either : (n : Numbering) → judgedBy n a ≡ judged a
+    either CarriedOn = carried-accepts a (omega (arith, r .stops .none))
+    either Restarting = judged-restart a
 
 -- ---- what is assembled
 
@@ -181,6 +190,7 @@ module _ (rule : Rule) (s : List ℕ) (p : ℕ) (c : Accepted s p) (tile : ℕ) 
         front = take-at head rest (length head) refl;
         info = accepted .0;
         walk = accepted .1;
+        numbered = λ n. accepted .3 n ∙ accepted .1;
         first = accepted .2 ∙ sym (length-rewritten rule (decodeHeaderOf s) tile);
         scan = scans-table es scanned;
         entries = scanned .entries;

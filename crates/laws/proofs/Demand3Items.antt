@@ -135,7 +135,13 @@ module _ (s : List ℕ) (bytes : AllBytes s) (at next : ℕ) {stop : ℕ} {visit
         same = λ i l. by-lt (at + i + 1) next (λ h. within i (omega arith)) (λ h. past-visited s at next (kept s visits) rest inside (omega arith) g i (omega arith) (omega arith));
       })
 
--- an item behind any front
+-- an item behind any front: its marker is read again,
+pub marker-again : (s : List ℕ) (at next : ℕ) → Item s at next → next ≤ length s → (front y : List ℕ) → be 2 (front ++ (piece s at next ++ y)) (length front) ≡ be 2 s at
+marker-again s at next i inside front y =
+    let two = item-long i in
+    be-cong 2 _ _ _ _ (λ j l. getD-append-add front (piece s at next ++ y) j 0 ∙ in-visited s at next y inside j (omega arith))
+
+-- and it is passed
 pub pass-again : (s : List ℕ) (at next : ℕ) → Item s at next → next ≤ length s → (be 2 s at ≡ TLM → ⊥) → (front y : List ℕ)
     → (next ≡ segmentEnd s at → Field s at (piece s at next ++ y))
     → walkAt (front ++ (piece s at next ++ y)) (length front) ≡ on (length front + (next - at))
@@ -143,8 +149,7 @@ pass-again s at next i inside other front y stands =
     let x : List ℕ = piece s at next ++ y in
     let two = item-long i in
     let size : length (front ++ x) ≡ length front + (next - at + length y) = simp length-append (omega (arith, length-visited s at next inside)) in
-    passes-again s at next (front ++ x) (length front) i other
-    (be-cong 2 _ _ _ _ (λ j l. getD-append-add front x j 0 ∙ in-visited s at next y inside j (omega arith)))
+    passes-again s at next (front ++ x) (length front) i other (marker-again s at next i inside front y)
     (λ n.
     let f = stands n in
     let long = f .long in

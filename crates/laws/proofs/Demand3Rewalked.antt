@@ -1,13 +1,14 @@
 -- The walk over a decode header with an SOT after it: the delimiters and segments that are kept are read the same at their new places, so the walk
 -- passes them one by one and stops at the SOT. The rewrite changes bytes inside the SIZ segment only, behind its marker and its length.
 use Prim.Native.Nat.{ℕ, _+_, _-_, _≤_}
-use native.Mathlib.Nat.{add-zero}
+use native.Mathlib.Nat.{zero-add, add-zero}
 use native.Mathlib.Omega.{arith}
 use mathlib.Core.Path.{_≡_, refl, sym, ap, _∙_}
 use mathlib.Core.Bool.{false}
 use mathlib.Core.List.{List, _∷_, _++_, append-assoc}
 use lib.ListN.{length, take, length-append}
 use lib.Seq.{getD-take, take-append-le, drop-append-le, length-take-le, take-add}
+use borrow.Author.Tests.{ne-eqb}
 use Rattle.numbers.specs.Bytes.{be, put}
 use Rattle.numbers.proofs.BytesLaws.{be-cong, be-rest, be-front, be-put-before, length-put}
 use Rattle.types.specs.Markers.{SIZ, TLM, SOT}
@@ -16,6 +17,7 @@ use Rattle.chain.proofs.ChainLaws.{chain-run, chain-stops}
 use Rattle.header.specs.Step.{delimits, segmentEnd}
 use Rattle.header.specs.Walk.{WalkEnd, firstSot, walkAt, walkFrom}
 use Rattle.header.specs.Strip.{kept, decodeHeader}
+use Rattle.header.specs.Numbering.{unindexedIn}
 use Rattle.header.proofs.StepLaws.{step-sot}
 use Rattle.header.proofs.WalkLaws.{not-true-false, walk-sot, walk-found, walk-rises, walk-moves}
 use Rattle.header.proofs.WalkVisited.{length-visited}
@@ -26,25 +28,35 @@ use Rattle.tile.specs.declared.rewrite.TileSize.{TileSize}
 use Rattle.tile.specs.declared.rewrite.TileSize.the-variants.{Whole, Cut, Refused}
 use Rattle.tile.proofs.RewriteHeader.{length-one}
 use Rattle.laws.specs.Demand3.{AllBytes}
-use Rattle.laws.proofs.Demand3Items.{kept-tlm, kept-other, by-tlm, piece, field, pass-again}
+use Rattle.laws.proofs.Demand3Items.{kept-tlm, kept-other, by-tlm, piece, field, marker-again, pass-again}
 
 -- ---- the walk over what is kept
 
--- the walk from a position on stops at another, at an SOT
+-- the walk from a position on stops at another, at an SOT, and meets no TLM entry that has to be numbered
 pub record Stops (a : List ℕ) (from to : ℕ) : Type 0 where
   pub stopped : walkFrom a from .stopped ≡ to
   pub ended : walkFrom a from .ended ≡ firstSot
+  pub none : unindexedIn a (walkFrom a from .visits) ≡ 0
 
-stops-on : (a : List ℕ) (from next to : ℕ) → walkAt a from ≡ on next → Stops a next to → Stops a from to
-unfolding also
-stops-on a from next to found more =
+stops-on : (a : List ℕ) (from next to : ℕ) → walkAt a from ≡ on next → (be 2 a from ≡ TLM → ⊥) → Stops a next to → Stops a from to
+unfolding also unindexedIn
+stops-on a from next to found other more =
     let e = walk-moves a from next found in
-    record { stopped = ap (λ (c : Chain WalkEnd). c .stopped) e ∙ more .stopped; ended = ap (λ (c : Chain WalkEnd). c .ended) e ∙ more .ended }
+    record {
+      stopped = ap (λ (c : Chain WalkEnd). c .stopped) e ∙ more .stopped;
+      ended = ap (λ (c : Chain WalkEnd). c .ended) e ∙ more .ended;
+      none = ap (λ (c : Chain WalkEnd). unindexedIn a (c .visits)) e ∙ rw (ne-eqb _ _ other) (zero-add _ ∙ more .none);
+    }
 
 stops-here : (a : List ℕ) (at : ℕ) → at + 2 ≤ length a → be 2 a at ≡ SOT → Stops a at at
+unfolding unindexedIn
 stops-here a at room m =
     let e = walk-found a at (walk-sot a at (step-sot a at room m)) in
-    record { stopped = ap (λ (c : Chain WalkEnd). c .stopped) e; ended = ap (λ (c : Chain WalkEnd). c .ended) e }
+    record {
+      stopped = ap (λ (c : Chain WalkEnd). c .stopped) e;
+      ended = ap (λ (c : Chain WalkEnd). c .ended) e;
+      none = ap (λ (c : Chain WalkEnd). unindexedIn a (c .visits)) e;
+    }
 
 stops-as : {a b : List ℕ} {from there to stop : ℕ} → a ≡ b → from ≡ there → to ≡ stop → Stops a from to → Stops b there stop
 stops-as e f g h = rw (← e, ← f, ← g) h
@@ -64,6 +76,7 @@ module _ (s : List ℕ) (bytes : AllBytes s) (rest : List ℕ) where
       rw (append-assoc here k rest)
       (stops-on (front ++ (here ++ (k ++ rest))) (length front) (length front + (next - at)) (length front + length (here ++ k))
       (pass-again s at next (i .0) (i .1) other front (k ++ rest) (λ n. field s bytes at next run ends (i .1) n rest))
+      (λ is. other (sym (marker-again s at next (i .0) (i .1) front (k ++ rest)) ∙ is))
       (stops-as (append-assoc front here (k ++ rest)) past total more))
 
   module _ (two : 2 ≤ length rest) (begins : be 2 rest 0 ≡ SOT) where
@@ -187,6 +200,7 @@ module _ (s : List ℕ) (bytes : AllBytes s) (rest : List ℕ) (two : 2 ≤ leng
         soc = read-again s marker lsiz next (i .0) (i .1) z (k ++ rest) 0 (omega arith);
         siz = read-again s marker lsiz next (i .0) (i .1) z (k ++ rest) 2 (omega arith);
         stops = stops-on (head ++ (k ++ rest)) 2 next (length head + length k) (pass-siz s marker lsiz next (i .0) (i .1) z (k ++ rest))
+            (λ is. omega (arith, read-again s marker lsiz next (i .0) (i .1) z (k ++ rest) 2 (omega arith)))
             (stops-as refl head-long refl (rewalk s bytes rest two begins run ends head));
       })
 

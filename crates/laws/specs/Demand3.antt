@@ -10,6 +10,7 @@ use Rattle.types.specs.declared.Refusal.{Refusal}
 use Rattle.types.specs.declared.TilePartEntry.{TilePartEntry}
 use Rattle.header.specs.Walk.{walkFrom}
 use Rattle.header.specs.Strip.{decodeHeader}
+use Rattle.header.specs.declared.numbering.Numbering.{Numbering}
 use Rattle.header.specs.declared.parse.MainHeaderInfo.{MainHeaderInfo}
 use Rattle.header.specs.declared.parse.MainHeader.the-variants.{Header}
 use Rattle.parts.specs.Sot.{psot}
@@ -31,6 +32,7 @@ use Rattle.tile.specs.declared.rewrite.TileSize.the-variants as size
 abbrev pub AllBytes : List ℕ → Type 0
 AllBytes s = (i : ℕ) → getD s i 0 < 256
 
+-- by the walk itself: what either numbering accepts, the walk accepts too (header, `by-accepted`)
 pub record Accepted (s : List ℕ) (p : ℕ) : Type 0 where
   pub bytes : AllBytes s
   pub info : MainHeaderInfo
@@ -90,6 +92,7 @@ pub record Standing (header : List ℕ) (es : List TilePartEntry) (codestream : 
   pub front : take (length header) codestream ≡ header
   pub info : MainHeaderInfo
   pub walk : parse.judged codestream ≡ Header info
+  pub numbered : (n : Numbering) → parse.judgedBy n codestream ≡ Header info
   pub first : info .«first_sot_offset» .0 ≡ length header
   pub scan : scan.judged (scanFrom codestream (length header)) ≡ Table (length es)
   pub entries : entriesFrom codestream (length header) ≡ underZero (length header) es

@@ -1,5 +1,9 @@
 -- What the callees say of answer and lent memory is what is promised.
+use mathlib.Core.Path.{ap, _∙_}
 use borrow.Author.Needs.{needs}
+use Rattle.header.specs.Parse.{tableAfter, outAfter, headerNumber, headerFirst, headerLength, headerEntries, headerFillers}
+use Rattle.header.specs.declared.numbering.Numbering.the-variants.{CarriedOn}
+use Rattle.header.specs.declared.parse.MainHeader.{MainHeader}
 use Rattle.host.proofs.parse.winterhasp_parse_main_header.Statement.{statement}
 use Rattle.host.proofs.parse.winterhasp_parse_main_header.Tie as tie
 
@@ -17,9 +21,18 @@ same-length-2 c = search needs
 
 returns : tie.Need-returns
 returns c =
-    let read = c .before .before .before .before .before .before .before .before .before .parse-main-header .ensures in
+    let w = c .before .before .before .before .before .before .before .before .before in
+    let a = w .before .before .before .before .before .before .args in
+    let read = w .parse-main-header .ensures in
     let told = c .tell .ensures in
-    rw (← read .0) (told .0, (told .1 .0, (told .1 .1 .0, (told .1 .1 .1 .0, (told .1 .1 .1 .1, (read .1 .0, read .1 .1))))))
+    let answer = read .0 in
+    (told .0 ∙ ap headerNumber answer,
+    (told .1 .0 ∙ ap headerFirst answer,
+    (told .1 .1 .0 ∙ ap (λ (m : MainHeader). headerLength m (a .decode-length .now)) answer,
+    (told .1 .1 .1 .0 ∙ ap (λ (m : MainHeader). headerEntries m (a .entries .now)) answer,
+    (told .1 .1 .1 .1 ∙ ap (λ (m : MainHeader). headerFillers m (a .fillers .now)) answer,
+    (read .1 .0 ∙ ap (λ (m : MainHeader). tableAfter CarriedOn m (a .codestream .now) (a .table .now)) answer,
+    read .1 .1 ∙ ap (λ (m : MainHeader). outAfter m (a .codestream .now) (a .out .now)) answer))))))
 
 pub winterhasp-parse-main-header-spec : {M : Type 1} → statement M
 winterhasp-parse-main-header-spec =

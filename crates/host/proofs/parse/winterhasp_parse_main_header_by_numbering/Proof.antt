@@ -1,5 +1,12 @@
 -- What the callees say of answer and lent memory is what is promised.
+use Prim.Native.Nat.{_/_}
+use mathlib.Core.Path.{_≡_, ap, _∙_}
+use lib.ListN.{length}
 use borrow.Author.Needs.{needs}
+use Rattle.header.specs.Numbering.{numberingOf}
+use Rattle.header.specs.Parse.{parsed, tableAfter, outAfter, headerNumber, headerFirst, headerLength, headerEntries, headerFillers}
+use Rattle.header.specs.declared.numbering.Numbering.{Numbering}
+use Rattle.header.specs.declared.parse.MainHeader.{MainHeader}
 use Rattle.host.proofs.parse.winterhasp_parse_main_header_by_numbering.Statement.{statement}
 use Rattle.host.proofs.parse.winterhasp_parse_main_header_by_numbering.Tie as tie
 
@@ -21,9 +28,19 @@ same-length-2 c = search needs
 returns : tie.Need-returns
 returns c =
     let w = c .before .before .before .before .before .before .before .before .before in
-    let read = rw (w .before .before .before .numbering-of .ensures) at (w .parse-main-header .ensures) in
+    let named = w .before .before .before in
+    let a = named .before .before .before .before .args in
+    let read = w .parse-main-header .ensures in
     let told = c .tell .ensures in
-    rw (← read .0) (told .0, (told .1 .0, (told .1 .1 .0, (told .1 .1 .1 .0, (told .1 .1 .1 .1, (read .1 .0, read .1 .1))))))
+    let n : named .numbering-of .result ≡ numberingOf (a .numbering) = named .numbering-of .ensures in
+    let answer = read .0 ∙ ap (λ (k : Numbering). parsed k (a .codestream .now) (length (a .table .now) / 18) (length (a .out .now))) n in
+    (told .0 ∙ ap headerNumber answer,
+    (told .1 .0 ∙ ap headerFirst answer,
+    (told .1 .1 .0 ∙ ap (λ (m : MainHeader). headerLength m (a .decode-length .now)) answer,
+    (told .1 .1 .1 .0 ∙ ap (λ (m : MainHeader). headerEntries m (a .entries .now)) answer,
+    (told .1 .1 .1 .1 ∙ ap (λ (m : MainHeader). headerFillers m (a .fillers .now)) answer,
+    (read .1 .0 ∙ (λ i. tableAfter (n i) (answer i) (a .codestream .now) (a .table .now)),
+    read .1 .1 ∙ ap (λ (m : MainHeader). outAfter m (a .codestream .now) (a .out .now)) answer))))))
 
 pub winterhasp-parse-main-header-by-numbering-spec : {M : Type 1} → statement M
 winterhasp-parse-main-header-by-numbering-spec =
