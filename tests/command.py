@@ -843,10 +843,8 @@ class Runs:
             self.case(Case(["list", file], out=told[RESTARTING]))
             error = about(file, sentence(26, third, start)) if entries > 5 else ""
             refused = f"codestream {start} {len(content)}\nrefused 26 {third}\n"
-            carried_on = Case(["list", file, "--numbering", CARRIED_ON], 1, refused, error) if error else Case(
-                ["list", file, "--numbering", CARRIED_ON], out=told[CARRIED_ON]
-            )
-            self.case(carried_on)
+            words = ["list", file, "--numbering", CARRIED_ON]
+            self.case(Case(words, 1, refused, error) if error else Case(words, out=told[CARRIED_ON]))
             status, out, said = self.run("show", file)
             lines = out.splitlines()
             wanted = f"refused     {refused_line(26, third)}" if error else "tlm         65535 entries"
@@ -1410,8 +1408,8 @@ class Runs:
 
 GROUPS = [
     Runs.accepted, Runs.refused, Runs.components, Runs.tiles, Runs.packed, Runs.fillers, Runs.numberings, Runs.rules,
-    Runs.never_over_the_input, Runs.machines, Runs.pictures, Runs.not_read, Runs.words, Runs.not_written, Runs.streams, Runs.damaged, Runs.folders,
-    Runs.large, Runs.shrinking, Runs.encoders,
+    Runs.never_over_the_input, Runs.machines, Runs.pictures, Runs.not_read, Runs.words, Runs.not_written, Runs.streams,
+    Runs.damaged, Runs.folders, Runs.large, Runs.shrinking, Runs.encoders,
 ]  # fmt: skip
 
 

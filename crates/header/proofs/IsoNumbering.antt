@@ -1,7 +1,7 @@
 -- A main header by the standard, read with its entries' numbers carried on, whatever stands behind it: the answer is the walk's where no more than 65,535
 -- entries have no index, and otherwise 26 at the segment where the number passes. What the walk refuses behind few enough of them is refused as ever.
 use Prim.Native.Nat.{ℕ, _+_, _≤_, _<_}
-use native.Mathlib.Nat.{zero-add, add-zero, add-assoc}
+use native.Mathlib.Nat.{add-zero, add-assoc}
 use native.Mathlib.Omega.{arith}
 use mathlib.Core.Path.{_≡_, refl, sym, ap, _∙_}
 use mathlib.Core.Bool.{cond}
@@ -13,7 +13,7 @@ use Rattle.numbers.specs.Bytes.{bytesOf}
 use Rattle.numbers.specs.Rows.{bytesOfRows}
 use Rattle.numbers.proofs.BytesLaws.{length-bytes}
 use Rattle.numbers.proofs.Choice.{by-bool}
-use Rattle.types.specs.Markers.{SOC, SOT}
+use Rattle.types.specs.Markers.{SOC}
 use Rattle.types.specs.Refusals.{refusal}
 use Rattle.types.specs.declared.Refusal.{Refusal}
 use Rattle.chain.specs.Chain.{Chain}

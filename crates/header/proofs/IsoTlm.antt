@@ -1,5 +1,6 @@
 -- A TLM segment by the standard, anywhere in a codestream, is passed whole and read entry by entry: each row stands where the rows before it end.
--- Segments in the order of Ztlm make the standard's table where the numbers are carried on; all with indices, and a single segment, make it also where they restart.
+-- Segments in the order of Ztlm make the standard's table where the numbers are carried on; all with indices, and a single one, make it also where they
+-- restart.
 use Prim.Native.Nat.{ℕ, _+_, _*_, _^_, _<_}
 use native.Mathlib.Nat.{add-zero, add-assoc, zero-mul, suc-mul, add-mul, add-sub-cancel-left, mul-div-cancel}
 use native.Mathlib.Omega.{arith}

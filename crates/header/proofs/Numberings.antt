@@ -4,7 +4,7 @@ use Prim.Native.Nat.{ℕ, _+_, _-_, _*_, _≤_, _<_}
 use native.Mathlib.Nat.{zero-add, add-zero, add-assoc}
 use native.Mathlib.Omega.{arith}
 use mathlib.Core.Path.{_≡_, refl, sym, ap, ap₂, _∙_}
-use mathlib.Core.Bool.{Bool, true, false, cond}
+use mathlib.Core.Bool.{true, false, cond}
 use mathlib.Core.List.{List, [], _∷_, _++_}
 use lib.ListN.{length, getD}
 use lib.Dec.{leb, eqb}
@@ -20,10 +20,9 @@ use Rattle.header.specs.Tlm.{Entry, ltlm, indexSize, stlm, entryCount, t
 use Rattle.header.specs.Walk.{cutAt, tlmStep, passedAt, walkStepOf, walkStepAt, WalkEnd, firstSot, refused, walkMove, walkAt, walkFrom}
 use Rattle.header.specs.Strip.{isTlm}
 use Rattle.header.specs.Numbering.{nextNumber, entriesBy, endedBy, unindexedIn, unindexedSegments}
-use Rattle.header.specs.Parse.{readAs, frontOf, behindFront, judged, behindFrontBy, judgedBy, tlmTable, tableBy}
+use Rattle.header.specs.Parse.{readAs, frontOf, behindFront, judged, behindFrontBy, judgedBy, tableBy}
 use Rattle.header.specs.declared.numbering.Numbering.{Numbering}
 use Rattle.header.specs.declared.numbering.Numbering.the-variants.{CarriedOn, Restarting}
-use Rattle.header.specs.declared.step.Marker.{Marker}
 use Rattle.header.specs.declared.step.HeaderStep.{HeaderStep}
 use Rattle.header.specs.declared.step.HeaderStep.the-variants as found
 use Rattle.header.specs.declared.tlm.Tlm.{Tlm}
@@ -33,10 +32,10 @@ use Rattle.header.specs.declared.parse.Front.{Front}
 use Rattle.header.specs.declared.parse.Front.the-variants as front
 use Rattle.header.specs.declared.parse.MainHeader.{MainHeader}
 use Rattle.header.specs.declared.parse.MainHeader.the-variants.{Header, Refused}
-use Rattle.header.proofs.TlmLaws.{entries-indexed, unindexed-all, unindexed-none}
+use Rattle.header.proofs.TlmLaws.{entries-indexed, unindexed-all}
 use Rattle.header.proofs.TlmFill.{unindexed-bound}
 use Rattle.header.proofs.WalkLaws.{walk-rises}
-use Rattle.header.proofs.NumberingLaws.{refused-first, endFrom, by-sound, entries-restart, table-restart, judged-restart}
+use Rattle.header.proofs.NumberingLaws.{refused-first, endFrom, by-sound, judged-restart}
 
 -- ---- no number passes, or one does
 

@@ -15,7 +15,7 @@ use Rattle.numbers.proofs.Rows.{be-behind, be-one}
 use Rattle.types.specs.Markers.{SOC, TLM, SOT}
 use Rattle.types.specs.Refusals.{refusal}
 use Rattle.types.specs.declared.Refusal.{Refusal}
-use Rattle.header.specs.Iso.{Segment, segmentBytes}
+use Rattle.header.specs.Iso.{segmentBytes}
 use Rattle.header.specs.IsoTlm.{Pointer, TlmSegment, tlmRows, Held, TlmRanges, numbered, numberedOn, insert, ordered, isoTable, withoutIndex, InOrder}
 use Rattle.header.specs.IsoMain.{Piece, tlm, pieceBytes, piecesBytes, mainHeader, Sound, AllSound, IsMain, tables, pointerCount, without}
 use Rattle.header.specs.Parse.{judged, judgedBy}

@@ -1,6 +1,5 @@
 -- What a call leaves in the table of records is one replacement from its start, or the table as it was.
 use Prim.Native.Nat.{ℕ}
-use native.Mathlib.Omega.{arith}
 use mathlib.Core.Path.{_≡_, sym, ap, _∙_}
 use mathlib.Core.List.{List, _++_}
 use lib.ListN.{length, drop, length-replicate}

@@ -25,14 +25,25 @@ returns c =
     let a = w .before .before .before .before .before .before .args in
     let read = w .parse-main-header .ensures in
     let told = c .tell .ensures in
-    let answer = read .0 in
-    (told .0 ∙ ap headerNumber answer,
-    (told .1 .0 ∙ ap headerFirst answer,
-    (told .1 .1 .0 ∙ ap (λ (m : MainHeader). headerLength m (a .decode-length .now)) answer,
-    (told .1 .1 .1 .0 ∙ ap (λ (m : MainHeader). headerEntries m (a .entries .now)) answer,
-    (told .1 .1 .1 .1 ∙ ap (λ (m : MainHeader). headerFillers m (a .fillers .now)) answer,
-    (read .1 .0 ∙ ap (λ (m : MainHeader). tableAfter CarriedOn m (a .codestream .now) (a .table .now)) answer,
-    read .1 .1 ∙ ap (λ (m : MainHeader). outAfter m (a .codestream .now) (a .out .now)) answer))))))
+    let answer = read .0 in (
+      told .0 ∙ ap headerNumber answer,
+      (
+        told .1 .0 ∙ ap headerFirst answer,
+        (
+          told .1 .1 .0 ∙ ap (λ (m : MainHeader). headerLength m (a .decode-length .now)) answer,
+          (
+            told .1 .1 .1 .0 ∙ ap (λ (m : MainHeader). headerEntries m (a .entries .now)) answer,
+            (
+              told .1 .1 .1 .1 ∙ ap (λ (m : MainHeader). headerFillers m (a .fillers .now)) answer,
+              (
+                read .1 .0 ∙ ap (λ (m : MainHeader). tableAfter CarriedOn m (a .codestream .now) (a .table .now)) answer,
+                read .1 .1 ∙ ap (λ (m : MainHeader). outAfter m (a .codestream .now) (a .out .now)) answer,
+              ),
+            ),
+          ),
+        ),
+      ),
+    )
 
 pub winterhasp-parse-main-header-spec : {M : Type 1} → statement M
 winterhasp-parse-main-header-spec =

@@ -33,14 +33,25 @@ returns c =
     let read = w .parse-main-header .ensures in
     let told = c .tell .ensures in
     let n : named .numbering-of .result ≡ numberingOf (a .numbering) = named .numbering-of .ensures in
-    let answer = read .0 ∙ ap (λ (k : Numbering). parsed k (a .codestream .now) (length (a .table .now) / 18) (length (a .out .now))) n in
-    (told .0 ∙ ap headerNumber answer,
-    (told .1 .0 ∙ ap headerFirst answer,
-    (told .1 .1 .0 ∙ ap (λ (m : MainHeader). headerLength m (a .decode-length .now)) answer,
-    (told .1 .1 .1 .0 ∙ ap (λ (m : MainHeader). headerEntries m (a .entries .now)) answer,
-    (told .1 .1 .1 .1 ∙ ap (λ (m : MainHeader). headerFillers m (a .fillers .now)) answer,
-    (read .1 .0 ∙ (λ i. tableAfter (n i) (answer i) (a .codestream .now) (a .table .now)),
-    read .1 .1 ∙ ap (λ (m : MainHeader). outAfter m (a .codestream .now) (a .out .now)) answer))))))
+    let answer = read .0 ∙ ap (λ (k : Numbering). parsed k (a .codestream .now) (length (a .table .now) / 18) (length (a .out .now))) n in (
+      told .0 ∙ ap headerNumber answer,
+      (
+        told .1 .0 ∙ ap headerFirst answer,
+        (
+          told .1 .1 .0 ∙ ap (λ (m : MainHeader). headerLength m (a .decode-length .now)) answer,
+          (
+            told .1 .1 .1 .0 ∙ ap (λ (m : MainHeader). headerEntries m (a .entries .now)) answer,
+            (
+              told .1 .1 .1 .1 ∙ ap (λ (m : MainHeader). headerFillers m (a .fillers .now)) answer,
+              (
+                read .1 .0 ∙ (λ i. tableAfter (n i) (answer i) (a .codestream .now) (a .table .now)),
+                read .1 .1 ∙ ap (λ (m : MainHeader). outAfter m (a .codestream .now) (a .out .now)) answer,
+              ),
+            ),
+          ),
+        ),
+      ),
+    )
 
 pub winterhasp-parse-main-header-by-numbering-spec : {M : Type 1} → statement M
 winterhasp-parse-main-header-by-numbering-spec =
