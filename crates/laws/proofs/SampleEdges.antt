@@ -412,6 +412,11 @@ past-before-3 = many.past 32_765 6 (omega arith) (omega arith) (omega arith) (om
 pub restarting-3 : judgedBy Restarting (mainHeader standard.siz (three 32_765 6) ++ many.cut) ≡ parse.Refused (refusal 3 131_135)
 restarting-3 = many.own-restarts 32_765 6 (omega arith) (omega arith) many.cut (omega arith) 3 many.cut-there
 
+-- ---- * 65,536 of them, and behind them one segment more with one: 26 at the third, where the number first passes.
+
+pub past-before-past : judgedBy CarriedOn (mainHeader standard.siz (three 32_765 6) ++ many.one-more) ≡ parse.Refused (refusal 26 131_117)
+past-before-past = many.past 32_765 6 (omega arith) (omega arith) (omega arith) (omega arith) many.one-more (omega arith)
+
 -- ---- * 65,535 of them, and behind them one that is cut, with Ltlm 3, or with ST 3: 3, 4, 5 there.
 
 pub at-65535-3 : judgedBy CarriedOn (mainHeader standard.siz (three 32_765 5) ++ many.cut) ≡ parse.Refused (refusal 3 131_133)

@@ -104,7 +104,7 @@ module _ (full n : ℕ) (fits : full ≤ 32_765) (few : n ≤ 32_765) where
         length-tlm (entries n),
       )
 
-  short : (tail : List ℕ) → length tail ≤ 6 → length (mainHeader siz (three full n) ++ tail) ≤ 0xffff_ffff
+  short : (tail : List ℕ) → length tail ≤ 8 → length (mainHeader siz (three full n) ++ tail) ≤ 0xffff_ffff
   short tail h = omega (arith, length-append (mainHeader siz (three full n)) tail, length-pieces)
 
   -- a header and the first tile-part's SOT: the walk accepts it, and so does either numbering, if the numbers do not pass
@@ -139,7 +139,7 @@ module _ (full n : ℕ) (fits : full ≤ 32_765) (few : n ≤ 32_765) where
   carried h = carried-standard siz (three full n) [] main (omega (arith, count full, count n)) ∙ walked
 
   -- they pass in the third segment, whatever stands behind it
-  pub past : full + full ≤ 65_535 → 65_535 < full + full + n → (tail : List ℕ) → length tail ≤ 6
+  pub past : full + full ≤ 65_535 → 65_535 < full + full + n → (tail : List ℕ) → length tail ≤ 8
       → judgedBy CarriedOn (mainHeader siz (three full n) ++ tail) ≡ Refused (refusal 26 (57 + 4 * full))
   unfolding tables withoutIndex
   past h many tail little =
@@ -147,7 +147,7 @@ module _ (full n : ℕ) (fits : full ≤ 32_765) (few : n ≤ 32_765) where
       ∙ (λ i. Refused (refusal 26 (length-before i)))
 
   -- what the walk refuses behind the three
-  module _ (tail : List ℕ) (little : length tail ≤ 6) (number : ℕ)
+  module _ (tail : List ℕ) (little : length tail ≤ 8) (number : ℕ)
       (found : (front : List ℕ) → walkStepAt (front ++ tail) (length front) ≡ walk.Refused (refusal number (length front))) where
     pub own-restarts : judgedBy Restarting (mainHeader siz (three full n) ++ tail) ≡ Refused (refusal number (63 + 4 * full + 2 * n))
     own-restarts =
@@ -171,6 +171,10 @@ ltlm-3 = 0xff ∷ 0x55 ∷ 0 ∷ 3 ∷ 0 ∷ []
 
 abbrev pub st-3 : List ℕ
 st-3 = 0xff ∷ 0x55 ∷ 0 ∷ 4 ∷ 0 ∷ 0x30 ∷ []
+
+-- none: a segment of one more entry without an index
+abbrev pub one-more : List ℕ
+one-more = 0xff ∷ 0x55 ∷ 0 ∷ 6 ∷ 0 ∷ 0 ∷ 0 ∷ 14 ∷ []
 
 module _ (front : List ℕ) where
   pub cut-there : walkStepAt (front ++ cut) (length front) ≡ walk.Refused (refusal 3 (length front))
