@@ -20,7 +20,8 @@
 //! # Ok::<(), Box<dyn std::error::Error>>(())
 //! ```
 //!
-//! Functions that take no [`Rule`] go by Annex B's, which moves a tile that is cut out to 0, 0.
+//! Functions that take no [`Rule`] go by Annex B's, which moves a tile that is cut out to 0, 0; the one
+//! that takes no [`Numbering`] carries on.
 //!
 //! The archive is linked from the folder that `WINTERHASP_LIB` names, or from the repository's
 //! `target/staticlib`, where `rt staticlib host` writes it. It is for x86-64.
