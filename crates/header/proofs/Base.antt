@@ -1,34 +1,37 @@
--- What a step says of the marker that it passes is all that is new: who forgets it has the step, the walk and the answer of before, on every input. The
--- chains are the same, so what is said of these in words that have not changed is as it was: the extent, acceptance, the first SOT, the
--- decode header, the TLM table, and each refusal with its place.
-use Prim.Native.Nat.{ℕ, _+_}
+-- What a step says of the marker that it passes, and the numbering, are all that is new: who forgets the one has the step, the walk and, restarting, the
+-- answer of before, on every input. The chains are the same, so what is said of these in words that have not changed is as it was: the extent,
+-- acceptance, the first SOT, the decode header, the TLM table, and each refusal with its place.
+use Prim.Native.Nat.{ℕ, _+_, _*_}
 use mathlib.Core.Path.{_≡_, refl, sym, ap, _∙_}
 use mathlib.Core.Bool.{cond}
-use mathlib.Core.List.{List}
-use lib.ListN.{length}
+use mathlib.Core.List.{List, _++_}
+use lib.ListN.{length, drop}
 use lib.Dec.{leb, eqb}
 use borrow.Author.Tests.{ne-eqb}
 use Rattle.numbers.specs.Bytes.{be}
 use Rattle.numbers.proofs.Choice.{by-bool}
 use Rattle.types.specs.Markers.{SOC, SOT, TLM}
+use Rattle.types.specs.Row.{rowsOf}
+use Rattle.types.specs.declared.TilePartEntry.{TilePartEntry}
 use Rattle.chain.specs.Chain.{Chain, chain}
 use Rattle.header.specs.Step.{delimits, segmentEnd, cut, stepAt, moveOf, moveAt, stepsFrom}
 use Rattle.header.specs.Extent.{extentEnd, extentOf}
 use Rattle.header.specs.Tlm.{tlmAt, placed}
 use Rattle.header.specs.Walk.{tlmStep, passedAt, walkStepOf, walkStepAt, WalkEnd, firstSot, refused, walkMove, walkAt, walkFrom}
 use Rattle.header.specs.Strip.{decodeHeader, tlmEntries}
-use Rattle.header.specs.Parse.{readAs, frontOf, behindFront, judged, withRoom, parsed, tlmTable}
+use Rattle.header.specs.Parse.{readAs, frontOf, behindFront, judged, withRoom, parsed, tlmTable, tableAfter}
 use Rattle.header.specs.declared.step.Marker.{Marker}
 use Rattle.header.specs.declared.step.HeaderStep.{HeaderStep}
 use Rattle.header.specs.declared.step.HeaderStep.the-variants.{Sot, Delimiter, Segment, CutShort}
 use Rattle.header.specs.declared.tlm.Tlm.{Tlm}
 use Rattle.header.specs.declared.walk.WalkStep.{WalkStep}
 use Rattle.header.specs.declared.parse.Front.{Front}
+use Rattle.header.specs.declared.parse.MainHeaderInfo.{MainHeaderInfo}
 use Rattle.header.specs.declared.parse.MainHeader.{MainHeader}
 use Rattle.header.specs.declared.extent.MainHeaderExtent.the-variants.{Truncated}
 use Rattle.header.proofs.StepLaws.{Told, step-told}
 use Rattle.header.specs.declared.numbering.Numbering.the-variants.{Restarting}
-use Rattle.header.proofs.NumberingLaws.{judged-restart}
+use Rattle.header.proofs.NumberingLaws.{judged-restart, table-restart}
 use Rattle.header.proofs.WalkLaws.{not-true-false, tlm-no-delimiter}
 use Rattle.header.specs.declared.tlm.Tlm.the-variants as tlm
 use Rattle.header.specs.declared.walk.WalkStep.the-variants as walk
@@ -141,3 +144,8 @@ pub parsed-base : (s : List ℕ) (rows room : ℕ) → base.withoutFillers (pars
 unfolding parsed
 parsed-base s rows room =
     ap (λ (m : MainHeader). base.withoutFillers (withRoom rows room m)) (judged-restart s) ∙ room-base rows room (judged s) ∙ ap (base.withRoom rows room) (judged-base s)
+
+-- what is left in the table, numbered from 0 in each segment: the old text
+pub after-base : (h : MainHeaderInfo) (s table : List ℕ) → tableAfter Restarting (main.Header h) s table ≡ rowsOf (tlmTable s) ++ drop (18 * h .«tlm_entries») table
+unfolding tableAfter
+after-base h s table = ap (λ (es : List TilePartEntry). rowsOf es ++ drop (18 * h .«tlm_entries») table) (table-restart s)
