@@ -850,9 +850,9 @@ class Runs:
             wanted = f"refused     {refused_line(26, third)}" if error else "tlm         65535 entries"
             saw = status, wanted in lines, any(line.startswith("tile-parts  2, 30 bytes, ") for line in lines), said
             self.hold(f"show {file}", saw, (int(bool(error)), True, True, error))
-            header = HEADER + part(0, 14) + EOC
             status, _, said = self.run("tile", file, "0", "-o", OUT)
-            self.hold(f"tile 0 of {file}", (status, said, len((self.folder / OUT).read_bytes())), (0, "", len(header)))
+            size = len(HEADER + part(0, 14) + EOC)
+            self.hold(f"tile 0 of {file}", (status, said, len((self.folder / OUT).read_bytes())), (0, "", size))
             status, _, said = self.run("grid", file, "-o", "out.svg")
             self.hold(f"grid {file}", (status, said), (0, ""))
 

@@ -20,10 +20,9 @@ use Rattle.header.specs.Strip.{fillers, decodeHeader, tlmEntries}
 use Rattle.header.specs.Parse.{readAs, stands, judged, judgedBy}
 use Rattle.header.specs.declared.numbering.Numbering.{Numbering}
 use Rattle.header.specs.declared.numbering.Numbering.the-variants.{CarriedOn, Restarting}
-use Rattle.header.proofs.NumberingLaws.{judged-restart}
+use Rattle.header.proofs.NumberingLaws.{refused-header, judged-restart}
 use Rattle.header.proofs.Numberings.{carried-accepts}
 use Rattle.header.specs.declared.parse.MainHeaderInfo.{MainHeaderInfo}
-use Rattle.header.specs.declared.parse.MainHeader.{MainHeader}
 use Rattle.header.specs.declared.parse.MainHeader.the-variants.{Header}
 use Rattle.header.proofs.ParseLaws.{judged-read, judged-no-soc, judged-no-siz, judged-walk}
 use Rattle.parts.specs.Scan.{entriesFrom}
@@ -45,13 +44,9 @@ use Rattle.laws.specs.Demand3.{Accepted, decodeHeaderOf, assembledOf, As
 use Rattle.laws.proofs.Demand3Entries.{OfTile, entries-of-tile, ranges-back, parts-in}
 use Rattle.laws.proofs.Demand3Rewalked.{Rewalked, rewalked}
 use Rattle.laws.proofs.Demand3Rescanned.{part-tile, part-is-sot, patched-long, patched-marker, rescan, scans-table}
-use Rattle.header.specs.declared.parse.MainHeader.the-variants as parse
 use Rattle.tile.specs.Rewrite as rewrite
 
 -- ---- the header that was accepted
-
-header-refused : {r : Refusal} {h : MainHeaderInfo} → _≡_ {A = MainHeader} (parse.Refused r) (Header h) → ⊥
-header-refused e = let z : _≡_ {A = ℕ} 0 1 = cc in omega arith
 
 and-second : (a b : Bool) → (a && b) ≡ true → b ≡ true
 and-second true b e = e
@@ -71,14 +66,14 @@ module _ (s : List ℕ) (h : MainHeaderInfo) (e : judged s ≡ Header h) where
     where
       by : (b : Bool) → stands s 0 SOC ≡ b → stands s 0 SOC ≡ true
       by true f = f
-      by false f = absurd (header-refused (sym (judged-no-soc s (judged-read s h e .short) f) ∙ e))
+      by false f = absurd (refused-header (sym (judged-no-soc s (judged-read s h e .short) f) ∙ e))
 
   siz-stands : stands s 2 SIZ ≡ true
   siz-stands = by (stands s 2 SIZ) refl
     where
       by : (b : Bool) → stands s 2 SIZ ≡ b → stands s 2 SIZ ≡ true
       by true f = f
-      by false f = absurd (header-refused (sym (judged-no-siz s (judged-read s h e .short) soc-stands f) ∙ e))
+      by false f = absurd (refused-header (sym (judged-no-siz s (judged-read s h e .short) soc-stands f) ∙ e))
 
 -- ---- a header walk that stops at an SOT accepts
 

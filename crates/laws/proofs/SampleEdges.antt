@@ -1,5 +1,5 @@
--- The starred edges (docs/RULES.md, "Edges"), in the order there, each as a comment over its theorems; and the one which has no star. All but
--- that, which is of every codestream of a length, are computed.
+-- The starred edges (docs/RULES.md, "Edges"), in the order there, each as a comment over its theorems; and the one which has no star. All are computed
+-- but that, which is of every codestream of a length, and those of 65,535 TLM entries and more, which go by counts.
 use Prim.Native.Nat.{ℕ, _≤_}
 use native.Mathlib.Omega.{arith}
 use mathlib.Core.Path.{_≡_, refl, sym, _∙_}

@@ -17,9 +17,9 @@ use Rattle.chain.specs.Chain.{Chain}
 use Rattle.header.specs.Walk.{WalkEnd, walkFrom, cutAt}
 use Rattle.header.specs.Parse.{stands, readAs, judged}
 use Rattle.header.specs.declared.parse.MainHeaderInfo.{MainHeaderInfo}
-use Rattle.header.specs.declared.parse.MainHeader.{MainHeader}
 use Rattle.header.specs.declared.parse.MainHeader.the-variants as header
 use Rattle.header.proofs.WalkLaws.{walk-cut, walk-refused}
+use Rattle.header.proofs.NumberingLaws.{refused-header}
 use Rattle.header.proofs.ParseLaws.{stands-inside, judged-no-soc, judged-no-siz, judged-walk, judged-read}
 use Rattle.tile.specs.Siz.{marker}
 use Rattle.tile.specs.Rules.{imageArea}
@@ -95,9 +95,6 @@ module _ (s : List ℕ) (siz : stands s marker SIZ ≡ true) (cut : sizWhole s �
       ∙ ap (readAs s (walkFrom s 2)) (ap (λ (w : Chain WalkEnd). w .ended) (walk-refused s 2 _ (walk-cut s 2 (cut-segment s siz cut))))
       ∙ rw (le-leb 4 (length s) (stands-inside s marker SIZ siz))
 
-header-refused : {h : MainHeaderInfo} {r : Refusal} → _≡_ {A = MainHeader} (header.Refused r) (header.Header h) → ⊥
-header-refused e = let z : _≡_ {A = ℕ} 0 1 = cc in omega arith
-
 -- a test that holds, since where it fails something absurd follows
 holds : (b : Bool) → (b ≡ false → ⊥) → b ≡ true
 holds b f = by-bool b (λ t. t) (λ e. absurd (f e))
@@ -106,9 +103,9 @@ holds b f = by-bool b (λ t. t) (λ e. absurd (f e))
 pub header-agrees : (s : List ℕ) (h : MainHeaderInfo) → judged s ≡ header.Header h → (stands s 0 SOC ≡ true) × (stands s marker SIZ ≡ true) × (sizWhole s ≡ true)
 header-agrees s h e =
     let short = judged-read s h e .short in
-    let soc : stands s 0 SOC ≡ true = holds (stands s 0 SOC) (λ f. header-refused (sym (judged-no-soc s short f) ∙ e)) in
-    let siz : stands s marker SIZ ≡ true = holds (stands s marker SIZ) (λ f. header-refused (sym (judged-no-siz s short soc f) ∙ e)) in
-    (soc, siz, holds (sizWhole s) (λ f. header-refused (sym (cut-judged s siz f short soc) ∙ e)))
+    let soc : stands s 0 SOC ≡ true = holds (stands s 0 SOC) (λ f. refused-header (sym (judged-no-soc s short f) ∙ e)) in
+    let siz : stands s marker SIZ ≡ true = holds (stands s marker SIZ) (λ f. refused-header (sym (judged-no-siz s short soc f) ∙ e)) in
+    (soc, siz, holds (sizWhole s) (λ f. refused-header (sym (cut-judged s siz f short soc) ∙ e)))
 
 -- And where the check is refused by one of these, the main header's reading is refused by the same, unless it is too long for that.
 pub header-refuses : (s : List ℕ) (r : Refusal) → componentsRead s ≡ read.Refused r → r .number ≤ 3 → length s ≤ 0xffff_ffff → judged s ≡ header.Refused r
