@@ -54,6 +54,8 @@ extern "C" {
 #define WINTERHASP_TLM_TOO_MANY_ENTRIES        26 /* the tile-part length segments (TLM) have more entries without an index than there are tile numbers */
 #define WINTERHASP_NO_GRID                     30 /* the image size segment (SIZ) lays no grid of tiles over the image */
 #define WINTERHASP_NO_SUCH_TILE                31 /* the grid has no tile of this index */
+#define WINTERHASP_CAP_OUT_OF_PLACE            33 /* the capabilities segment (CAP) is announced and missing, or stands there unannounced or twice */
+#define WINTERHASP_CAP_LENGTH_WRONG            34 /* the capabilities segment (CAP) is not as long as its bits ask */
 
 /* No refusal: what is returned where there is no component of the number, or no marker of the code, that was asked for. */
 
@@ -77,6 +79,21 @@ enum { WINTERHASP_RULE_ANNEX_B = 0, WINTERHASP_RULE_ORIGINAL = 1, WINTERHASP_RUL
    Any other number means the first. */
 
 enum { WINTERHASP_NUMBERING_CARRIED_ON = 0, WINTERHASP_NUMBERING_RESTARTING = 1 };
+
+/* Editions: docs/RULES.md, "Editions". What the main header's capabilities segment (CAP) has to be.
+   - WINTERHASP_EDITION_OLDER, by which winterhasp_parse_main_header goes: passed over as any segment.
+   - WINTERHASP_EDITION_NEWER: there exactly once where bit 14 of Rsiz announces it, as high-throughput files have it, and otherwise not
+     (33); as long as its bits ask (34). What it accepts the older accepts, with the same answers.
+   Any other number means the first. */
+
+enum { WINTERHASP_EDITION_OLDER = 0, WINTERHASP_EDITION_NEWER = 1 };
+
+/* How a main header is read: a field for each choice, 0 for what is meant where nothing is said. A later version may have more
+   fields, so name those that you choose and leave the others 0: { .edition = WINTERHASP_EDITION_NEWER }. */
+typedef struct winterhasp_reading {
+    uint32_t numbering; /* WINTERHASP_NUMBERING_.. */
+    uint32_t edition;   /* WINTERHASP_EDITION_.. */
+} winterhasp_reading;
 
 /* A table is lent as bytes, and has a row for each 18: a tile's index (2 bytes), the tile-part's offset in the codestream
    (8) and its length (8), big-endian. Bytes behind the last whole row are none. */
@@ -130,18 +147,18 @@ uint32_t winterhasp_main_header_extent(const uint8_t *prefix, size_t prefix_len,
 /* "Main header". Its TLM entries go to the rows of `table`, the header without TLM segments to `out`: the decode header, which
    rewrite and assembly take. `first_sot` is where the first tile-part stands, then the decode header's length and the number
    of rows. `fillers` counts the delimiters (second byte 92, or 30 to 3F) whose first byte is not FF: the walk passes them, and no
-   edition of the standard allows them. Entries without an index are numbered on over the TLM segments. Refusals: 19, 1 to 6, 26,
-   18, 17. */
+   edition of the standard allows them. Entries without an index are numbered on over the TLM segments, and CAP is passed over.
+   Refusals: 19, 1 to 6, 26, 18, 17. */
 uint32_t winterhasp_parse_main_header(const uint8_t *codestream, size_t codestream_len, uint8_t *table, size_t table_len,
                                       uint8_t *out, size_t out_len, uint64_t *first_sot, uint64_t *decode_length,
                                       uint64_t *entries, uint64_t *fillers);
 
-/* "Main header". The same by a numbering, which WINTERHASP_NUMBERING_.. names. Refusals: 19, 1 to 6, 26 where the numbers are carried
-   on, 18, 17. */
-uint32_t winterhasp_parse_main_header_by_numbering(const uint8_t *codestream, size_t codestream_len, uint32_t numbering,
-                                                   uint8_t *table, size_t table_len, uint8_t *out, size_t out_len,
-                                                   uint64_t *first_sot, uint64_t *decode_length, uint64_t *entries,
-                                                   uint64_t *fillers);
+/* "Main header". The same, read as `reading` says. Refusals: 19, 1 to 6, 26 where the numbers are carried on, 33 and 34 in the newer
+   edition, 18, 17. It stands in for winterhasp_parse_main_header_by_numbering, whose number is a field of `reading`. */
+uint32_t winterhasp_parse_main_header_by_reading(const uint8_t *codestream, size_t codestream_len, winterhasp_reading reading,
+                                                 uint8_t *table, size_t table_len, uint8_t *out, size_t out_len,
+                                                 uint64_t *first_sot, uint64_t *decode_length, uint64_t *entries,
+                                                 uint64_t *fillers);
 
 /* "Markers in the header". Where the first marker of a code, such as 0xFF60 (PPM), stands in the main header: of those that the walk
    stops at, from SIZ at 2 on and without the first SOT, so that bytes inside a segment are none. WINTERHASP_NO_SUCH_MARKER where

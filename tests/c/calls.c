@@ -240,20 +240,53 @@ static void numberings(void)
                                           0xFF, 0x55, 0, 8, 1, 0x20, 0xFF, 0xFF, 0, 40,
                                           0xFF, 0x55, 0, 8, 2, 0, 0, 50, 0, 60, 0xFF, 0x90 };
     static const uint16_t carried_on[] = { 0, 1, 65535, 2, 3 }, restarting[] = { 0, 1, 65535, 0, 1 };
-    static const uint32_t numbers[] = { WINTERHASP_NUMBERING_CARRIED_ON, WINTERHASP_NUMBERING_RESTARTING, 2, UINT32_MAX };
+    static const winterhasp_reading readings[] = { { 0 }, { .numbering = WINTERHASP_NUMBERING_RESTARTING },
+                                                   { .numbering = 2, .edition = UINT32_MAX }, { .numbering = UINT32_MAX, .edition = 2 } };
     uint8_t table[5 * WINTERHASP_ROW_BYTES], out[6];
     uint64_t first = 7, length = 7, entries = 7, fillers = 7;
     for (int call = -1; call < 4; call++) {
         memset(table, HELD, sizeof table);
         uint32_t status = call < 0 ? winterhasp_parse_main_header(codestream, sizeof codestream, table, sizeof table, out, sizeof out,
                                                                   &first, &length, &entries, &fillers)
-                                   : winterhasp_parse_main_header_by_numbering(codestream, sizeof codestream, numbers[call], table,
-                                                                               sizeof table, out, sizeof out, &first, &length,
-                                                                               &entries, &fillers);
+                                   : winterhasp_parse_main_header_by_reading(codestream, sizeof codestream, readings[call], table,
+                                                                             sizeof table, out, sizeof out, &first, &length,
+                                                                             &entries, &fillers);
         CHECK(status == 0 && first == 36 && length == 6 && entries == 5 && fillers == 0);
         const uint16_t *wanted = call == WINTERHASP_NUMBERING_RESTARTING ? restarting : carried_on;
         for (int row = 0; row < 5; row++)
             CHECK(winterhasp_row_index(table + row * WINTERHASP_ROW_BYTES) == wanted[row]);
+    }
+}
+
+/* SIZ with nothing but Rsiz, and CAP of one word: as it is, with the word's bit twice, without bit 14 of Rsiz, and with an edition that
+   is not there. */
+static void editions(void)
+{
+    uint8_t codestream[] = { 0xFF, 0x4F, 0xFF, 0x51, 0, 4, 0x40, 0, 0xFF, 0x50, 0, 8, 0, 2, 0, 0, 0, 0, 0xFF, 0x90 };
+    winterhasp_reading reading = { .edition = WINTERHASP_EDITION_NEWER };
+    uint8_t out[18];
+    uint64_t first = 7, length = 7, entries = 7, fillers = 7;
+    for (int numbering = 0; numbering < 2; numbering++) {
+        reading.numbering = numbering;
+        CHECK(winterhasp_parse_main_header_by_reading(codestream, sizeof codestream, reading, NULL, 0, out, sizeof out, &first, &length,
+                                                      &entries, &fillers) == 0);
+        CHECK(first == 18 && length == 18 && entries == 0 && fillers == 0 && memcmp(out, codestream, 18) == 0);
+    }
+    length = entries = fillers = 7;
+    memset(out, HELD, sizeof out);
+    codestream[15] = 1;
+    CHECK(winterhasp_parse_main_header_by_reading(codestream, sizeof codestream, reading, NULL, 0, out, sizeof out, &first, &length,
+                                                  &entries, &fillers) == WINTERHASP_CAP_LENGTH_WRONG);
+    CHECK(first == 8 && length == 7 && entries == 7 && fillers == 7 && all_held(out, sizeof out));
+    codestream[6] = 0;
+    CHECK(winterhasp_parse_main_header_by_reading(codestream, sizeof codestream, reading, NULL, 0, NULL, 0, &first, &length, &entries,
+                                                  &fillers) == WINTERHASP_CAP_OUT_OF_PLACE);
+    CHECK(first == 8 && length == 7 && entries == 7 && fillers == 7);
+    for (uint32_t edition = 0; edition < 4; edition += 2) {
+        reading.edition = edition;
+        CHECK(winterhasp_parse_main_header_by_reading(codestream, sizeof codestream, reading, NULL, 0, out, sizeof out, &first, &length,
+                                                      &entries, &fillers) == 0);
+        CHECK(first == 18);
     }
 }
 
@@ -275,8 +308,9 @@ static void too_many_entries(void)
                                        &fillers) == WINTERHASP_TLM_TOO_MANY_ENTRIES);
     CHECK(first == 6 + 2 * SEGMENT && length == 7 && entries == 7 && fillers == 7);
     CHECK(all_held(table, sizeof table) && all_held(out, sizeof out));
-    CHECK(winterhasp_parse_main_header_by_numbering(codestream, sizeof codestream, WINTERHASP_NUMBERING_RESTARTING, table, sizeof table,
-                                                    out, sizeof out, &first, &length, &entries, &fillers) == 0);
+    const winterhasp_reading restarting = { .numbering = WINTERHASP_NUMBERING_RESTARTING };
+    CHECK(winterhasp_parse_main_header_by_reading(codestream, sizeof codestream, restarting, table, sizeof table, out, sizeof out,
+                                                  &first, &length, &entries, &fillers) == 0);
     CHECK(first == 6 + 3 * SEGMENT && length == 6 && entries == 66000);
     CHECK(winterhasp_row_index(table + 65999 * (size_t)WINTERHASP_ROW_BYTES) == 21999);
 }
@@ -442,6 +476,7 @@ int main(void)
     main_header(sample, decode_header);
     header_with_fillers();
     numberings();
+    editions();
     too_many_entries();
     parts(sample);
     tile(sample, decode_header);

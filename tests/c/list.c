@@ -31,9 +31,9 @@ static int list(const uint8_t *file, size_t size)
     printf("codestream %llu %llu\n", (unsigned long long)start, (unsigned long long)length);
 
     const uint8_t *codestream = file + start;
-    status = winterhasp_parse_main_header_by_numbering(codestream, length, WINTERHASP_NUMBERING_RESTARTING, table, sizeof table,
-                                                       decode_header, sizeof decode_header, &first_sot, &decode_length, &entries,
-                                                       &fillers);
+    const winterhasp_reading reading = { .numbering = WINTERHASP_NUMBERING_RESTARTING };
+    status = winterhasp_parse_main_header_by_reading(codestream, length, reading, table, sizeof table, decode_header,
+                                                     sizeof decode_header, &first_sot, &decode_length, &entries, &fillers);
     if (status != 0)
         return refused(status, first_sot);
     printf("header %llu %llu\n", (unsigned long long)first_sot, (unsigned long long)decode_length);

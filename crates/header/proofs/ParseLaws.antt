@@ -6,7 +6,7 @@ use mathlib.Core.Bool.{true, false, _&&_}
 use mathlib.Core.List.{List, [], _∷_, _++_}
 use lib.ListN.{length, take, drop}
 use lib.Dec.{leb, eqb}
-use borrow.Author.Tests.{le-leb, lt-leb, eq-eqb, leb-true}
+use borrow.Author.Tests.{le-leb, lt-leb, eq-eqb, leb-true, eqb-true}
 use Rattle.numbers.specs.Bytes.{be, put}
 use Rattle.numbers.proofs.BytesLaws.{put-start}
 use Rattle.types.specs.Refusals.{refusal}
@@ -18,8 +18,9 @@ use Rattle.types.specs.Markers.{SOC, SIZ}
 use Rattle.header.specs.Tlm.{Entry, placed}
 use Rattle.header.specs.Walk.{WalkEnd, firstSot, refused, walkFrom}
 use Rattle.header.specs.Strip.{decodeHeader, tlmEntries}
-use Rattle.header.specs.Parse.{readAs, stands, frontOf, behindFront, judged, judgedBy, withRoom, parsed, tableBy, tableAfter, outAfter}
+use Rattle.header.specs.Parse.{readAs, stands, frontOf, behindFront, judged, judgedAs, withRoom, parsed, tableBy, tableAfter, outAfter}
 use Rattle.header.specs.declared.numbering.Numbering.{Numbering}
+use Rattle.header.specs.declared.reading.Reading.{Reading}
 use Rattle.header.specs.declared.parse.Front.{Front}
 use Rattle.header.specs.declared.parse.Front.the-variants as front
 use Rattle.header.specs.declared.parse.MainHeaderInfo.{MainHeaderInfo}
@@ -28,6 +29,8 @@ use Rattle.header.specs.declared.parse.MainHeader.the-variants.{Header, 
 use Rattle.numbers.proofs.Choice.{by-test}
 use Rattle.header.proofs.TlmLaws.{length-placed}
 use Rattle.header.proofs.NumberingLaws.{byFrom, endFrom, length-by, by-accepted}
+use Rattle.header.proofs.WalkLaws.{not-true-false}
+use Rattle.header.proofs.EditionLaws.{as-accepted}
 use Rattle.header.proofs.StripLengths.{entries-bound, stopped-inside, whole-kept, none-met}
 
 module _ (s : List ℕ) where
@@ -78,9 +81,9 @@ none-long : (es : List Entry) → length es ≡ 0 → es ≡ []
 none-long [] e = refl
 none-long (x ∷ es) e = absurd (omega arith)
 
-and-first : (a b : mathlib.Core.Bool.Bool) → (a && b) ≡ true → a ≡ true
-and-first true b e = refl
-and-first false b e = e
+and-both : (a b : mathlib.Core.Bool.Bool) → (a && b) ≡ true → (a ≡ true) × (b ≡ true)
+and-both true b e = (refl, e)
+and-both false b e = absurd (not-true-false (sym e))
 
 pub stands-there : (s : List ℕ) (at marker : ℕ) → at + 2 ≤ length s → be 2 s at ≡ marker → stands s at marker ≡ true
 unfolding stands
@@ -88,7 +91,11 @@ stands-there s at marker h e = rw (le-leb _ _ h, eq-eqb _ _ e)
 
 pub stands-inside : (s : List ℕ) (at marker : ℕ) → stands s at marker ≡ true → at + 2 ≤ length s
 unfolding stands
-stands-inside s at marker e = leb-true (at + 2) (length s) (and-first (leb (at + 2) (length s)) (eqb (be 2 s at) marker) e)
+stands-inside s at marker e = leb-true (at + 2) (length s) (and-both (leb (at + 2) (length s)) (eqb (be 2 s at) marker) e .0)
+
+pub stands-marker : (s : List ℕ) (at marker : ℕ) → stands s at marker ≡ true → be 2 s at ≡ marker
+unfolding stands
+stands-marker s at marker e = eqb-true (be 2 s at) marker (and-both (leb (at + 2) (length s)) (eqb (be 2 s at) marker) e .1)
 
 -- ---- what an accepted header says
 
@@ -109,9 +116,9 @@ unfolding readAs
 says-walk s short two firstSot e = record { short = short; two = two; first = refl; header = refl; entries = refl; ends = e }
 says-walk s short two (refused r) e = tt
 
--- a front that is sound has room for SIZ's marker, in few enough bytes to be walked
+-- a front that is sound has SIZ's marker, in few enough bytes to be walked
 abbrev Fronts : List ℕ → Front → Type 0
-Fronts s front.Sound = (4 ≤ length s) × (length s ≤ 0xffff_ffff)
+Fronts s front.Sound = (4 ≤ length s) × (length s ≤ 0xffff_ffff) × (stands s 2 SIZ ≡ true)
 Fronts s (front.Refused r) = Unit {0}
 
 fronts : (s : List ℕ) → Fronts s (frontOf s)
@@ -119,11 +126,11 @@ unfolding frontOf
 fronts s =
     by-test (Fronts s) (leb (length s) 0xffff_ffff)
     (λ short. by-test (Fronts s) (stands s 0 SOC)
-    (λ soc. by-test (Fronts s) (stands s 2 SIZ) (λ siz. (stands-inside s 2 SIZ siz, leb-true (length s) 0xffff_ffff short)) (λ _. tt))
+    (λ soc. by-test (Fronts s) (stands s 2 SIZ) (λ siz. (stands-inside s 2 SIZ siz, leb-true (length s) 0xffff_ffff short, siz)) (λ _. tt))
     (λ _. tt))
     (λ _. tt)
 
-pub sound-front : (s : List ℕ) → frontOf s ≡ front.Sound → (4 ≤ length s) × (length s ≤ 0xffff_ffff)
+pub sound-front : (s : List ℕ) → frontOf s ≡ front.Sound → (4 ≤ length s) × (length s ≤ 0xffff_ffff) × (stands s 2 SIZ ≡ true)
 sound-front s e = rw e at (fronts s)
 
 says-behind : (s : List ℕ) (f : Front) → Fronts s f → Says s (behindFront s f)
@@ -140,22 +147,22 @@ judged-read s h e = rw e at (says s)
 
 -- ---- the answer, by the room
 
-module _ (n : Numbering) (s : List ℕ) (rows room : ℕ) where
-  pub parsed-refused : (r : Refusal) → judgedBy n s ≡ Refused r → parsed n s rows room ≡ Refused r
+module _ (how : Reading) (s : List ℕ) (rows room : ℕ) where
+  pub parsed-refused : (r : Refusal) → judgedAs how s ≡ Refused r → parsed how s rows room ≡ Refused r
   unfolding parsed withRoom
   parsed-refused r e = ap (withRoom rows room) e
 
-  module _ (h : MainHeaderInfo) (e : judgedBy n s ≡ Header h) where
-    pub parsed-18 : rows < h .«tlm_entries» → parsed n s rows room ≡ Refused (refusal 18 (h .«tlm_entries»))
+  module _ (h : MainHeaderInfo) (e : judgedAs how s ≡ Header h) where
+    pub parsed-18 : rows < h .«tlm_entries» → parsed how s rows room ≡ Refused (refusal 18 (h .«tlm_entries»))
     unfolding parsed withRoom
     parsed-18 few = ap (withRoom rows room) e ∙ rw (lt-leb _ _ few)
 
     module _ (many : h .«tlm_entries» ≤ rows) where
-      pub parsed-17 : room < h .«decode_header_length» → parsed n s rows room ≡ Refused (refusal 17 (h .«decode_header_length»))
+      pub parsed-17 : room < h .«decode_header_length» → parsed how s rows room ≡ Refused (refusal 17 (h .«decode_header_length»))
       unfolding parsed withRoom
       parsed-17 few = ap (withRoom rows room) e ∙ rw (le-leb _ _ many, lt-leb _ _ few)
 
-      pub parsed-header : h .«decode_header_length» ≤ room → parsed n s rows room ≡ Header h
+      pub parsed-header : h .«decode_header_length» ≤ room → parsed how s rows room ≡ Header h
       unfolding parsed withRoom
       parsed-header fits = ap (withRoom rows room) e ∙ rw (le-leb _ _ many, le-leb _ _ fits)
 
@@ -173,10 +180,11 @@ abbrev Decides : Numbering → List ℕ → ℕ → ℕ → MainHeader → Type 
 Decides n s rows room (Header h) = Decided n s rows room h
 Decides n s rows room (Refused r) = Unit {0}
 
-decides : (n : Numbering) (s : List ℕ) (rows room : ℕ) (answer : MainHeader) → judgedBy n s ≡ answer → Decides n s rows room (withRoom rows room answer)
+decides : (how : Reading) (s : List ℕ) (rows room : ℕ) (answer : MainHeader) → judgedAs how s ≡ answer → Decides (how .numbering) s rows room (withRoom rows room answer)
 unfolding withRoom
-decides n s rows room (Header h) e =
-    let accepted = by-accepted n s h e in
+decides how s rows room (Header h) e =
+    let n = how .numbering in
+    let accepted = by-accepted n s h (as-accepted how s h e) in
     let r = judged-read s h (accepted .0) in
     let same = length-by n s 0 (walkFrom s 2 .visits) in
     by-test (Decides n s rows room) (leb (h .«tlm_entries») rows)
@@ -190,11 +198,11 @@ decides n s rows room (Header h) e =
     })
     (λ _. tt))
     (λ _. tt)
-decides n s rows room (Refused r) e = tt
+decides how s rows room (Refused r) e = tt
 
-pub parsed-decided : (n : Numbering) (s : List ℕ) (rows room : ℕ) (h : MainHeaderInfo) → parsed n s rows room ≡ Header h → Decided n s rows room h
+pub parsed-decided : (how : Reading) (s : List ℕ) (rows room : ℕ) (h : MainHeaderInfo) → parsed how s rows room ≡ Header h → Decided (how .numbering) s rows room h
 unfolding parsed
-parsed-decided n s rows room h e = rw e at (decides n s rows room (judgedBy n s) refl)
+parsed-decided how s rows room h e = rw e at (decides how s rows room (judgedAs how s) refl)
 
 module _ (s : List ℕ) (h : MainHeaderInfo) (r : Read s h) where
   pub first-inside : h .«first_sot_offset» .0 ≤ length s

@@ -66,21 +66,27 @@ item-long (segment sot d room n) = omega arith
 not-first : {r : Refusal} → _≡_ {A = Move WalkEnd} (end (refused r)) (end firstSot) → ⊥
 not-first e = let z : _≡_ {A = ℕ} 0 1 = cc in omega arith
 
--- the walk ends accepted only at an SOT
-pub ends-sot : (s : List ℕ) (at : ℕ) → walkAt s at ≡ end firstSot → be 2 s at ≡ SOT
+-- the walk ends accepted only at an SOT, which stands there whole
+pub ends-there : (s : List ℕ) (at : ℕ) → walkAt s at ≡ end firstSot → (at + 2 ≤ length s) × (be 2 s at ≡ SOT)
 unfolding walkAt walkStepAt walkStepOf walkMove passedAt tlmStep
-ends-sot s at e = by (stepAt s at) (step-told s at) e
+ends-there s at e = by (stepAt s at) (step-told s at) e
   where
-    by-tlm : (m : Marker) (t : Tlm) → walkMove (tlmStep m t) ≡ end firstSot → be 2 s at ≡ SOT
+    Stands : Type 0
+    Stands = (at + 2 ≤ length s) × (be 2 s at ≡ SOT)
+
+    by-tlm : (m : Marker) (t : Tlm) → walkMove (tlmStep m t) ≡ end firstSot → Stands
     by-tlm m (tlm.Entries k) e = absurd (end-on (sym e))
     by-tlm m (tlm.Refused r) e = absurd (not-first e)
 
-    by : (found : HeaderStep) → Told s at found → walkMove (walkStepOf s at found) ≡ end firstSot → be 2 s at ≡ SOT
-    by Sot told e = told .1
+    by : (found : HeaderStep) → Told s at found → walkMove (walkStepOf s at found) ≡ end firstSot → Stands
+    by Sot told e = told
     by (Delimiter m) told e = absurd (end-on (sym e))
     by (Segment m) told e =
-        by-test (λ (w : WalkStep). walkMove w ≡ end firstSot → be 2 s at ≡ SOT) (eqb (m .code) TLM) (λ _. by-tlm m (tlmAt s at)) (λ _ k. absurd (end-on (sym k))) e
+        by-test (λ (w : WalkStep). walkMove w ≡ end firstSot → Stands) (eqb (m .code) TLM) (λ _. by-tlm m (tlmAt s at)) (λ _ k. absurd (end-on (sym k))) e
     by CutShort told e = absurd (not-first e)
+
+pub ends-sot : (s : List ℕ) (at : ℕ) → walkAt s at ≡ end firstSot → be 2 s at ≡ SOT
+ends-sot s at e = ends-there s at e .1
 
 -- ---- the same at another place
 

@@ -4,9 +4,12 @@ pub mod Tlm
 pub mod Walk
 pub mod Strip
 pub mod Numbering
+pub mod Edition
+pub mod Reading
 pub mod Parse
 pub mod Find
 pub mod Base
 pub mod Iso
 pub mod IsoTlm
 pub mod IsoMain
+pub mod IsoCap

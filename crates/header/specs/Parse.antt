@@ -14,7 +14,9 @@ use Rattle.header.specs.Tlm.{placed}
 use Rattle.header.specs.Walk.{WalkEnd, firstSot, refused, walkFrom}
 use Rattle.header.specs.Strip.{fillers, decodeHeader, tlmEntries}
 use Rattle.header.specs.Numbering.{entriesBy, endedBy}
+use Rattle.header.specs.Edition.{inEdition}
 use Rattle.header.specs.declared.numbering.Numbering.{Numbering}
+use Rattle.header.specs.declared.reading.Reading.{Reading}
 use Rattle.header.specs.declared.parse.Front.{Front}
 use Rattle.header.specs.declared.parse.Front.the-variants as front
 use Rattle.header.specs.declared.parse.MainHeader.{MainHeader}
@@ -64,6 +66,10 @@ unfoldable pub judgedBy : Numbering → List ℕ → MainHeader
 unfolding frontOf behindFrontBy
 judgedBy n s = behindFrontBy n s (frontOf s)
 
+-- as a reading has it: by its numbering, then in its edition
+unfoldable pub judgedAs : Reading → List ℕ → MainHeader
+judgedAs r s = inEdition (r .edition) s (judgedBy (r .numbering) s)
+
 -- 18, then 17, only where all else accepts
 unfoldable pub withRoom : ℕ → ℕ → MainHeader → MainHeader
 withRoom rows room (Header h) =
@@ -71,9 +77,9 @@ withRoom rows room (Header h) =
     (Refused (refusal 18 (h .«tlm_entries»)))
 withRoom rows room (Refused r) = Refused r
 
--- the answer by a numbering, for a table of so many rows and an output of so many bytes
-unfoldable pub parsed : Numbering → List ℕ → ℕ → ℕ → MainHeader
-parsed n s rows room = withRoom rows room (judgedBy n s)
+-- the answer of a reading, for a table of so many rows and an output of so many bytes
+unfoldable pub parsed : Reading → List ℕ → ℕ → ℕ → MainHeader
+parsed r s rows room = withRoom rows room (judgedAs r s)
 
 -- an answer for C: its number, 0 where it accepts; the first SOT or a refusal's place; the decode header's length, the TLM entries and the fillers, given
 -- what was held

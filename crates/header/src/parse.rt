@@ -8,8 +8,10 @@ ghost use Rattle.types.specs.Row.{rowsOf};
 ghost use Rattle.header.specs.Tlm.{placed};
 ghost use Rattle.header.specs.Walk.{firstSot, walkFrom};
 ghost use Rattle.header.specs.Numbering.{entriesBy, endedBy};
-ghost use Rattle.header.specs.Parse.{readAs, stands, frontOf, judgedBy, parsed, headerNumber, headerFirst, headerLength, headerEntries, headerFillers, tableAfter, outAfter};
+ghost use Rattle.header.specs.Parse.{readAs, stands, frontOf, judgedBy, judgedAs, parsed, headerNumber, headerFirst, headerLength, headerEntries, headerFillers, tableAfter, outAfter};
+use crate::edition::Edition;
 use crate::numbering::Numbering;
+use crate::reading::Reading;
 use crate::walk::WalkStep;
 use types::CodestreamOffset;
 use types::ROW;
@@ -117,11 +119,26 @@ fn judge(codestream: &[u8], numbering: Numbering) -> MainHeader
     }
 }
 
-// What the reading into a table of so many rows and an output of so many bytes answers.
-pub fn decide(codestream: &[u8], numbering: Numbering, rows: u64, room: u64) -> MainHeader
-    ensures { λ r. ⌜ r ≡ parsed numbering (now (codestream .entry)) rows room ⌝ }
+fn judge_as(codestream: &[u8], reading: Reading) -> MainHeader
+    ensures { λ r. ⌜ r ≡ judgedAs reading (now (codestream .entry)) ⌝ }
 {
+    let numbering = reading.numbering;
+    let edition = reading.edition;
     let judgement = judge(codestream, numbering);
+    let Edition::Newer = edition else {
+        return judgement;
+    };
+    let MainHeader::Header(info) = judgement else {
+        return judgement;
+    };
+    crate::edition::test_caps(codestream, info)
+}
+
+// What the reading into a table of so many rows and an output of so many bytes answers.
+pub fn decide(codestream: &[u8], reading: Reading, rows: u64, room: u64) -> MainHeader
+    ensures { λ r. ⌜ r ≡ parsed reading (now (codestream .entry)) rows room ⌝ }
+{
+    let judgement = judge_as(codestream, reading);
     let MainHeader::Header(info) = judgement else {
         return judgement;
     };
@@ -205,17 +222,17 @@ fn fill_table(
 
 pub fn parse_main_header(
     codestream: &[u8],
-    numbering: Numbering,
+    reading: Reading,
     table: &mut [u8],
     out: &mut [u8],
 ) -> MainHeader
-    ensures { λ r. ⌜ r ≡ parsed numbering (now (codestream .entry)) (length (now (table .entry)) / 18) (length (now (out .entry))) ⌝ }
-    ensures { λ r. ⌜ now (table .exit) ≡ tableAfter numbering r (now (codestream .entry)) (now (table .entry)) ⌝ }
+    ensures { λ r. ⌜ r ≡ parsed reading (now (codestream .entry)) (length (now (table .entry)) / 18) (length (now (out .entry))) ⌝ }
+    ensures { λ r. ⌜ now (table .exit) ≡ tableAfter (reading .numbering) r (now (codestream .entry)) (now (table .entry)) ⌝ }
     ensures { λ r. ⌜ now (out .exit) ≡ outAfter r (now (codestream .entry)) (now (out .entry)) ⌝ }
 {
     let answer = decide(
         codestream,
-        numbering,
+        reading,
         (table.len() / ROW) as u64,
         out.len() as u64,
     );
@@ -228,6 +245,7 @@ pub fn parse_main_header(
         crate::strip::append(codestream, 0, first_sot.position(), out, 0);
         return answer;
     }
+    let numbering = reading.numbering;
     fill_table(codestream, numbering, first_sot, table);
     crate::strip::strip(codestream, out);
     answer

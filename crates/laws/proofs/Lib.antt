@@ -2,6 +2,7 @@ pub mod SampleComputing
 pub mod SampleEdges
 pub mod SampleStandard
 pub mod SampleNumbering
+pub mod SampleEdition
 pub mod SamplePartition
 pub mod Demand3Entries
 pub mod Demand3Items

@@ -11,6 +11,7 @@ use Rattle.types.proofs.RowLaws.{length-rows}
 use Rattle.types.proofs.RowStanding.{rows, all-append, all-drop}
 use Rattle.header.specs.Parse.{parsed, tableBy, tableAfter}
 use Rattle.header.specs.declared.numbering.Numbering.{Numbering}
+use Rattle.header.specs.declared.reading.Reading.{Reading}
 use Rattle.header.specs.declared.parse.MainHeader.{MainHeader}
 use Rattle.header.specs.declared.parse.MainHeader.the-variants.{Header, Refused}
 use Rattle.parts.specs.Scan.{entriesFrom, scanned, scannedTable}
@@ -47,8 +48,8 @@ scan-table-agrees s start t =
 
 -- ---- the main header; what is left in the output is given by the answer, alike for both
 
-pub header-agrees : (n : Numbering) (s : List ℕ) (t : List TilePartEntry) (room : ℕ) → parsed n s (length (rowsOf t) / 18) room ≡ parsed n s (length t) room
-header-agrees n s t room = ap (λ (m : ℕ). parsed n s m room) (rows-count t)
+pub header-agrees : (how : Reading) (s : List ℕ) (t : List TilePartEntry) (room : ℕ) → parsed how s (length (rowsOf t) / 18) room ≡ parsed how s (length t) room
+header-agrees how s t room = ap (λ (m : ℕ). parsed how s m room) (rows-count t)
 
 pub header-table-agrees : (n : Numbering) (a : MainHeader) (s : List ℕ) (t : List TilePartEntry)
     → tableAfter n a s (rowsOf t) ≡ rowsOf (recordsAfter n a s t)

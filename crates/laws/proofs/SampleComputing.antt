@@ -1,4 +1,5 @@
--- What is unfolded to compute a walk, a numbering, a marker, a scan, a split, an assembly, a search or component sizes over sample bytes.
+-- What is unfolded to compute a walk, a numbering, an edition, a marker, a scan, a split, an assembly, a search or component sizes over sample bytes.
+use Rattle.numbers.specs.Bits.{bit, ones}
 use Rattle.numbers.specs.Bytes.{be, bytesOf, put}
 use Rattle.numbers.specs.Ceiling.{ceilDiv}
 use Rattle.types.specs.Row.{rowOf, rowsOf}
@@ -9,7 +10,8 @@ use Rattle.header.specs.Tlm.{entryCount, tlmAt, entryIn, entriesIn, unindexed, 
 use Rattle.header.specs.Walk.{cutAt, tlmStep, passedAt, walkStepOf, walkStepAt, walkMove, walkAt, walkFrom}
 use Rattle.header.specs.Strip.{fillers, kept, decodeHeader, tlmEntries}
 use Rattle.header.specs.Numbering.{nextNumber, entriesBy, endedBy, unindexedSegments}
-use Rattle.header.specs.Parse.{readAs, stands, frontOf, behindFront, judged, behindFrontBy, judgedBy, tlmTable, tableBy}
+use Rattle.header.specs.Edition.{announced, capsIn, capFits, capped, inEdition}
+use Rattle.header.specs.Parse.{readAs, stands, frontOf, behindFront, judged, behindFrontBy, judgedBy, judgedAs, withRoom, parsed, tlmTable, tableBy}
 use Rattle.header.specs.Find.{firstOf, findIn, finding}
 use Rattle.parts.specs.Scan.{eocAt, sotStepAt, scanStepAt, scanFrom, entriesFrom, scanned, written, scannedTable}
 use Rattle.parts.specs.Split.{partEnd, splitStepAt, splitFrom, partsFrom, partsOf}
@@ -22,7 +24,7 @@ use Rattle.tile.specs.Rewrite.{sized, moved, cutBy, sizeOf, sizeIn, tileSize, c
 use Rattle.tile.specs.Assembly.{rows, rangesFrom, ranges, rangeOf, andPart, partsIn, isSot, patched, partSize, sizeFor, joined, assembled, answerFor, assemblyAnswer, assemblyOut}
 use Rattle.reader.specs.Components.{sizWhole, countHeld, apart, allApart, ordered, componentsRead, atTile, componentsInTile, divided, componentAt, isThere, componentIn, chosen, componentOf, componentInTile}
 use Rattle.reader.specs.Search.{boxAt, content, passed, onBox, foundFrom, isJp2, foundIn}
-use Rattle.laws.specs.Sample.{two, four, sizFrom, sizOf, siz, header, grid, counting, tlm, sot, part, head, withTlm, A, signature, jp2c}
+use Rattle.laws.specs.Sample.{two, four, sizFrom, sizOf, siz, header, grid, counting, tlm, announcing, cap, sot, part, head, withTlm, A, signature, jp2c}
 use Rattle.parts.specs.Scan as scan
 use Rattle.parts.specs.Split as split
 use Rattle.tile.specs.Rewrite as rewrite
@@ -44,6 +46,10 @@ walks = tt
 unfoldable pub numberings : Unit {0}
 unfolding walks unindexed entryOn entriesOn nextNumber entriesBy endedBy unindexedSegments behindFrontBy judgedBy tableBy
 numberings = tt
+
+unfoldable pub editions : Unit {0}
+unfolding numberings announcing cap bit ones announced capsIn capFits capped inEdition judgedAs withRoom parsed
+editions = tt
 
 unfoldable pub findings : Unit {0}
 unfolding walks firstOf findIn finding

@@ -7,7 +7,7 @@ use mathlib.Core.Bool.{Bool, true, false}
 use mathlib.Core.List.{List, [], _∷_, _++_}
 use lib.ListN.{length, take, replicate}
 use Rattle.numbers.specs.Bytes.{bytesOf}
-use Rattle.types.specs.Markers.{SOC, SOT}
+use Rattle.types.specs.Markers.{SOC, CAP, SOT}
 use Rattle.types.specs.Refusals.{refusal}
 use Rattle.types.specs.Row.{rowOf, rowsOf}
 use Rattle.types.specs.declared.Area.{Area}
@@ -17,10 +17,15 @@ use Rattle.header.specs.Extent.{extentOf}
 use Rattle.header.specs.Walk.{walkFrom}
 use Rattle.header.specs.Strip.{decodeHeader}
 use Rattle.header.specs.Numbering.{unindexedSegments}
-use Rattle.header.specs.Parse.{judged, judgedBy, tlmTable, tableBy}
+use Rattle.header.specs.Edition.{editionOf}
+use Rattle.header.specs.Reading.{byDefault}
+use Rattle.header.specs.Parse.{judged, judgedBy, judgedAs, parsed, tlmTable, tableBy}
 use Rattle.header.specs.IsoMain.{mainHeader}
 use Rattle.header.specs.declared.numbering.Numbering.the-variants.{CarriedOn, Restarting}
+use Rattle.header.specs.declared.edition.Edition.the-variants.{Older, Newer}
+use Rattle.header.specs.declared.reading.Reading.{Reading}
 use Rattle.header.proofs.Numberings.{tables-agree}
+use Rattle.header.proofs.EditionLaws.{as-refused}
 use Rattle.header.proofs.IsoMain.{upToSot}
 use Rattle.header.specs.Find.{finding}
 use Rattle.header.specs.declared.step.HeaderStep.the-variants.{Delimiter, Segment}
@@ -47,9 +52,9 @@ use Rattle.reader.specs.Search.{foundIn}
 use Rattle.reader.specs.Growth.{regionAt, grown}
 use Rattle.reader.specs.declared.search.Found.the-variants.{Codestream}
 use Rattle.reader.proofs.GrowthLaws.{region-pow, whole-suffices, truncated-not, grown-end, grown-on}
-use Rattle.laws.proofs.SampleComputing.{samples, extents, walks, numberings, findings, scan-runs, split-runs, tiles, searches, siz-readings, components}
+use Rattle.laws.proofs.SampleComputing.{samples, extents, walks, numberings, editions, findings, scan-runs, split-runs, tiles, searches, siz-readings, components}
 use Rattle.laws.proofs.SampleNumbering.{three}
-use Rattle.laws.specs.Sample.{two, zeros, sizOf, header, grid, counting, tlm, sot, part, head, withTlm, A, signature, jp2c}
+use Rattle.laws.specs.Sample.{two, zeros, sizOf, header, grid, counting, tlm, announcing, cap, sot, part, head, withTlm, A, signature, jp2c}
 use Rattle.laws.proofs.SampleStandard as standard
 use Rattle.laws.proofs.SampleNumbering as many
 use Rattle.header.specs.declared.parse.MainHeader.the-variants as parse
@@ -62,6 +67,9 @@ use Rattle.reader.specs.declared.siz.SizRead.the-variants as read
 use Rattle.reader.specs.declared.components.ComponentsRead.the-variants as checks
 use Rattle.reader.specs.declared.components.ComponentRead.the-variants as one
 use Rattle.reader.specs.Siz as siz-reading
+
+abbrev newer : Reading
+newer = record { numbering = CarriedOn; edition = Newer }
 
 -- ---- sample A
 
@@ -427,6 +435,141 @@ at-65535-4 = many.own-carries 32_765 5 (omega arith) (omega arith) many.ltlm-3 (
 
 pub at-65535-5 : judgedBy CarriedOn (mainHeader standard.siz (three 32_765 5) ++ many.st-3) ≡ parse.Refused (refusal 5 131_133)
 at-65535-5 = many.own-carries 32_765 5 (omega arith) (omega arith) many.st-3 (omega arith) 5 many.st-3-there (omega arith)
+
+-- ---- * `FF4F FF51 0002 FF90`: bytes 6 and 7 are the SOT, whose bit 14 is set. In the newer edition 33 at 2; the older accepts. With Rsiz 0 before the
+-- SOT the newer accepts.
+
+abbrev shortest : List ℕ
+shortest = 0xff ∷ 0x4f ∷ 0xff ∷ 0x51 ∷ 0 ∷ 2 ∷ 0xff ∷ 0x90 ∷ []
+
+pub sot-announces : judgedAs newer shortest ≡ parse.Refused (refusal 33 2)
+unfolding editions
+sot-announces = refl
+
+pub sot-older : judgedAs byDefault shortest ≡ accepted 6 6 0
+unfolding editions
+sot-older = refl
+
+pub rsiz-0 : judgedAs newer (announcing 0 []) ≡ accepted 8 8 0
+unfolding editions
+rsiz-0 = refl
+
+-- ---- * Rsiz 4000: 33 at 2 without CAP, accepted with one. Rsiz BFFF: accepted without, 33 at the CAP with one.
+
+pub cap-missing : judgedAs newer (announcing 0x4000 []) ≡ parse.Refused (refusal 33 2)
+unfolding editions
+cap-missing = refl
+
+pub cap-once : judgedAs newer (announcing 0x4000 (cap 6 0 [])) ≡ accepted 16 16 0
+unfolding editions
+cap-once = refl
+
+pub cap-unannounced : judgedAs newer (announcing 0xbfff []) ≡ accepted 8 8 0
+unfolding editions
+cap-unannounced = refl
+
+pub cap-unwanted : judgedAs newer (announcing 0xbfff (cap 6 0 [])) ≡ parse.Refused (refusal 33 8)
+unfolding editions
+cap-unwanted = refl
+
+-- ---- * Two CAP: announced, 33 at the second; not announced, at the first.
+
+pub cap-repeated : judgedAs newer (announcing 0x4000 (cap 6 0 [] ++ cap 6 0 [])) ≡ parse.Refused (refusal 33 16)
+unfolding editions
+cap-repeated = refl
+
+pub caps-unwanted : judgedAs newer (announcing 0 (cap 6 0 [] ++ cap 6 0 [])) ≡ parse.Refused (refusal 33 8)
+unfolding editions
+caps-unwanted = refl
+
+-- ---- * Lcap 5: 34. Lcap 6: accepted if Pcap is 0, and 34 with a one. Lcap 8: 34, accepted. 32 ones: Lcap 68 34, Lcap 70 accepted.
+
+pub lcap-5 : judgedAs newer (announcing 0x4000 (two CAP ++ two 5 ++ zeros 3)) ≡ parse.Refused (refusal 34 8)
+unfolding editions
+lcap-5 = refl
+
+pub lcap-6-one : judgedAs newer (announcing 0x4000 (cap 6 1 [])) ≡ parse.Refused (refusal 34 8)
+unfolding editions
+lcap-6-one = refl
+
+pub lcap-8-none : judgedAs newer (announcing 0x4000 (cap 8 0 (zeros 2))) ≡ parse.Refused (refusal 34 8)
+unfolding editions
+lcap-8-none = refl
+
+pub lcap-8-one : judgedAs newer (announcing 0x4000 (cap 8 0x2_0000 (zeros 2))) ≡ accepted 18 18 0
+unfolding editions
+lcap-8-one = refl
+
+pub lcap-68 : judgedAs newer (announcing 0x4000 (cap 68 0xffff_ffff (zeros 62))) ≡ parse.Refused (refusal 34 8)
+unfolding editions
+lcap-68 = refl
+
+pub lcap-70 : judgedAs newer (announcing 0x4000 (cap 70 0xffff_ffff (zeros 64))) ≡ accepted 80 80 0
+unfolding editions
+lcap-70 = refl
+
+-- ---- * A wrong Lcap and a second CAP: 33 at the second, whichever is the wrong one.
+
+pub cap-33-first : judgedAs newer (announcing 0x4000 (cap 6 1 [] ++ cap 6 0 [])) ≡ parse.Refused (refusal 33 16)
+unfolding editions
+cap-33-first = refl
+
+pub cap-33-too : judgedAs newer (announcing 0x4000 (cap 6 0 [] ++ cap 6 1 [])) ≡ parse.Refused (refusal 33 16)
+unfolding editions
+cap-33-too = refl
+
+-- ---- * CAP missing, and behind it a segment that is cut: 3. CAP not wanted, and numbers past 65,534 before it: 26.
+
+pub cap-after-3 : judgedAs newer (announcing 0x4000 (two 0xff64 ++ two 0xffff)) ≡ parse.Refused (refusal 3 8)
+unfolding editions
+cap-after-3 = refl
+
+pub cap-after-26 : judgedAs newer (mainHeader standard.siz (three 32_765 6) ++ (two CAP ++ two 2 ++ two SOT)) ≡ parse.Refused (refusal 26 131_117)
+unfolding two bytesOf
+cap-after-26 =
+    as-refused newer _ (refusal 26 131_117) (many.past 32_765 6 (omega arith) (omega arith) (omega arith) (omega arith) (two CAP ++ two 2 ++ two SOT) (omega arith))
+
+-- ---- * CAP missing, and no room: 33; in the older edition 18, then 17. A wrong Lcap, and no room: 34.
+
+pub cap-before-18 : parsed newer (announcing 0x4000 (tlm 0x10 (5 ∷ 0 ∷ 14 ∷ []))) 0 0 ≡ parse.Refused (refusal 33 2)
+unfolding editions
+cap-before-18 = refl
+
+pub older-18 : parsed byDefault (announcing 0x4000 (tlm 0x10 (5 ∷ 0 ∷ 14 ∷ []))) 0 0 ≡ parse.Refused (refusal 18 1)
+unfolding editions
+older-18 = refl
+
+pub lcap-before-17 : parsed newer (announcing 0x4000 (cap 6 1 [])) 0 0 ≡ parse.Refused (refusal 34 8)
+unfolding editions
+lcap-before-17 = refl
+
+pub older-17 : parsed byDefault (announcing 0x4000 (cap 6 1 [])) 0 0 ≡ parse.Refused (refusal 17 16)
+unfolding editions
+older-17 = refl
+
+-- ---- * CAP inside a segment, and behind the first SOT: none.
+
+pub cap-inside : judgedAs newer (announcing 0 (two 0xff64 ++ two 10 ++ cap 6 0 [])) ≡ accepted 20 20 0
+unfolding editions
+cap-inside = refl
+
+pub cap-behind : judgedAs newer (announcing 0x4000 [] ++ cap 6 0 []) ≡ parse.Refused (refusal 33 2)
+unfolding editions
+cap-behind = refl
+
+-- ---- * As C gives it: 0 and any number but 1 mean the older edition.
+
+pub edition-0 : editionOf 0 ≡ Older
+unfolding editionOf
+edition-0 = refl
+
+pub edition-1 : editionOf 1 ≡ Newer
+unfolding editionOf
+edition-1 = refl
+
+pub edition-2 : editionOf 2 ≡ Older
+unfolding editionOf
+edition-2 = refl
 
 -- ---- * Psot equal to the rest: accepted; one more: 9.
 

@@ -58,6 +58,12 @@ find-marker m κs a g = settles m (last m) λ x y e i. (e i, x .1)
 pub numbering-of : {M : Type 1} → Settles M header.numbering.numbering_of.ended header.numbering.numbering_of.clauses
 numbering-of m κs a g = settles m (last m) λ x y e i. (e i, x .1)
 
+pub edition-of : {M : Type 1} → Settles M header.edition.edition_of.ended header.edition.edition_of.clauses
+edition-of m κs a g = settles m (last m) λ x y e i. (e i, x .1)
+
+pub reading-of : {M : Type 1} → Settles M header.reading.reading_of.ended header.reading.reading_of.clauses
+reading-of m κs a g = settles m (last m) λ x y e i. (e i, x .1)
+
 pub test-front : {M : Type 1} → Settles M header.parse.test_front.ended header.parse.test_front.clauses
 test-front m κs a g = settles m (last m) λ x y e i. (e i, x .1)
 
@@ -69,7 +75,7 @@ header-tell m κs a g = settles m (before m (before m (before m (before m (last 
 
 pub parse-main-header : {M : Type 1} → Settles M header.parse.parse_main_header.ended header.parse.parse_main_header.clauses
 parse-main-header m κs a g =
-    by-first m (λ r. tableAfter (a .1 .0) r (now (a .0)) (now (a .1 .1 .0))) (λ r. outAfter r (now (a .0)) (now (a .1 .1 .1 .0))) λ x y e i.
+    by-first m (λ r. tableAfter (a .1 .0 .numbering) r (now (a .0)) (now (a .1 .1 .0))) (λ r. outAfter r (now (a .0)) (now (a .1 .1 .1 .0))) λ x y e i.
     (e .0 i, (tt, (tt, (e .1 i, (e .2 i, tt)))))
 
 -- ---- parts
@@ -106,7 +112,7 @@ records-scan-sot-markers m κs a g = settles m (before m (last m)) λ x y e i. (
 
 pub records-parse-main-header : {M : Type 1} → Settles M records.main_header.parse_main_header.ended records.main_header.parse_main_header.clauses
 records-parse-main-header m κs a g =
-    by-first m (λ r. recordsAfter (a .1 .0) r (now (a .0)) (now (a .1 .1 .0))) (λ r. outAfter r (now (a .0)) (now (a .1 .1 .1 .0))) λ x y e i.
+    by-first m (λ r. recordsAfter (a .1 .0 .numbering) r (now (a .0)) (now (a .1 .1 .0))) (λ r. outAfter r (now (a .0)) (now (a .1 .1 .1 .0))) λ x y e i.
     (e .0 i, (tt, (tt, (e .1 i, (e .2 i, tt)))))
 
 pub scan-table : {M : Type 1} → Settles M records.tables.scan_table.ended records.tables.scan_table.clauses
@@ -114,7 +120,7 @@ scan-table m κs a g = settles m (before m (last m)) λ x y e i. (record { answe
 
 pub header-table : {M : Type 1} → Settles M records.tables.header_table.ended records.tables.header_table.clauses
 header-table m κs a g =
-    by-first m (λ r. recordsAfter (a .1 .0) r (now (a .0)) blank) (λ r. outAfter r (now (a .0)) (now (a .1 .1 .0))) λ x y e i.
+    by-first m (λ r. recordsAfter (a .1 .0 .numbering) r (now (a .0)) blank) (λ r. outAfter r (now (a .0)) (now (a .1 .1 .0))) λ x y e i.
     (record { answer = e .0 i; table = e .1 i }, (tt, (tt, (e .2 i, tt))))
 
 -- ---- tile
@@ -183,8 +189,8 @@ winterhasp-main-header-extent m κs a g = settles m (before m (last m)) λ x y e
 pub winterhasp-parse-main-header : {M : Type 1} → Settles M host.parse.winterhasp_parse_main_header.ended host.parse.winterhasp_parse_main_header.clauses
 winterhasp-parse-main-header m κs a g = settles m (before m (before m (before m (before m (before m (before m (last m))))))) λ x y e i. (e .0 i, (tt, (e .1 .1 .1 .1 .1 .0 i, (e .1 .1 .1 .1 .1 .1 i, (e .1 .0 i, (e .1 .1 .0 i, (e .1 .1 .1 .0 i, (e .1 .1 .1 .1 .0 i, tt))))))))
 
-pub winterhasp-parse-main-header-by-numbering : {M : Type 1} → Settles M host.parse.winterhasp_parse_main_header_by_numbering.ended host.parse.winterhasp_parse_main_header_by_numbering.clauses
-winterhasp-parse-main-header-by-numbering m κs a g = settles m (before m (before m (before m (before m (before m (before m (last m))))))) λ x y e i. (e .0 i, (tt, (tt, (e .1 .1 .1 .1 .1 .0 i, (e .1 .1 .1 .1 .1 .1 i, (e .1 .0 i, (e .1 .1 .0 i, (e .1 .1 .1 .0 i, (e .1 .1 .1 .1 .0 i, tt)))))))))
+pub winterhasp-parse-main-header-by-reading : {M : Type 1} → Settles M host.parse.winterhasp_parse_main_header_by_reading.ended host.parse.winterhasp_parse_main_header_by_reading.clauses
+winterhasp-parse-main-header-by-reading m κs a g = settles m (before m (before m (before m (before m (before m (before m (last m))))))) λ x y e i. (e .0 i, (tt, (tt, (e .1 .1 .1 .1 .1 .0 i, (e .1 .1 .1 .1 .1 .1 i, (e .1 .0 i, (e .1 .1 .0 i, (e .1 .1 .1 .0 i, (e .1 .1 .1 .1 .0 i, tt)))))))))
 
 pub winterhasp-scan-sot-markers : {M : Type 1} → Settles M host.scan.winterhasp_scan_sot_markers.ended host.scan.winterhasp_scan_sot_markers.clauses
 winterhasp-scan-sot-markers m κs a g = settles m (before m (before m (last m))) λ x y e i. (e .0 i, (tt, (tt, (e .1 .1 i, (e .1 .0 i, tt)))))

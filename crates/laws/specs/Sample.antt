@@ -3,7 +3,7 @@ use Prim.Native.Nat.{ℕ, _+_}
 use mathlib.Core.List.{List, [], _∷_, _++_}
 use lib.ListN.{length, replicate}
 use Rattle.numbers.specs.Bytes.{bytesOf}
-use Rattle.types.specs.Markers.{SOC, SIZ, TLM, SOT, EOC}
+use Rattle.types.specs.Markers.{SOC, CAP, SIZ, TLM, SOT, EOC}
 
 -- a number in 2 bytes, and in 4
 unfoldable pub two : ℕ → List ℕ
@@ -53,6 +53,16 @@ counting lsiz xo yo csiz components = two SOC ++ sizOf lsiz 10 6 xo yo 4 4 csiz 
 unfoldable pub tlm : ℕ → List ℕ → List ℕ
 unfolding two
 tlm stlm entries = two TLM ++ two (4 + length entries) ++ (0 ∷ stlm ∷ entries)
+
+-- SOC, SIZ with nothing but Rsiz, segments, and SOT
+unfoldable pub announcing : ℕ → List ℕ → List ℕ
+unfolding two
+announcing rsiz segments = two SOC ++ two SIZ ++ two 4 ++ two rsiz ++ segments ++ two SOT
+
+-- CAP of an Lcap and a Pcap, and the bytes of its words
+unfoldable pub cap : ℕ → ℕ → List ℕ → List ℕ
+unfolding two four
+cap lcap pcap words = two CAP ++ two lcap ++ four pcap ++ words
 
 -- SOT: tile, Psot; tile-part 0 of 1
 unfoldable pub sot : ℕ → ℕ → List ℕ

@@ -7,7 +7,7 @@ use native.Mathlib.Omega.{arith}
 use mathlib.Core.Path.{_≡_, refl, sym, ap, ap₂, _∙_}
 use mathlib.Core.List.{List, [], _∷_, _++_, append-assoc, append-nil}
 use lib.ListN.{take-append-drop, length, getD, set, take, drop, length-append, length-take, length-drop, List·getD-append, drop-of-length-le}
-use lib.Seq.{take-length, take-all, length-take-le, getD-append-add, getD-append-seam, getD-take, getD-drop, set-split, sets, sets-eq, take-at, drop-at, drop-drop, take-append-le, drop-append-le, take-append-add, drop-append-add}
+use lib.Seq.{take-length, take-all, length-take-le, getD-append-add, getD-append-seam, getD-take, getD-drop, set-split, sets, sets-eq, take-at, drop-at, drop-drop, take-append-le, drop-append-le, take-append-add, drop-append-add, take-suc, take-add}
 use lib.Arith.{mod-mul, digits-div, digits-mod, digits-lt}
 use lib.Dec.{lit<}
 use Rattle.numbers.specs.Bytes.{be, bytesOf, put}
@@ -197,6 +197,19 @@ pub be-bound : (k : ℕ) (s : List ℕ) (at : ℕ) → ((i : ℕ) → getD s i 0
 unfolding be
 be-bound zero s at h = lit< tt
 be-bound (suc k) s at h = rw pow-suc (digits-lt (be-bound k s at h) (h (at + k)))
+
+-- bytes are those of the number that they hold
+pub bytes-be : (k : ℕ) (s : List ℕ) (at : ℕ) → ((i : ℕ) → getD s i 0 < 256) → at + k ≤ length s → bytesOf k (be k s at) ≡ take k (drop at s)
+unfolding be bytesOf
+bytes-be zero s at h room = refl
+bytes-be (suc k) s at h room =
+    rw (digits-div (be k s at) (h (at + k)), digits-mod (be k s at) (h (at + k)), bytes-be k s at h (omega arith), ← getD-drop at s k 0)
+    (sym (take-suc (drop at s) k 0 (omega (arith, length-drop at s))))
+
+-- a number's bytes, and those behind it
+pub bytes-next : (k n : ℕ) (s : List ℕ) (at : ℕ) → ((i : ℕ) → getD s i 0 < 256) → at + k ≤ length s
+    → take (k + n) (drop at s) ≡ bytesOf k (be k s at) ++ take n (drop (at + k) s)
+bytes-next k n s at h room = rw (bytes-be k s at h room, ← drop-drop k at s) (take-add k n (drop at s))
 
 -- ---- division rounded up
 

@@ -1,3 +1,4 @@
+pub mod BitsLaws
 pub mod BytesLaws
 pub mod Rows
 pub mod Choice

@@ -13,6 +13,7 @@ ghost use Rattle.header.specs.Parse.{parsed, outAfter};
 ghost use Rattle.records.specs.MainHeader.{recordsAfter};
 use header::numbering::Numbering;
 use header::parse::MainHeader;
+use header::reading::Reading;
 use header::walk::WalkStep;
 use types::CodestreamOffset;
 use types::TilePartEntry;
@@ -79,15 +80,15 @@ pub fn fill_table(
 
 pub fn parse_main_header(
     codestream: &[u8],
-    numbering: Numbering,
+    reading: Reading,
     table: &mut [TilePartEntry],
     out: &mut [u8],
 ) -> MainHeader
-    ensures { λ r. ⌜ r ≡ parsed numbering (now (codestream .entry)) (length (now (table .entry))) (length (now (out .entry))) ⌝ }
-    ensures { λ r. ⌜ now (table .exit) ≡ recordsAfter numbering r (now (codestream .entry)) (now (table .entry)) ⌝ }
+    ensures { λ r. ⌜ r ≡ parsed reading (now (codestream .entry)) (length (now (table .entry))) (length (now (out .entry))) ⌝ }
+    ensures { λ r. ⌜ now (table .exit) ≡ recordsAfter (reading .numbering) r (now (codestream .entry)) (now (table .entry)) ⌝ }
     ensures { λ r. ⌜ now (out .exit) ≡ outAfter r (now (codestream .entry)) (now (out .entry)) ⌝ }
 {
-    let answer = header::parse::decide(codestream, numbering, table.len() as u64, out.len() as u64);
+    let answer = header::parse::decide(codestream, reading, table.len() as u64, out.len() as u64);
     let MainHeader::Header(info) = answer else {
         return answer;
     };
@@ -97,6 +98,7 @@ pub fn parse_main_header(
         header::strip::append(codestream, 0, first_sot.position(), out, 0);
         return answer;
     }
+    let numbering = reading.numbering;
     fill_table(codestream, numbering, first_sot, table);
     header::strip::strip(codestream, out);
     answer

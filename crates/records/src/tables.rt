@@ -8,8 +8,8 @@ ghost use Rattle.parts.specs.Scan.{scanned};
 ghost use Rattle.records.specs.MainHeader.{recordsAfter};
 ghost use Rattle.records.specs.Scan.{scannedRecords};
 ghost use Rattle.records.specs.Tables.{blank};
-use header::numbering::Numbering;
 use header::parse::MainHeader;
+use header::reading::Reading;
 use parts::scan::Scanned;
 use types::CodestreamOffset;
 use types::TilePartEntry;
@@ -56,12 +56,12 @@ pub fn scan_table(codestream: &[u8], first_sot_offset: CodestreamOffset) -> Scan
     scan_with(answer, table)
 }
 
-pub fn header_table(codestream: &[u8], numbering: Numbering, out: &mut [u8]) -> HeaderTable
-    ensures { λ r. ⌜ r .answer ≡ parsed numbering (now (codestream .entry)) 2048 (length (now (out .entry))) ⌝ }
-    ensures { λ r. ⌜ r .table ≡ recordsAfter numbering (r .answer) (now (codestream .entry)) blank ⌝ }
+pub fn header_table(codestream: &[u8], reading: Reading, out: &mut [u8]) -> HeaderTable
+    ensures { λ r. ⌜ r .answer ≡ parsed reading (now (codestream .entry)) 2048 (length (now (out .entry))) ⌝ }
+    ensures { λ r. ⌜ r .table ≡ recordsAfter (reading .numbering) (r .answer) (now (codestream .entry)) blank ⌝ }
     ensures { λ r. ⌜ now (out .exit) ≡ outAfter (r .answer) (now (codestream .entry)) (now (out .entry)) ⌝ }
 {
     let mut table = new_table();
-    let answer = crate::main_header::parse_main_header(codestream, numbering, &mut table, out);
+    let answer = crate::main_header::parse_main_header(codestream, reading, &mut table, out);
     header_with(answer, table)
 }

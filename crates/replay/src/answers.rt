@@ -3,7 +3,7 @@ ghost use mathlib.Core.Path.{_≡_};
 ghost use lib.ListN.{length};
 use crate::print;
 use header::extent::MainHeaderExtent;
-use header::numbering::Numbering;
+use header::reading::Reading;
 use reader::components;
 use reader::search::Found;
 use reader::siz::SampleType;
@@ -25,18 +25,18 @@ pub(crate) fn extent(prefix: &[u8]) {
 }
 
 // The payload is the codestream.
-pub(crate) fn header(codestream: &[u8], numbering: Numbering) {
+pub(crate) fn header(codestream: &[u8], reading: Reading) {
     let mut table = new_table();
     let mut out = io::large_buffer();
-    let answer = header::parse::parse_main_header(codestream, numbering, &mut table, &mut out);
+    let answer = header::parse::parse_main_header(codestream, reading, &mut table, &mut out);
     let entries = print::header(answer, &out);
     print::rows(&table, entries);
 }
 
 // The same with a table of records.
-pub(crate) fn header_records(codestream: &[u8], numbering: Numbering) {
+pub(crate) fn header_records(codestream: &[u8], reading: Reading) {
     let mut out = io::large_buffer();
-    let read = records::tables::header_table(codestream, numbering, &mut out);
+    let read = records::tables::header_table(codestream, reading, &mut out);
     let answer = read.answer;
     let table = read.table;
     let entries = print::header(answer, &out);

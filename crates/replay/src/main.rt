@@ -4,7 +4,9 @@
 mod answers;
 mod print;
 
+use header::edition::Edition;
 use header::numbering::Numbering;
+use header::reading::Reading;
 use tile::rules::Rule;
 
 fn main() {
@@ -46,7 +48,7 @@ fn answer_next(file: i32) -> bool {
 fn answer(kind: u8, payload: &[u8]) {
     match kind {
         1 => answers::extent(payload),
-        2 => answers::header(payload, Numbering::Restarting),
+        2 => answers::header(payload, older(Numbering::Restarting)),
         3 => answers::scan(payload),
         4 => answers::split(payload),
         5 => answers::rewrite(payload, Rule::Original),
@@ -54,7 +56,7 @@ fn answer(kind: u8, payload: &[u8]) {
         7 => answers::search(payload),
         8 => answers::siz(payload),
         9 => answers::growth(payload),
-        10 => answers::header_records(payload, Numbering::Restarting),
+        10 => answers::header_records(payload, older(Numbering::Restarting)),
         11 => answers::scan_records(payload),
         12 => answers::component_sizes(payload),
         13 => answers::rewrite(payload, Rule::AnnexB),
@@ -62,9 +64,25 @@ fn answer(kind: u8, payload: &[u8]) {
         15 => answers::rewrite(payload, Rule::InPlace),
         16 => answers::assembly(payload, Rule::InPlace),
         17 => answers::marker(payload),
-        18 => answers::header(payload, Numbering::CarriedOn),
-        19 => answers::header_records(payload, Numbering::CarriedOn),
+        18 => answers::header(payload, older(Numbering::CarriedOn)),
+        19 => answers::header_records(payload, older(Numbering::CarriedOn)),
+        20 => answers::header(payload, newer()),
+        21 => answers::header_records(payload, newer()),
         _ => print::text(b"unknown kind"),
     }
     print::text(b"\n");
+}
+
+fn older(numbering: Numbering) -> Reading {
+    Reading {
+        numbering,
+        edition: Edition::Older,
+    }
+}
+
+fn newer() -> Reading {
+    Reading {
+        numbering: Numbering::CarriedOn,
+        edition: Edition::Newer,
+    }
 }

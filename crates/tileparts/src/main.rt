@@ -2,8 +2,10 @@
 // codestream, main header, TLM entries and tile-parts. A refused stage's line is the last; otherwise `end` is.
 ghost use mathlib.Core.Path.{_≡_};
 ghost use lib.ListN.{length};
+use header::edition::Edition;
 use header::numbering::Numbering;
 use header::parse::MainHeader;
+use header::reading::Reading;
 use libc::STDIN_FILENO;
 use libc::STDOUT_FILENO;
 use parts::scan::Scanned;
@@ -43,7 +45,11 @@ fn list(file: &[u8]) {
 // Offsets from here on are the codestream's.
 fn list_header(codestream: &[u8]) {
     let mut out = io::large_buffer();
-    let read = records::tables::header_table(codestream, Numbering::Restarting, &mut out);
+    let reading = Reading {
+        numbering: Numbering::Restarting,
+        edition: Edition::Older,
+    };
+    let read = records::tables::header_table(codestream, reading, &mut out);
     let answer = read.answer;
     let table = read.table;
     match answer {

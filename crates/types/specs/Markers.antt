@@ -5,6 +5,10 @@ use Prim.Native.Nat.{ℕ}
 abbrev pub SOC : ℕ
 SOC = 0xff4f
 
+-- extended capabilities
+abbrev pub CAP : ℕ
+CAP = 0xff50
+
 -- image and tile size
 abbrev pub SIZ : ℕ
 SIZ = 0xff51

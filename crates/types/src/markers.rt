@@ -2,6 +2,8 @@
 
 // Start of codestream.
 pub const SOC: u16 = 0xff4f;
+// Extended capabilities.
+pub const CAP: u16 = 0xff50;
 // Image and tile size.
 pub const SIZ: u16 = 0xff51;
 // Tile-part lengths.

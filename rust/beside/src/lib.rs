@@ -12,6 +12,7 @@ pub mod model;
 pub mod options;
 pub mod program;
 pub mod random;
+pub mod readings;
 pub mod sample;
 pub mod tally;
 pub mod wanted;

@@ -23,7 +23,7 @@ pub const FILLERS: &str = "accepted with fillers";
 /// Of a table that is another one where the numbers restart; of this the original says nothing.
 pub const NUMBERED_ON: &str = "accepted, numbered on";
 pub const HEADER_RESTARTING: Wanted = Wanted {
-    name: "parse_main_header_by_numbering, restarting",
+    name: "parse_main_header_by_reading, restarting",
     answers: &[
         (ACCEPTED, 85_000),
         (FILLERS, 15_000),
@@ -62,21 +62,46 @@ pub const HEADER: Wanted = Wanted {
     ],
 };
 pub const HEADER_CARRIED_ON: Wanted = Wanted {
-    name: "parse_main_header_by_numbering, carried on",
+    name: "parse_main_header_by_reading, carried on",
     ..HEADER
 };
 pub const RECORDS_CARRIED_ON: Wanted = Wanted {
     name: "header_records, carried on",
     ..HEADER
 };
-/// By either.
-pub const HEADER_BY_NUMBERING: Wanted = Wanted {
-    name: "parse_main_header_by_numbering",
-    ..HEADER
+/// In the newer edition, by either numbering; the original's answers count as they do in the older.
+pub const HEADER_NEWER: Wanted = Wanted {
+    name: "parse_main_header_by_reading, newer",
+    answers: &[
+        (ACCEPTED, 20_000),
+        (FILLERS, 1_000),
+        (NUMBERED_ON, 0),
+        ("refused 1", 100_000),
+        ("refused 2", 15_000),
+        ("refused 3", 200_000),
+        ("refused 4", 15_000),
+        ("refused 5", 30_000),
+        ("refused 6", 8_000),
+        ("refused 17", 0),
+        ("refused 18", 0),
+        (TOO_LONG, 0),
+        ("refused 26", 0),
+        ("refused 33", 0),
+        ("refused 34", 0),
+    ],
+};
+pub const RECORDS_NEWER: Wanted = Wanted {
+    name: "header_records, newer",
+    ..HEADER_NEWER
+};
+/// By each.
+pub const HEADER_BY_READING: Wanted = Wanted {
+    name: "parse_main_header_by_reading",
+    ..HEADER_NEWER
 };
 pub const HEADER_RECORDS: Wanted = Wanted {
     name: "header_records",
-    ..HEADER
+    ..HEADER_NEWER
 };
 
 /// By the number of fillers, and whether the table is another one than restarting.

@@ -31,13 +31,25 @@ Offsets behind `codestream` count from the codestream's start.
 
 Numberings, of tile-parts for which the header's own table has no tile:
   restarting    from 0 in each of the table's segments, as the listing program and the ported program do
-  carried-on    on over the segments in the order of the file, as the standard has it; more than 65,535 are refused";
+  carried-on    on over the segments in the order of the file, as the standard has it; more than 65,535 are refused
+
+Editions, of the standard, by which a header is read:
+  older    capabilities (CAP) are passed over as any segment
+  newer    they stand there exactly once where bit 14 of Rsiz announces them, as high-throughput files have it, and are as long as
+           their bits ask; a header that has them otherwise is refused";
 
 const SHOW: &str = "\
 Examples:
   winterhasp show flight.jp2
   winterhasp show --tile 5 flight.jp2         the components' sizes in tile 5 too
   winterhasp show --json flight.jp2
+  winterhasp show --edition newer flight.jp2  refused where its capabilities (CAP) don't stand as announced
+
+Edition:
+  newer: capabilities (CAP) at 51, as announced
+is a header of the standard's newer edition, by which high-throughput files say what they use; older: none is announced, and none
+there. One that announces CAP and doesn't have it, or the other way round, or at a wrong length, is of the older edition, and the
+line says what the newer refuses; with --edition newer the file is refused for it. JSON has all that as edition.
 
 Components:
   8 bits, unsigned; 5 by 3, from 2, 1 on; a sample for 2 by 2
@@ -116,6 +128,9 @@ pub struct List {
     /// How tile-parts are numbered that the header's own table (tlm) gives no tile
     #[arg(long, value_enum, default_value_t)]
     pub numbering: Numbering,
+    /// The edition of the standard by which the header is read
+    #[arg(long, value_enum, default_value_t)]
+    pub edition: Edition,
 }
 
 /// The default is not the library's, which carries on: the lines are those of the listing program.
@@ -135,6 +150,22 @@ impl From<Numbering> for winterhasp::Numbering {
     }
 }
 
+#[derive(Clone, Copy, Default, ValueEnum)]
+pub enum Edition {
+    #[default]
+    Older,
+    Newer,
+}
+
+impl From<Edition> for winterhasp::Edition {
+    fn from(edition: Edition) -> Self {
+        match edition {
+            Edition::Older => winterhasp::Edition::Older,
+            Edition::Newer => winterhasp::Edition::Newer,
+        }
+    }
+}
+
 #[derive(Args)]
 pub struct Show {
     /// A JP2 or a bare codestream
@@ -145,6 +176,9 @@ pub struct Show {
     /// Also the sizes of the components in this tile, from 0 to 65535
     #[arg(long, value_name = "N", value_parser = index)]
     pub tile: Option<u16>,
+    /// The edition of the standard by which the header is read
+    #[arg(long, value_enum, default_value_t)]
+    pub edition: Edition,
 }
 
 #[derive(Args)]
@@ -258,6 +292,31 @@ mod tests {
             assert_eq!(numbering(&["--numbering", wrong]), None, "{wrong}");
         }
         assert_eq!(numbering(&["--numbering"]), None);
+    }
+
+    fn edition(command: &str, words: &[&str]) -> Option<winterhasp::Edition> {
+        let words = ["winterhasp", command, "flight"].iter().chain(words);
+        let arguments = Arguments::try_parse_from(words).ok()?;
+        match arguments.command {
+            Command::List(list) => Some(list.edition.into()),
+            Command::Show(show) => Some(show.edition.into()),
+            _ => None,
+        }
+    }
+
+    #[test]
+    fn a_header_is_read_by_the_older_edition_by_default() {
+        for command in ["list", "show"] {
+            let older = Some(winterhasp::Edition::Older);
+            assert_eq!(edition(command, &[]), older);
+            assert_eq!(edition(command, &["--edition", "older"]), older);
+            let newer = Some(winterhasp::Edition::Newer);
+            assert_eq!(edition(command, &["--edition=newer"]), newer);
+            for wrong in ["", "new", "Newer", "2", "1"] {
+                assert_eq!(edition(command, &["--edition", wrong]), None, "{wrong}");
+            }
+            assert_eq!(edition(command, &["--edition"]), None);
+        }
     }
 
     #[test]

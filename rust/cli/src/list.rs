@@ -8,7 +8,7 @@ use indicatif::{ProgressBar, ProgressStyle};
 use rayon::prelude::*;
 use rayon::{ThreadPool, ThreadPoolBuilder};
 use serde::Serialize;
-use winterhasp::{FileOffset, Numbering, Refusal, TilePart};
+use winterhasp::{FileOffset, Reading, Refusal, TilePart};
 
 use crate::arguments::List;
 use crate::contents::Contents;
@@ -27,7 +27,10 @@ pub fn list(arguments: &List) -> Result<Status, Trouble> {
     let form = Form {
         json: arguments.json,
         named: !files.alone,
-        numbering: arguments.numbering.into(),
+        reading: Reading {
+            numbering: arguments.numbering.into(),
+            edition: arguments.edition.into(),
+        },
     };
     let mut run = Run::new(form, files.paths.len());
     for trouble in &files.troubles {
@@ -85,7 +88,7 @@ impl Run {
 
     /// Printed line by line: of one file, however long its list, no text is kept.
     fn single(&mut self, path: &Path) -> Result<(), Trouble> {
-        let listing = listed(path, self.form.numbering);
+        let listing = listed(path, self.form.reading);
         let printed = self.form.print(&mut self.out, path, &listing);
         printed.map_err(not_printed)?;
         self.ended(Ended::of(path, &listing))
@@ -205,9 +208,9 @@ struct Header {
     tlm: Vec<TilePart>,
 }
 
-fn listed(path: &Path, numbering: Numbering) -> Result<Listing, Trouble> {
+fn listed(path: &Path, reading: Reading) -> Result<Listing, Trouble> {
     let contents = Contents::open(path)?;
-    let listing = Listing::of(Stages::of(contents.bytes(), numbering));
+    let listing = Listing::of(Stages::of(contents.bytes(), reading));
     contents.unchanged(path)?;
     Ok(listing)
 }
@@ -315,12 +318,12 @@ struct Form {
     json: bool,
     /// Whether each begins with its name.
     named: bool,
-    numbering: Numbering,
+    reading: Reading,
 }
 
 impl Form {
     fn block(&self, path: &Path) -> Block {
-        let listing = listed(path, self.numbering);
+        let listing = listed(path, self.reading);
         let mut text = Vec::new();
         // A vector takes all that is written to it.
         let _ = self.print(&mut text, path, &listing);

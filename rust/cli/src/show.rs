@@ -6,7 +6,7 @@ use std::path::Path;
 
 use serde::Serialize;
 use winterhasp::{
-    parse_siz_marker, Codestream, Components, FileOffset, Numbering, Refusal, TilePart,
+    parse_siz_marker, Codestream, Components, FileOffset, MainHeader, Reading, Refusal, TilePart,
 };
 
 use crate::arguments;
@@ -16,14 +16,18 @@ use crate::names::shown;
 use crate::offsets::Offsets;
 use crate::output::{print, tell};
 use crate::siz::{box_text, Grid, Pair, Siz};
-use crate::stages::{packed_headers, parts_without_tlm, End, Stages, Stopped};
+use crate::stages::{capabilities, packed_headers, parts_without_tlm, End, Stages, Stopped};
 use crate::tiles::{ranges_text, Tiles};
 use crate::trouble::{about, sentence, Refused, Status, Trouble};
 
 pub fn show(arguments: &arguments::Show) -> Result<Status, Trouble> {
     let path = &arguments.file;
     let contents = Contents::open(path)?;
-    let (report, trouble) = Report::of(path, contents.bytes(), arguments.tile);
+    let reading = Reading {
+        edition: arguments.edition.into(),
+        ..Reading::default()
+    };
+    let (report, trouble) = Report::of(path, contents.bytes(), reading, arguments.tile);
     contents.unchanged(path)?;
     let text = if arguments.json {
         report.json()?
@@ -87,10 +91,20 @@ struct Header {
     decode_length: u64,
     /// None: there is no table.
     tlm_entries: Option<u64>,
+    edition: EditionReport,
     /// Delimiters without FF, which no edition of the standard allows.
     fillers: u64,
     /// Where packet headers of all tiles start; none: there are none, and tiles can be cut out.
     ppm: Option<Offsets>,
+}
+
+#[derive(Serialize)]
+struct EditionReport {
+    name: &'static str,
+    /// Of the newer edition: where the capabilities stand.
+    cap: Option<Offsets>,
+    /// Why it is not of the newer, where it would be by what it announces or holds.
+    newer_refuses: Option<Refused>,
 }
 
 #[derive(Serialize)]
@@ -121,8 +135,8 @@ struct Ended {
 
 impl Report {
     /// And a sentence where the file is refused, or the tile that is asked for.
-    fn of(path: &Path, file: &[u8], tile: Option<u16>) -> (Self, Option<String>) {
-        let stages = Stages::of(file, Numbering::default());
+    fn of(path: &Path, file: &[u8], reading: Reading, tile: Option<u16>) -> (Self, Option<String>) {
+        let stages = Stages::of(file, reading);
         let start = stages.start();
         let header = header_with_siz(&stages);
         let (siz, siz_refused) = header.map_or((None, None), siz_of);
@@ -216,6 +230,7 @@ impl Report {
         let in_tile = self.in_tile.iter().flat_map(InTile::lines);
         let behind = [
             ("header", self.header.as_ref().map(Header::text)),
+            ("edition", self.header.as_ref().map(Header::edition_text)),
             ("tlm", self.header.as_ref().map(Header::tlm_text)),
             ("filler", self.header.as_ref().map(Header::filler_text)),
             ("ppm", self.header.as_ref().and_then(Header::ppm_text)),
@@ -288,6 +303,7 @@ fn header_of(stages: &Stages) -> Option<Header> {
         length: header.first_sot.0,
         decode_length: header.decode_header.len() as u64,
         tlm_entries: header.tlm.as_ref().map(|entries| entries.len() as u64),
+        edition: EditionReport::of(codestream, header),
         fillers: header.fillers,
         ppm: ppm.map(|at| Offsets::of(at, codestream.start)),
     })
@@ -302,7 +318,7 @@ fn known<const N: usize>(lines: [(&str, Option<String>); N]) -> impl Iterator<It
 fn header_with_siz<'a>(stages: &'a Stages) -> Option<&'a [u8]> {
     match (&stages.header, stages.refused) {
         (Some(header), _) => Some(&header.decode_header),
-        (None, Some(refusal)) if of_tlm(refusal) => Some(stages.codestream?.bytes),
+        (None, Some(refusal)) if behind_siz(refusal) => Some(stages.codestream?.bytes),
         _ => None,
     }
 }
@@ -319,14 +335,14 @@ fn refused(read: Option<Result<Components, Refusal>>) -> Option<Refusal> {
     read?.err()
 }
 
-/// The walk over the header has passed SIZ, and gave up at TLM.
-fn of_tlm(refusal: Refusal) -> bool {
-    matches!(refusal.number(), 4 | 5 | 26)
+/// The walk over the header has passed SIZ, and TLM or CAP is refused.
+fn behind_siz(refusal: Refusal) -> bool {
+    matches!(refusal.number(), 4 | 5 | 26 | 33 | 34)
 }
 
-/// What the scan lists where only TLM is wrong, as the remedy says.
+/// What the scan lists where only TLM or CAP is wrong, as the remedy says.
 fn parts_of_refused(refusal: Option<Refusal>, codestream: Codestream) -> Option<Vec<TilePart>> {
-    refusal.filter(|refusal| of_tlm(*refusal))?;
+    refusal.filter(|refusal| behind_siz(*refusal))?;
     parts_without_tlm(codestream.bytes)
 }
 
@@ -355,6 +371,15 @@ impl Header {
         format!("{length} bytes, {decode_length} without TLM")
     }
 
+    fn edition_text(&self) -> String {
+        let edition = &self.edition;
+        match (edition.cap, &edition.newer_refuses) {
+            (Some(cap), _) => format!("newer: capabilities (CAP) at {}, as announced", cap.text()),
+            (None, None) => "older: no capabilities (CAP) are announced".to_string(),
+            (None, Some(refused)) => format!("older; THE NEWER REFUSES IT: {}", refused.text()),
+        }
+    }
+
     fn tlm_text(&self) -> String {
         match self.tlm_entries {
             Some(entries) => format!("{entries} entries"),
@@ -377,6 +402,20 @@ impl Header {
         Some(format!(
             "PACKET HEADERS OF ALL TILES, from {place} on: no tile can be cut out"
         ))
+    }
+}
+
+impl EditionReport {
+    fn of(codestream: Codestream, header: &MainHeader) -> Self {
+        let (cap, refused) = match capabilities(codestream.bytes, header) {
+            Ok(cap) => (cap, None),
+            Err(refusal) => (None, Some(refusal)),
+        };
+        EditionReport {
+            name: if cap.is_some() { "newer" } else { "older" },
+            cap: cap.map(|at| Offsets::of(at, codestream.start)),
+            newer_refuses: refused.map(|refusal| Refused::new(refusal, Some(codestream.start))),
+        }
     }
 }
 
@@ -469,6 +508,8 @@ impl Ended {
 mod tests {
     use std::path::Path;
 
+    use winterhasp::Reading;
+
     use super::Report;
 
     const SAMPLE: &[u8] = include_bytes!("../../../crates/tileparts/stdin");
@@ -476,7 +517,7 @@ mod tests {
     /// In words and as JSON, of the sample with these bytes between SIZ and TLM.
     fn told(between: &[u8]) -> [String; 2] {
         let file = [&SAMPLE[..45], between, &SAMPLE[45..]].concat();
-        let (report, _) = Report::of(Path::new("a.j2k"), &file, None);
+        let (report, _) = Report::of(Path::new("a.j2k"), &file, Reading::default(), None);
         [report.text(), report.json().expect("JSON")]
     }
 

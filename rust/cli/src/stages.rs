@@ -2,14 +2,21 @@
 
 use winterhasp::{
     find_codestream, find_marker, grow_header_region, main_header_extent,
-    parse_main_header_by_numbering, scan_sot_markers, Codestream, CodestreamOffset, FileOffset,
-    MainHeader, MainHeaderExtent, Numbering, Refusal, TilePart,
+    parse_main_header_by_reading, scan_sot_markers, Codestream, CodestreamOffset, Edition,
+    FileOffset, MainHeader, MainHeaderExtent, Numbering, Reading, Refusal, TilePart,
 };
 
 const MARKER: u64 = 2;
+const CAP: u16 = 0xFF50;
 const PPM: u16 = 0xFF60;
 const EOC: [u8; 2] = [0xFF, 0xD9];
 const PSOT_AT: u64 = 6;
+
+/// As nothing is refused that another reading accepts.
+const LEAST: Reading = Reading {
+    numbering: Numbering::Restarting,
+    edition: Edition::Older,
+};
 
 /// What each stage gave, up to the first that refused.
 #[derive(Default)]
@@ -29,16 +36,16 @@ pub struct Accepted<'a> {
 }
 
 impl<'a> Stages<'a> {
-    pub fn of(file: &'a [u8], numbering: Numbering) -> Self {
+    pub fn of(file: &'a [u8], reading: Reading) -> Self {
         let mut stages = Stages::default();
-        stages.refused = stages.go(file, numbering).err();
+        stages.refused = stages.go(file, reading).err();
         stages
     }
 
-    fn go(&mut self, file: &'a [u8], numbering: Numbering) -> Result<(), Refusal> {
+    fn go(&mut self, file: &'a [u8], reading: Reading) -> Result<(), Refusal> {
         let codestream = find_codestream(file)?;
         self.codestream = Some(codestream);
-        let header = main_header(codestream.bytes, numbering)?;
+        let header = main_header(codestream.bytes, reading)?;
         let first_sot = header.first_sot;
         self.header = Some(header);
         self.parts = Some(scan_sot_markers(codestream.bytes, first_sot)?);
@@ -57,7 +64,7 @@ impl<'a> Accepted<'a> {
     pub fn of(file: &'a [u8]) -> Result<Self, (Refusal, Option<FileOffset>)> {
         let codestream = find_codestream(file).map_err(|refusal| (refusal, None))?;
         let refused = |refusal| (refusal, Some(codestream.start));
-        let header = main_header(codestream.bytes, Numbering::Restarting).map_err(refused)?;
+        let header = main_header(codestream.bytes, LEAST).map_err(refused)?;
         let parts = scan_sot_markers(codestream.bytes, header.first_sot).map_err(refused)?;
         Ok(Accepted {
             codestream,
@@ -69,19 +76,34 @@ impl<'a> Accepted<'a> {
 
 /// Of a long codestream only the first bytes are lent. A header that ends is copied first: its
 /// reading counts in one pass and writes in the next, and a mapped file might change between them.
-fn main_header(codestream: &[u8], numbering: Numbering) -> Result<MainHeader, Refusal> {
+fn main_header(codestream: &[u8], reading: Reading) -> Result<MainHeader, Refusal> {
     let region = first(codestream, grow_header_region(codestream).length);
     match main_header_extent(region) {
         MainHeaderExtent::Complete(first_sot) => {
-            parse_main_header_by_numbering(&with_first_sot(region, first_sot), numbering)
+            parse_main_header_by_reading(&with_first_sot(region, first_sot), reading)
         }
-        MainHeaderExtent::Truncated => parse_main_header_by_numbering(region, numbering),
+        MainHeaderExtent::Truncated => parse_main_header_by_reading(region, reading),
     }
 }
 
 /// A copy of the header, with the marker of the first SOT behind it.
 fn with_first_sot(codestream: &[u8], first_sot: CodestreamOffset) -> Vec<u8> {
     first(codestream, first_sot.0.saturating_add(MARKER)).to_vec()
+}
+
+/// Where CAP stands in the header, which was accepted by the older edition, if it does; or what the newer
+/// refuses.
+pub fn capabilities(
+    codestream: &[u8],
+    header: &MainHeader,
+) -> Result<Option<CodestreamOffset>, Refusal> {
+    let header = with_first_sot(codestream, header.first_sot);
+    let newer = Reading {
+        edition: Edition::Newer,
+        ..LEAST
+    };
+    parse_main_header_by_reading(&header, newer)?;
+    find_marker(&header, CAP)
 }
 
 /// Where the header, which was accepted, starts to hold the packet headers of all tile-parts, in the order

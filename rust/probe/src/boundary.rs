@@ -5,6 +5,8 @@
 //! none of them after it returns. A slice of records is counted in records, which are laid out as the
 //! archive's own.
 
+use crate::host::Reading;
+
 /// A tile-part: its tile's index, its offset and its length.
 #[repr(C)]
 #[derive(Debug, Default, Clone, Copy, PartialEq, Eq)]
@@ -26,12 +28,13 @@ impl TilePartEntry {
 
 mod archive {
     use super::TilePartEntry;
+    use crate::host::Reading;
 
     extern "C" {
         pub fn winterhasp_header_records(
             codestream: *const u8,
             codestream_len: usize,
-            numbering: u32,
+            reading: Reading,
             table: *mut TilePartEntry,
             table_len: usize,
             out: *mut u8,
@@ -61,10 +64,10 @@ mod archive {
     }
 }
 
-/// As `parse_main_header_by_numbering`, with the TLM entries as records.
+/// As `parse_main_header_by_reading`, with the TLM entries as records.
 pub fn header_records(
     codestream: &[u8],
-    numbering: u32,
+    reading: Reading,
     table: &mut [TilePartEntry],
     out: &mut [u8],
     [first_sot, decode_length, entries, fillers]: &mut [u64; 4],
@@ -74,7 +77,7 @@ pub fn header_records(
         archive::winterhasp_header_records(
             codestream.as_ptr(),
             codestream.len(),
-            numbering,
+            reading,
             table.as_mut_ptr(),
             table.len(),
             out.as_mut_ptr(),

@@ -6,6 +6,8 @@
 //! first number lent, unless it says otherwise.
 
 mod archive {
+    use super::Reading;
+
     extern "C" {
         pub fn winterhasp_in_file(offset: u64, start: u64, value: *mut u64) -> u32;
 
@@ -28,10 +30,10 @@ mod archive {
             fillers: *mut u64,
         ) -> u32;
 
-        pub fn winterhasp_parse_main_header_by_numbering(
+        pub fn winterhasp_parse_main_header_by_reading(
             codestream: *const u8,
             codestream_len: usize,
-            numbering: u32,
+            reading: Reading,
             table: *mut u8,
             table_len: usize,
             out: *mut u8,
@@ -261,8 +263,8 @@ pub fn main_header_extent(prefix: &[u8], value: &mut u64) -> u32 {
 }
 
 /// TLM entries go to `table` as rows of 18 bytes, numbered on over the segments where they have no
-/// index, the decode header to `out`. Numbers: first SOT,
-/// the decode header's length, entries, fillers.
+/// index, the decode header to `out`; CAP is passed over. Numbers: first SOT, the decode header's
+/// length, entries, fillers.
 pub fn parse_main_header(
     codestream: &[u8],
     table: &mut [u8],
@@ -286,24 +288,36 @@ pub fn parse_main_header(
     }
 }
 
-/// The numberings as the function below takes them; any other number means the first.
+/// How a main header is read, as the function below takes it: a number for each choice.
+#[repr(C)]
+#[derive(Debug, Clone, Copy)]
+pub struct Reading {
+    pub numbering: u32,
+    pub edition: u32,
+}
+
+/// The numberings; any other number means the first.
 pub const CARRIED_ON: u32 = 0;
 pub const RESTARTING: u32 = 1;
 
-/// The same by a numbering.
-pub fn parse_main_header_by_numbering(
+/// The editions; any other number means the first.
+pub const OLDER: u32 = 0;
+pub const NEWER: u32 = 1;
+
+/// The same, read as is said.
+pub fn parse_main_header_by_reading(
     codestream: &[u8],
-    numbering: u32,
+    reading: Reading,
     table: &mut [u8],
     out: &mut [u8],
     [first_sot, decode_length, entries, fillers]: &mut [u64; 4],
 ) -> u32 {
     // SAFETY: as at the top of this file.
     unsafe {
-        archive::winterhasp_parse_main_header_by_numbering(
+        archive::winterhasp_parse_main_header_by_reading(
             codestream.as_ptr(),
             codestream.len(),
-            numbering,
+            reading,
             table.as_mut_ptr(),
             table.len(),
             out.as_mut_ptr(),

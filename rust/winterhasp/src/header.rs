@@ -2,8 +2,8 @@
 
 use crate::boundary;
 use crate::lent::lend;
-use crate::numbering::Numbering;
 use crate::offsets::CodestreamOffset;
+use crate::reading::Reading;
 use crate::refusal::Refusal;
 use crate::tile_part::{from_rows, TilePart};
 
@@ -24,8 +24,9 @@ pub struct MainHeader {
 
 /// Reads the main header of `codestream`, which may be cut behind the first SOT marker. At most
 /// 2^32-1 bytes are taken: of a longer one hand over the region that
-/// [`grow_header_region`](crate::grow_header_region) gives. Entries of the length table without an
-/// index are numbered on over its segments ([`Numbering::CarriedOn`]).
+/// [`grow_header_region`](crate::grow_header_region) gives. It is read as [`Reading`] says by default:
+/// entries of the length table without an index are numbered on over its segments, and CAP is passed
+/// over as any segment.
 ///
 /// ```
 /// use winterhasp::{parse_main_header, CodestreamOffset};
@@ -51,35 +52,39 @@ pub fn parse_main_header(codestream: &[u8]) -> Result<MainHeader, Refusal> {
     read(|table, out, numbers| boundary::parse_main_header(codestream, table, out, numbers))
 }
 
-/// The same by a [`Numbering`].
+/// The same, read as a [`Reading`] says.
 ///
 /// ```
-/// use winterhasp::{parse_main_header, parse_main_header_by_numbering, Numbering};
+/// use winterhasp::{parse_main_header, parse_main_header_by_reading, Edition, Numbering, Reading};
 ///
-/// // a table that has all its indices is the same by either
+/// // a table that has all its indices is the same by either numbering, and a header that announces no
+/// // CAP and has none by either edition
 /// let codestream = std::fs::read("sample-a.j2k")?;
 /// for numbering in [Numbering::CarriedOn, Numbering::Restarting] {
-///     let header = parse_main_header_by_numbering(&codestream, numbering)?;
-///     assert_eq!(header, parse_main_header(&codestream)?);
+///     for edition in [Edition::Older, Edition::Newer] {
+///         let header = parse_main_header_by_reading(&codestream, Reading { numbering, edition })?;
+///         assert_eq!(header, parse_main_header(&codestream)?);
+///     }
 /// }
 ///
 /// // SOC, SIZ without a body, three segments of 22,000 lengths without an index, SOT
 /// let segment = [&[0xFF, 0x55, 0xAB, 0xE4, 0, 0][..], &[0; 44_000]].concat();
 /// let front = [0xFF, 0x4F, 0xFF, 0x51, 0x00, 0x02];
 /// let many = [&front, &segment[..], &segment, &segment, &[0xFF, 0x90]].concat();
-/// let refusal = parse_main_header_by_numbering(&many, Numbering::CarriedOn).unwrap_err();
+/// let refusal = parse_main_header_by_reading(&many, Reading::default()).unwrap_err();
 /// assert_eq!((refusal.number(), refusal.place()), (26, 6 + 2 * 44_006));
-/// let header = parse_main_header_by_numbering(&many, Numbering::Restarting)?;
+/// let restarting = Reading { numbering: Numbering::Restarting, ..Reading::default() };
+/// let header = parse_main_header_by_reading(&many, restarting)?;
 /// assert_eq!(header.tlm.map(|parts| parts.len()), Some(66_000));
 /// # Ok::<(), Box<dyn std::error::Error>>(())
 /// ```
-pub fn parse_main_header_by_numbering(
+pub fn parse_main_header_by_reading(
     codestream: &[u8],
-    numbering: Numbering,
+    reading: Reading,
 ) -> Result<MainHeader, Refusal> {
-    let numbering = numbering.number();
+    let reading = reading.numbers();
     read(|table, out, numbers| {
-        boundary::parse_main_header_by_numbering(codestream, numbering, table, out, numbers)
+        boundary::parse_main_header_by_reading(codestream, reading, table, out, numbers)
     })
 }
 

@@ -21,7 +21,7 @@
 //! ```
 //!
 //! Functions that take no [`Rule`] go by Annex B's, which moves a tile that is cut out to 0, 0; the one
-//! that takes no [`Numbering`] carries on.
+//! that takes no [`Reading`] numbers on over a length table's segments, by the older edition.
 //!
 //! The archive is linked from the folder that `WINTERHASP_LIB` names, or from the repository's
 //! `target/staticlib`, where `rt staticlib host` writes it. It is for x86-64.
@@ -33,6 +33,7 @@
 #[allow(unsafe_code, dead_code)]
 mod boundary;
 mod components;
+mod edition;
 mod extent;
 mod growth;
 mod header;
@@ -40,6 +41,7 @@ mod lent;
 mod marker;
 mod numbering;
 mod offsets;
+mod reading;
 mod refusal;
 mod rule;
 mod scan;
@@ -53,12 +55,14 @@ pub use components::{
     component, component_in_tile, component_in_tile_by_rule, Area, Component, ComponentIter,
     Components,
 };
+pub use edition::Edition;
 pub use extent::{main_header_extent, MainHeaderExtent};
 pub use growth::{grow_header_region, next_region, HeaderRegion};
-pub use header::{parse_main_header, parse_main_header_by_numbering, MainHeader};
+pub use header::{parse_main_header, parse_main_header_by_reading, MainHeader};
 pub use marker::find_marker;
 pub use numbering::Numbering;
 pub use offsets::{CodestreamOffset, FileOffset};
+pub use reading::Reading;
 pub use refusal::{Origin, Refusal};
 pub use rule::Rule;
 pub use scan::scan_sot_markers;

@@ -5,10 +5,10 @@ use crate::boundary;
 /// How a header's length table numbers the tile-parts for which it writes no tile index. An index that
 /// is written stays what is read.
 ///
-/// The functions that take no numbering go by the default, [`CarriedOn`](Numbering::CarriedOn).
+/// Where none is said it is the default, [`CarriedOn`](Numbering::CarriedOn).
 ///
 /// ```
-/// use winterhasp::{parse_main_header_by_numbering, Numbering, Refusal};
+/// use winterhasp::{parse_main_header_by_reading, Numbering, Reading, Refusal};
 ///
 /// // SOC, SIZ without a body, two TLM segments of two lengths each without an index, SOT
 /// let header = [
@@ -18,7 +18,8 @@ use crate::boundary;
 ///     0xFF, 0x90,
 /// ];
 /// let tiles = |numbering| {
-///     let parts = parse_main_header_by_numbering(&header, numbering)?.tlm.unwrap_or_default();
+///     let reading = Reading { numbering, ..Reading::default() };
+///     let parts = parse_main_header_by_reading(&header, reading)?.tlm.unwrap_or_default();
 ///     Ok::<_, Refusal>(parts.iter().map(|part| part.index).collect::<Vec<_>>())
 /// };
 /// assert_eq!(tiles(Numbering::CarriedOn)?, [0, 1, 2, 3]);

@@ -232,6 +232,20 @@ const REFUSALS: &[Words] = &[
         origin: Origin::Codestream,
         remedy: "check the tile's index: the grid of tiles ends before it",
     },
+    Words {
+        number: 33,
+        name: "CAP_OUT_OF_PLACE",
+        wrong: "the capabilities segment (CAP) is announced and missing, or stands there unannounced or twice",
+        origin: Origin::Codestream,
+        remedy: "tell the writer of the file; the older edition takes it and passes over CAP",
+    },
+    Words {
+        number: 34,
+        name: "CAP_LENGTH_WRONG",
+        wrong: "the capabilities segment (CAP) is not as long as its bits ask",
+        origin: Origin::Codestream,
+        remedy: "tell the writer of the file; the older edition takes it and passes over CAP",
+    },
 ];
 
 /// What an archive newer than this crate may give.

@@ -78,4 +78,6 @@ pub const KINDS: &[Kind] = &[
     marker::KIND,
     header::CARRIED_ON,
     header::RECORDS_CARRIED_ON,
+    header::NEWER,
+    header::RECORDS_NEWER,
 ];

@@ -8,6 +8,7 @@ use probe::host;
 use crate::bench::{row, Benchmark, ORIGINAL};
 use crate::model::reader::{JP2C, SIGNATURE};
 use crate::model::ROW;
+use crate::readings;
 use crate::sample::boxes::fitting;
 use crate::sample::{opened, parts, sample_a};
 
@@ -43,7 +44,7 @@ impl File {
         let [start, length] = found.map(|number| number as usize);
         let codestream = &self.bytes[start..start + length];
         let [first_sot, _, entries, _] = lent(|table, out, numbers| {
-            host::parse_main_header_by_numbering(codestream, host::RESTARTING, table, out, numbers)
+            host::parse_main_header_by_reading(codestream, readings::ORIGINAL, table, out, numbers)
         })?;
         let [parts] =
             lent(|table, _, [value]| host::scan_sot_markers(codestream, first_sot, table, value))?;

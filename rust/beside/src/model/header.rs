@@ -1,9 +1,10 @@
-//! "Header walk", "Header extent", "TLM", "Decode header", "Main header", "Markers in the header".
+//! "Header walk", "Header extent", "TLM", "Editions", "Decode header", "Main header", "Markers in the
+//! header".
 
 use std::iter;
 
 use super::{number, read, Entry, Refusal};
-use crate::sample::codestream::{SIZ, SOC, SOT, TLM};
+use crate::sample::codestream::{CAP, SIZ, SOC, SOT, TLM};
 
 #[derive(Debug, Clone, PartialEq)]
 pub struct Header {
@@ -29,12 +30,47 @@ pub enum Numbering {
     Restarting,
 }
 
-impl Numbering {
+/// Whether CAP is passed over, or has to stand there as it is announced.
+#[derive(Debug, Clone, Copy, PartialEq, Eq)]
+pub enum Edition {
+    Older,
+    Newer,
+}
+
+/// How a header is read.
+#[derive(Debug, Clone, Copy, PartialEq, Eq)]
+pub struct Reading {
+    pub numbering: Numbering,
+    pub edition: Edition,
+}
+
+impl Reading {
+    /// Where nothing is said.
+    pub const DEFAULT: Reading = Reading {
+        numbering: Numbering::CarriedOn,
+        edition: Edition::Older,
+    };
+    /// As the original does.
+    pub const ORIGINAL: Reading = Reading {
+        numbering: Numbering::Restarting,
+        edition: Edition::Older,
+    };
+    pub const NEWER: Reading = Reading {
+        numbering: Numbering::CarriedOn,
+        edition: Edition::Newer,
+    };
+
     /// As C gives it.
-    pub fn of(number: u32) -> Self {
-        match number {
-            1 => Numbering::Restarting,
-            _ => Numbering::CarriedOn,
+    pub fn of(numbering: u32, edition: u32) -> Self {
+        Reading {
+            numbering: match numbering {
+                1 => Numbering::Restarting,
+                _ => Numbering::CarriedOn,
+            },
+            edition: match edition {
+                1 => Edition::Newer,
+                _ => Edition::Older,
+            },
         }
     }
 }
@@ -42,7 +78,7 @@ impl Numbering {
 const LONGEST_LOAN: u64 = u32::MAX as u64;
 const LAST_NUMBER: u16 = 65_534;
 
-pub fn parse_main_header(codestream: &[u8], numbering: Numbering) -> Result<Header, Refusal> {
+pub fn parse_main_header(codestream: &[u8], reading: Reading) -> Result<Header, Refusal> {
     let length = codestream.len() as u64;
     if length > LONGEST_LOAN {
         return Err(Refusal::new(19, 0));
@@ -60,7 +96,7 @@ pub fn parse_main_header(codestream: &[u8], numbering: Numbering) -> Result<Head
         let end = step(codestream, marker, at).ok_or(Refusal::new(3, at))?;
         let whole = &codestream[at as usize..end as usize];
         if marker == TLM.into() {
-            if numbering == Numbering::Restarting {
+            if reading.numbering == Numbering::Restarting {
                 numbers = 0..=LAST_NUMBER;
             }
             for (index, length) in tlm(&whole[2..]).map_err(|number| Refusal::new(number, at))? {
@@ -71,6 +107,9 @@ pub fn parse_main_header(codestream: &[u8], numbering: Numbering) -> Result<Head
             decode_header.extend(whole);
         }
         at = end;
+    }
+    if reading.edition == Edition::Newer {
+        capped(codestream)?;
     }
     Ok(Header {
         first_sot: at,
@@ -91,9 +130,32 @@ pub fn opens_with_siz(codestream: &[u8]) -> Result<(), Refusal> {
     Ok(())
 }
 
+/// 33, then 34, of a header that the walk accepts.
+fn capped(codestream: &[u8]) -> Result<(), Refusal> {
+    const LOWEST_LENGTH: u64 = 6;
+    let field = |at, size| read(codestream, at, size).expect("inside an accepted codestream");
+    let announced = field(6, 2) >> 14 & 1 == 1;
+    let caps = markers(codestream).filter(|&(_, marker)| marker == CAP);
+    let caps: Vec<u64> = caps.map(|(at, _)| at).collect();
+    match (announced, &caps[..]) {
+        (false, []) => Ok(()),
+        (true, []) => Err(Refusal::new(33, 2)),
+        (false, [extra, ..]) | (true, [_, extra, ..]) => Err(Refusal::new(33, *extra)),
+        (true, &[cap]) => {
+            let length = field(cap + 2, 2);
+            let fits = length >= LOWEST_LENGTH && {
+                let bits = field(cap + 4, 4);
+                let words = (0..32).filter(|bit| bits >> bit & 1 == 1).count() as u64;
+                length == LOWEST_LENGTH + 2 * words
+            };
+            fits.then_some(()).ok_or(Refusal::new(34, cap))
+        }
+    }
+}
+
 /// Entries of the table and bytes of output; some of each where the header is refused.
-pub fn needed(codestream: &[u8], numbering: Numbering) -> (usize, usize) {
-    match parse_main_header(codestream, numbering) {
+pub fn needed(codestream: &[u8], reading: Reading) -> (usize, usize) {
+    match parse_main_header(codestream, reading) {
         Ok(header) => (header.entries.len(), header.decode_header.len()),
         Err(_) => (2, 50),
     }
@@ -104,8 +166,8 @@ pub const NO_SUCH_MARKER: u32 = 257;
 
 /// Where the first marker of this code stands; nothing where there is none.
 pub fn find_marker(codestream: &[u8], marker: u16) -> Result<Option<u64>, Refusal> {
-    // which tells no index
-    parse_main_header(codestream, Numbering::Restarting)?;
+    // which tells no index, and passes over CAP
+    parse_main_header(codestream, Reading::ORIGINAL)?;
     let found = markers(codestream).find(|&(_, here)| here == marker);
     Ok(found.map(|(at, _)| at))
 }
@@ -202,10 +264,10 @@ fn placed(first_sot: u64, listed: Vec<(u16, u64)>) -> Vec<Entry> {
 
 #[cfg(test)]
 mod tests {
-    use super::{find_marker, have_to_agree, markers, parse_main_header, Header, Numbering};
+    use super::{find_marker, have_to_agree, markers, parse_main_header, Header, Reading};
     use crate::model::Refusal;
     use crate::sample::codestream::{Codestream, COM, EPH, PPM, SIZ, SOC, SOT, TLM};
-    use crate::sample::{fillers, numbers, opened, sample_a};
+    use crate::sample::{caps, fillers, numbers, opened, sample_a};
 
     /// In a header that is accepted.
     fn place(codestream: &[u8], marker: u16) -> Option<u64> {
@@ -235,7 +297,7 @@ mod tests {
     #[test]
     fn fillers_are_counted_as_by_hand() {
         let count = |codestream: &[u8]| {
-            let header = parse_main_header(codestream, Numbering::CarriedOn).expect("accepted");
+            let header = parse_main_header(codestream, Reading::DEFAULT).expect("accepted");
             header.fillers
         };
         assert_eq!(count(&sample_a()), 0);
@@ -258,8 +320,7 @@ mod tests {
 
     /// Carried on, and restarting.
     fn both(codestream: &[u8]) -> [Result<Header, Refusal>; 2] {
-        [Numbering::CarriedOn, Numbering::Restarting]
-            .map(|numbering| parse_main_header(codestream, numbering))
+        [Reading::DEFAULT, Reading::ORIGINAL].map(|reading| parse_main_header(codestream, reading))
     }
 
     #[test]
@@ -283,6 +344,15 @@ mod tests {
             let by_hand =
                 by_hand.map(|by_hand| by_hand.map(|(number, place)| Refusal::new(number, place)));
             assert_eq!(refused, by_hand);
+        }
+    }
+    #[test]
+    fn the_newer_edition_refuses_as_by_hand() {
+        for (codestream, by_hand) in caps::by_hand() {
+            let refused = parse_main_header(&codestream, Reading::NEWER).err();
+            let by_hand = by_hand.map(|(number, place)| Refusal::new(number, place));
+            assert_eq!(refused, by_hand, "{codestream:02X?}");
+            parse_main_header(&codestream, Reading::DEFAULT).expect("accepted by the older");
         }
     }
 }

@@ -2,6 +2,7 @@
 //! what it is told, sound or not.
 
 pub const SOC: u16 = 0xFF4F;
+pub const CAP: u16 = 0xFF50;
 pub const SIZ: u16 = 0xFF51;
 pub const COD: u16 = 0xFF52;
 pub const COC: u16 = 0xFF53;

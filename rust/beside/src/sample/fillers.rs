@@ -117,7 +117,7 @@ fn step(random: &mut Random, built: &mut Codestream) {
 #[cfg(test)]
 mod tests {
     use super::{counted, header};
-    use crate::model::header::{markers, parse_main_header, Numbering};
+    use crate::model::header::{markers, parse_main_header, Reading};
     use crate::random::Random;
     use std::collections::BTreeMap;
 
@@ -138,7 +138,7 @@ mod tests {
         let mut steps: BTreeMap<u16, u32> = BTreeMap::new();
         for _ in 0..1_000 {
             let built = header(&mut random);
-            match parse_main_header(&built, Numbering::CarriedOn)
+            match parse_main_header(&built, Reading::DEFAULT)
                 .expect("accepted")
                 .fillers
             {

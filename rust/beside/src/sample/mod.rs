@@ -1,6 +1,7 @@
 //! Inputs: sample A, a builder of codestreams, random and telling ones, damage, all short strings.
 
 pub mod boxes;
+pub mod caps;
 pub mod codestream;
 pub mod components;
 pub mod damage;

@@ -3,6 +3,8 @@
 
 use beside::model::header::NO_SUCH_MARKER;
 use beside::model::rows;
+use beside::readings;
+use beside::sample::caps;
 use beside::sample::codestream::{Codestream, COM, EOC, EPH, PPM, SIZ, SOC, SOD, SOT, TLM};
 use beside::sample::fillers::counted;
 use beside::sample::numbers;
@@ -59,26 +61,36 @@ fn an_entry_must_be_whole() {
     assert_eq!(one, rows(&[(5, 15, 16)]));
 }
 
-/// A numbering's number, or none, and what the rows and the records then hold: the tiles' indices, or
-/// the refusal.
+/// By a numbering's number, or none, in the older edition.
 fn numbered(codestream: &[u8], numbering: Option<u32>) -> Result<Vec<u16>, (u32, u64)> {
+    let edition = host::OLDER;
+    read_as(
+        codestream,
+        numbering.map(|numbering| host::Reading { numbering, edition }),
+    )
+}
+
+/// What the rows and the records hold, read as is said or without a word: the tiles' indices, or the
+/// refusal.
+fn read_as(codestream: &[u8], reading: Option<host::Reading>) -> Result<Vec<u16>, (u32, u64)> {
     let rows = 66_000;
-    let (mut table, mut out, mut values) = (vec![0xEE; 18 * rows], vec![0; 64], [7; 4]);
-    let status = match numbering {
+    let (mut table, mut out) = (vec![0xEE; 18 * rows], vec![0; codestream.len()]);
+    let mut values = [7; 4];
+    let status = match reading {
         None => host::parse_main_header(codestream, &mut table, &mut out, &mut values),
-        Some(number) => host::parse_main_header_by_numbering(
+        Some(reading) => host::parse_main_header_by_reading(
             codestream,
-            number,
+            reading,
             &mut table,
             &mut out,
             &mut values,
         ),
     };
     let mut records = vec![TilePartEntry::default(); rows];
-    let number = numbering.unwrap_or(host::CARRIED_ON);
+    let reading = reading.unwrap_or(readings::DEFAULT);
     let mut of_records = [7; 4];
     let status_of_records =
-        probe::header_records(codestream, number, &mut records, &mut out, &mut of_records);
+        probe::header_records(codestream, reading, &mut records, &mut out, &mut of_records);
     assert_eq!((status_of_records, of_records), (status, values));
     if status != 0 {
         assert_eq!(values[1..], [7; 3]);
@@ -131,6 +143,60 @@ fn a_number_past_65534_is_refused_where_it_stands() {
 }
 
 #[test]
+fn the_editions_have_their_numbers() {
+    assert_eq!((host::OLDER, host::NEWER), (0, 1));
+}
+
+/// In an edition, given by its number, by each numbering: the refusal, alike.
+fn in_edition(codestream: &[u8], edition: u32) -> Option<(u32, u64)> {
+    let by = |numbering| read_as(codestream, Some(host::Reading { numbering, edition })).err();
+    assert_eq!(by(host::CARRIED_ON), by(host::RESTARTING));
+    by(host::CARRIED_ON)
+}
+
+#[test]
+fn cap_stands_as_it_is_announced_or_is_refused_in_the_newer_edition() {
+    for (codestream, refused) in caps::by_hand() {
+        assert_eq!(in_edition(&codestream, 1), refused, "{codestream:02X?}");
+        for older in [0, 2, u32::MAX] {
+            assert_eq!(in_edition(&codestream, older), None);
+        }
+    }
+}
+
+/// 1 to 6 and 26 come before, in a header that wants CAP and has none.
+#[test]
+fn the_newer_edition_is_asked_last() {
+    for (codestream, carried_on, _) in numbers::at_the_last() {
+        let wanted = carried_on.or(Some((33, 2)));
+        assert_eq!(read_as(&codestream, Some(readings::IN_NEWER)).err(), wanted);
+    }
+    for codestream in [
+        &[][..],
+        &[0xFF, 0x4F],
+        &opened().bytes,
+        &opened().raw(&[0xFF, 0x64]).bytes,
+    ] {
+        assert_eq!(in_edition(codestream, 1), in_edition(codestream, 0));
+        assert!(in_edition(codestream, 1).is_some());
+    }
+}
+
+/// And 18 and 17 behind.
+#[test]
+fn room_is_asked_for_behind_the_newer_edition() {
+    for (codestream, refused) in caps::by_hand() {
+        let (reading, mut values) = (readings::IN_NEWER, [7; 4]);
+        let status =
+            host::parse_main_header_by_reading(&codestream, reading, &mut [], &mut [], &mut values);
+        match refused {
+            Some(refused) => assert_eq!((status, values[0]), refused),
+            None => assert!(matches!(status, 17 | 18)),
+        }
+    }
+}
+
+#[test]
 fn where_the_walk_stops() {
     assert_eq!(refused(&[]), (1, 0));
     assert_eq!(refused(&[0xFF, 0x4F]), (2, 2));
@@ -162,15 +228,25 @@ fn sample_a_s_entries_as_records() {
     let record = TilePartEntry::new;
     let untouched = record(9, 9, 9);
     let (mut table, mut out, mut values) = ([untouched; 3], [0xEE; 45], [7; 4]);
-    let status =
-        probe::header_records(&sample, host::CARRIED_ON, &mut table, &mut out, &mut values);
+    let status = probe::header_records(
+        &sample,
+        readings::DEFAULT,
+        &mut table,
+        &mut out,
+        &mut values,
+    );
     assert_eq!((status, values), (0, [57, 45, 2, 0]));
     assert_eq!(table, [record(0, 57, 14), record(5, 71, 16), untouched]);
     assert_eq!(out, sample[..45]);
 
     let (mut table, mut out, mut values) = ([untouched; 1], [0xEE; 45], [7; 4]);
-    let status =
-        probe::header_records(&sample, host::CARRIED_ON, &mut table, &mut out, &mut values);
+    let status = probe::header_records(
+        &sample,
+        readings::DEFAULT,
+        &mut table,
+        &mut out,
+        &mut values,
+    );
     assert_eq!((status, values), (18, [2, 7, 7, 7]));
     assert_eq!((table, out), ([untouched; 1], [0xEE; 45]));
 }
@@ -185,7 +261,7 @@ fn fillers_are_counted_as_by_hand() {
         let (mut records, mut of_records) = ([TilePartEntry::default()], [7; 4]);
         let status = probe::header_records(
             &codestream,
-            host::CARRIED_ON,
+            readings::DEFAULT,
             &mut records,
             &mut out,
             &mut of_records,
@@ -198,7 +274,7 @@ fn fillers_are_counted_as_by_hand() {
         let mut values = [7; 4];
         let status = probe::header_records(
             &codestream,
-            host::CARRIED_ON,
+            readings::DEFAULT,
             &mut records,
             &mut out[..5],
             &mut values,

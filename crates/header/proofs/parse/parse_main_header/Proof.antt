@@ -15,14 +15,14 @@ use Rattle.header.proofs.parse.parse_main_header.Tie as tie
 
 -- what was decided, where it is a header
 header : (c : tie.After-answer)
-    → parsed (c .before .before .before .before .before .before .args .numbering) (c .before .before .before .before .before .before .args .codestream .now)
+    → parsed (c .before .before .before .before .before .before .args .reading) (c .before .before .before .before .before .before .args .codestream .now)
     (length (c .before .before .before .before .before .before .args .table .now) / 18)
     (length (c .before .before .before .before .before .before .args .out .now))
     ≡ Header (c .answer .given .0 .0)
 header c = sym (c .before .before .decide .ensures) ∙ c .answer .given .1
 
 decided : (c : tie.After-answer)
-    → Decided (c .before .before .before .before .before .before .args .numbering) (c .before .before .before .before .before .before .args .codestream .now)
+    → Decided (c .before .before .before .before .before .before .args .reading .numbering) (c .before .before .before .before .before .before .args .codestream .now)
     (length (c .before .before .before .before .before .before .args .table .now) / 18)
     (length (c .before .before .before .before .before .before .args .out .now))
     (c .answer .given .0 .0)

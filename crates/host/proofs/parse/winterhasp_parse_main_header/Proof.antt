@@ -1,8 +1,8 @@
 -- What the callees say of answer and lent memory is what is promised.
 use mathlib.Core.Path.{ap, _∙_}
 use borrow.Author.Needs.{needs}
+use Rattle.header.specs.Reading.{byDefault}
 use Rattle.header.specs.Parse.{tableAfter, outAfter, headerNumber, headerFirst, headerLength, headerEntries, headerFillers}
-use Rattle.header.specs.declared.numbering.Numbering.the-variants.{CarriedOn}
 use Rattle.header.specs.declared.parse.MainHeader.{MainHeader}
 use Rattle.host.proofs.parse.winterhasp_parse_main_header.Statement.{statement}
 use Rattle.host.proofs.parse.winterhasp_parse_main_header.Tie as tie
@@ -36,7 +36,7 @@ returns c =
             (
               told .1 .1 .1 .1 ∙ ap (λ (m : MainHeader). headerFillers m (a .fillers .now)) answer,
               (
-                read .1 .0 ∙ ap (λ (m : MainHeader). tableAfter CarriedOn m (a .codestream .now) (a .table .now)) answer,
+                read .1 .0 ∙ ap (λ (m : MainHeader). tableAfter (byDefault .numbering) m (a .codestream .now) (a .table .now)) answer,
                 read .1 .1 ∙ ap (λ (m : MainHeader). outAfter m (a .codestream .now) (a .out .now)) answer,
               ),
             ),

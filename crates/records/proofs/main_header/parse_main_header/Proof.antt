@@ -18,14 +18,14 @@ use Rattle.records.proofs.main_header.parse_main_header.Proof.Tie as ti
 
 -- what was decided, where it is a header
 header : (c : tie.After-answer)
-    → parsed (c .before .before .before .before .before .args .numbering) (c .before .before .before .before .before .args .codestream .now)
+    → parsed (c .before .before .before .before .before .args .reading) (c .before .before .before .before .before .args .codestream .now)
     (length (c .before .before .before .before .before .args .table .now))
     (length (c .before .before .before .before .before .args .out .now))
     ≡ Header (c .answer .given .0 .0)
 header c = sym (c .before .before .decide .ensures) ∙ c .answer .given .1
 
 decided : (c : tie.After-answer)
-    → Decided (c .before .before .before .before .before .args .numbering) (c .before .before .before .before .before .args .codestream .now)
+    → Decided (c .before .before .before .before .before .args .reading .numbering) (c .before .before .before .before .before .args .codestream .now)
     (length (c .before .before .before .before .before .args .table .now))
     (length (c .before .before .before .before .before .args .out .now))
     (c .answer .given .0 .0)

@@ -2,11 +2,14 @@
 
 use beside::lent::{room, table};
 use beside::model::components::NO_SUCH_COMPONENT;
-use beside::model::header::{Numbering, NO_SUCH_MARKER};
+use beside::model::header::{Reading, NO_SUCH_MARKER};
 use beside::model::{self, Refusal};
 use beside::random::Random;
+use beside::readings::{self, meant};
 use beside::sample::damage::damage;
-use beside::sample::{boxes, components, headers, markers, numbers, padded, parts, sizes, tiles};
+use beside::sample::{
+    boxes, caps, components, headers, markers, numbers, padded, parts, sizes, tiles,
+};
 use beside::wanted::{self, Wanted, COMPLETE, COUNT, NONE, NO_MARKER, TRUNCATED};
 use probe::{host, TilePartEntry};
 
@@ -18,7 +21,7 @@ pub type Function = (Wanted, fn(&mut Calls));
 pub const FUNCTIONS: &[Function] = &[
     (wanted::EXTENT, extent),
     (wanted::HEADER, header),
-    (wanted::HEADER_BY_NUMBERING, header_by_numbering),
+    (wanted::HEADER_BY_READING, header_by_reading),
     (wanted::HEADER_RECORDS, header_records),
     (wanted::FIND_MARKER, find_marker),
     (wanted::SCAN, scan),
@@ -74,13 +77,14 @@ fn extent(calls: &mut Calls) {
 }
 
 /// A codestream, and room for its entries and its decode header, or about that.
-fn header_input(random: &mut Random, numbering: u32) -> (Vec<u8>, usize, usize) {
+fn header_input(random: &mut Random, reading: host::Reading) -> (Vec<u8>, usize, usize) {
     let codestream = match random.below(64) {
         0..=9 => numbers::few(random),
         10 => past_the_last(random),
+        11..=20 => caps::few(random),
         _ => codestream(random),
     };
-    let (entries, size) = model::header::needed(&codestream, Numbering::of(numbering));
+    let (entries, size) = model::header::needed(&codestream, meant(reading));
     (codestream, room(random, entries), room(random, size))
 }
 
@@ -89,20 +93,20 @@ fn header_input(random: &mut Random, numbering: u32) -> (Vec<u8>, usize, usize) 
 fn past_the_last(random: &mut Random) -> Vec<u8> {
     loop {
         let built = numbers::many(random);
-        if model::header::parse_main_header(&built, Numbering::CarriedOn).is_err() {
+        if model::header::parse_main_header(&built, Reading::DEFAULT).is_err() {
             return built;
         }
     }
 }
 
 /// What is accepted is told apart by whether it has fillers, and whether the numberings differ.
-fn header_answer(codestream: &[u8], numbering: u32) -> impl Fn(u32) -> &'static str {
+fn header_answer(codestream: &[u8], reading: host::Reading) -> impl Fn(u32) -> &'static str {
     let fillers = model::header::fillers(codestream);
-    let entries = |numbering| {
-        let read = model::header::parse_main_header(codestream, numbering);
+    let entries = |reading| {
+        let read = model::header::parse_main_header(codestream, reading);
         read.ok().map(|header| header.entries)
     };
-    let numbered_on = entries(Numbering::of(numbering)) != entries(Numbering::Restarting);
+    let numbered_on = entries(meant(reading)) != entries(Reading::ORIGINAL);
     move |status| match status {
         0 => wanted::header(fillers, numbered_on),
         _ => usual(status),
@@ -110,9 +114,9 @@ fn header_answer(codestream: &[u8], numbering: u32) -> impl Fn(u32) -> &'static 
 }
 
 fn header(calls: &mut Calls) {
-    let (codestream, entries, size) = header_input(&mut calls.random, host::CARRIED_ON);
+    let (codestream, entries, size) = header_input(&mut calls.random, readings::DEFAULT);
     let table = table(&mut calls.random, entries);
-    let answer = header_answer(&codestream, host::CARRIED_ON);
+    let answer = header_answer(&codestream, readings::DEFAULT);
     calls.call(
         [codestream],
         [table, size],
@@ -123,37 +127,41 @@ fn header(calls: &mut Calls) {
     );
 }
 
-/// Carried on, restarting, or a number that means nothing.
-fn any_numbering(random: &mut Random) -> u32 {
-    random.pick(&[0, 0, 1, 1, 2, u32::MAX])
+/// Each numbering and edition, or numbers that mean nothing.
+fn any_reading(random: &mut Random) -> host::Reading {
+    let mut number = || random.pick(&[0, 0, 1, 1, 2, u32::MAX]);
+    host::Reading {
+        numbering: number(),
+        edition: number(),
+    }
 }
 
-fn header_by_numbering(calls: &mut Calls) {
-    let numbering = any_numbering(&mut calls.random);
-    let (codestream, entries, size) = header_input(&mut calls.random, numbering);
+fn header_by_reading(calls: &mut Calls) {
+    let reading = any_reading(&mut calls.random);
+    let (codestream, entries, size) = header_input(&mut calls.random, reading);
     let table = table(&mut calls.random, entries);
-    let answer = header_answer(&codestream, numbering);
+    let answer = header_answer(&codestream, reading);
     calls.call(
         [codestream],
         [table.min(ROOM), size],
         answer,
         |[codestream], [table, out], values| {
-            host::parse_main_header_by_numbering(codestream, numbering, table, out, values)
+            host::parse_main_header_by_reading(codestream, reading, table, out, values)
         },
     );
 }
 
 fn header_records(calls: &mut Calls) {
-    let numbering = any_numbering(&mut calls.random);
-    let (codestream, entries, size) = header_input(&mut calls.random, numbering);
-    let answer = header_answer(&codestream, numbering);
+    let reading = any_reading(&mut calls.random);
+    let (codestream, entries, size) = header_input(&mut calls.random, reading);
+    let answer = header_answer(&codestream, reading);
     calls.with_table(
         [codestream],
         [size],
         entries.min(ROOM / size_of::<TilePartEntry>()),
         answer,
         |[codestream], [out], table, values| {
-            probe::header_records(codestream, numbering, table, out, values)
+            probe::header_records(codestream, reading, table, out, values)
         },
     );
 }

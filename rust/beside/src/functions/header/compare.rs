@@ -1,6 +1,7 @@
 //! The comparison: first SOT, decode header, table of rows and of records, refusals, and all that is
 //! not to be written; and the number of fillers, by the model. Restarting, as the original numbers;
-//! carried on beside the model, and beside the original where the numberings have to agree.
+//! carried on beside the model, and beside the original where the numberings have to agree. In the newer
+//! edition beside the model, and beside the original where it refuses nothing of its own.
 
 use probe::host;
 
@@ -10,14 +11,15 @@ use crate::compare::{self, Comparison};
 use crate::functions::records;
 use crate::judge::{Case, Leaves, Told};
 use crate::lent::{room, table, Lent};
-use crate::model::header::{have_to_agree, needed, parse_main_header, Header, Numbering};
+use crate::model::header::{have_to_agree, needed, parse_main_header, Header, Reading};
 use crate::model::{rows, Refusal};
 use crate::random::Random;
+use crate::readings::meant;
 use crate::sample::codestream::{Codestream, SOT, TLM};
 use crate::sample::markers::holding;
 use crate::sample::short::each_behind;
 use crate::sample::zeros::zeros;
-use crate::sample::{fillers, headers, numbers, opened, sample_a, tlms, TELLING};
+use crate::sample::{caps, fillers, headers, numbers, opened, sample_a, tlms, TELLING};
 use crate::tally::{hex_of_front, Tally};
 use crate::wanted;
 
@@ -31,6 +33,8 @@ pub const COMPARISON: Comparison<Original> = Comparison {
         wanted::HEADER,
         wanted::HEADER_CARRIED_ON,
         wanted::RECORDS_CARRIED_ON,
+        wanted::HEADER_NEWER,
+        wanted::RECORDS_NEWER,
     ],
     minimum: 1_200_000,
     original,
@@ -47,6 +51,7 @@ fn fixed(run: &mut Run) {
     every_marker(run);
     many_fillers(run);
     numbers_by_hand(run);
+    caps_by_hand(run);
 }
 
 impl Leaves<4, 2> for Header {
@@ -63,54 +68,67 @@ impl Leaves<4, 2> for Header {
 
 /// With rooms for what is needed, or about that.
 fn check(run: &mut Run, codestream: &[u8]) {
-    let (entries, size) = needed(codestream, Numbering::Restarting);
+    let (entries, size) = needed(codestream, Reading::ORIGINAL);
     let entries = room(&mut run.random, entries);
     let size = room(&mut run.random, size);
     check_with(run, codestream, entries, size);
 }
 
-/// By a numbering's number, or without one.
+/// Read as is said, or without a word.
 fn rows_by(
-    numbering: Option<u32>,
+    reading: Option<host::Reading>,
     codestream: &[u8],
     [table, out]: [&mut [u8]; 2],
     values: &mut [u64; 4],
 ) -> u32 {
-    match numbering {
+    match reading {
         None => host::parse_main_header(codestream, table, out, values),
-        Some(number) => {
-            host::parse_main_header_by_numbering(codestream, number, table, out, values)
+        Some(reading) => {
+            host::parse_main_header_by_reading(codestream, reading, table, out, values)
         }
     }
 }
 
 fn records_by(
-    numbering: u32,
+    reading: host::Reading,
     codestream: &[u8],
     [table, out]: [&mut [u8]; 2],
     values: &mut [u64; 4],
 ) -> u32 {
     records::instead_of(table, |table| {
-        probe::header_records(codestream, numbering, table, out, values)
+        probe::header_records(codestream, reading, table, out, values)
     })
 }
 
 fn check_with(run: &mut Run, codestream: &[u8], entries: usize, size: usize) {
     let table = table(&mut run.random, entries);
     let before = Lent::preset(&mut run.random, [table, size]);
-    let document = |numbering| {
-        parse_main_header(codestream, numbering).and_then(|header| header.fit(table, size))
+    let older = |numbering, random: &mut Random| host::Reading {
+        numbering,
+        edition: unsaid(random, host::OLDER),
     };
-    let [restarting, carried_on] = [Numbering::Restarting, Numbering::CarriedOn].map(document);
-    let numbered_on = match (&restarting, &carried_on) {
-        (Ok(restarting), Ok(carried_on)) => restarting.entries != carried_on.entries,
-        _ => false,
+    let again = older(host::RESTARTING, &mut run.random);
+    let on = older(unsaid(&mut run.random, host::CARRIED_ON), &mut run.random);
+    let newer = host::Reading {
+        numbering: run.random.pick(&[host::CARRIED_ON, host::RESTARTING]),
+        edition: host::NEWER,
     };
+    let document = |reading| {
+        parse_main_header(codestream, meant(reading)).and_then(|header| header.fit(table, size))
+    };
+    let [restarting, carried_on, in_newer] = [again, on, newer].map(document);
     let told = Told::by(|| (run.original)(codestream));
     let agreed = told.clone().only_if(have_to_agree(codestream));
-    let number = carried_on_number(&mut run.random);
+    let told_newer = match newer.numbering {
+        host::RESTARTING => told.clone(),
+        _ => agreed.clone(),
+    };
 
-    let judge = |tally: &mut Tally, ours, told, document: &Result<Header, Refusal>, another| {
+    let judge = |tally: &mut Tally, ours, told, document: &Result<Header, Refusal>| {
+        let numbered_on = match (&restarting, document) {
+            (Ok(restarting), Ok(header)) => restarting.entries != header.entries,
+            _ => false,
+        };
         let fillers = document.as_ref().map_or(0, |header| header.fillers);
         let case = Case {
             ours,
@@ -118,63 +136,41 @@ fn check_with(run: &mut Run, codestream: &[u8], entries: usize, size: usize) {
             told,
             document: document.clone(),
         };
-        case.judge_under(wanted::header(fillers, another), tally, || {
+        case.judge_under(wanted::header(fillers, numbered_on), tally, || {
             let codestream = hex_of_front(codestream);
-            format!("{codestream}; table {table}, output {size}, carried on by {number}")
+            format!(
+                "{codestream}; table {table}, output {size}, read as {again:?}, {on:?}, {newer:?}"
+            )
         });
     };
-    let rows = |number| before.left_by(|lent, values| rows_by(number, codestream, lent, values));
+    let rows = |reading| before.left_by(|lent, values| rows_by(reading, codestream, lent, values));
     let of_records =
-        |number| before.left_by(|lent, values| records_by(number, codestream, lent, values));
-    let again = host::RESTARTING;
-    judge(
-        &mut run.tally,
-        rows(Some(again)),
-        told.clone(),
-        &restarting,
-        false,
-    );
-    judge(
-        &mut run.also[0],
-        of_records(again),
-        told,
-        &restarting,
-        false,
-    );
-    judge(
-        &mut run.also[1],
-        rows(None),
-        agreed.clone(),
-        &carried_on,
-        numbered_on,
-    );
-    judge(
-        &mut run.also[2],
-        rows(Some(number)),
-        agreed.clone(),
-        &carried_on,
-        numbered_on,
-    );
-    judge(
-        &mut run.also[3],
-        of_records(number),
-        agreed,
-        &carried_on,
-        numbered_on,
-    );
+        |reading| before.left_by(|lent, values| records_by(reading, codestream, lent, values));
+    judge(&mut run.tally, rows(Some(again)), told.clone(), &restarting);
+    let [records_again, default, rows_on, records_on, rows_newer, records_newer] =
+        &mut run.also[..]
+    else {
+        panic!("a tally for each");
+    };
+    judge(records_again, of_records(again), told, &restarting);
+    judge(default, rows(None), agreed.clone(), &carried_on);
+    judge(rows_on, rows(Some(on)), agreed.clone(), &carried_on);
+    judge(records_on, of_records(on), agreed, &carried_on);
+    judge(rows_newer, rows(Some(newer)), told_newer.clone(), &in_newer);
+    judge(records_newer, of_records(newer), told_newer, &in_newer);
 }
 
 /// 0, or a number that means nothing, and so the same.
-fn carried_on_number(random: &mut Random) -> u32 {
+fn unsaid(random: &mut Random, default: u32) -> u32 {
     match random.below(4) {
         0 => random.pick(&[2, 256, 1 << 31, u32::MAX]),
-        _ => host::CARRIED_ON,
+        _ => default,
     }
 }
 
 /// Each pair of one short, exact and one more, and nothing lent at all.
 fn every_room(run: &mut Run, codestream: &[u8]) {
-    let (entries, size) = needed(codestream, Numbering::Restarting);
+    let (entries, size) = needed(codestream, Reading::ORIGINAL);
     check_with(run, codestream, 0, 0);
     for entries in [entries.saturating_sub(1), entries, entries + 1] {
         for size in [size - 1, size, size + 1] {
@@ -268,7 +264,24 @@ fn numbers_by_hand(run: &mut Run) {
     }
 }
 
+/// And with SIZ, CAP and SOT in each of their bytes another.
+fn caps_by_hand(run: &mut Run) {
+    for (codestream, _) in caps::by_hand() {
+        every_room(run, &codestream);
+        for place in 4..codestream.len().min(24) {
+            for byte in TELLING {
+                let mut changed = codestream.clone();
+                changed[place] = byte;
+                check(run, &changed);
+            }
+        }
+    }
+}
+
 fn random(run: &mut Run) {
+    let built = caps::few(&mut run.random);
+    check(run, &built);
+    run.damaged(2, &built, check);
     let built = numbers::few(&mut run.random);
     check(run, &built);
     run.damaged(2, &built, check);
@@ -294,7 +307,7 @@ mod tests {
 
     /// On the headers whose fillers are counted by hand.
     fn holds(original: Original) -> bool {
-        holds_on::<4, _>(original, |run| {
+        holds_on::<6, _>(original, |run| {
             for (codestream, _) in fillers::counted() {
                 check_with(run, &codestream, 1, codestream.len());
             }
@@ -350,7 +363,7 @@ mod tests {
 
     /// On the headers whose indices are known by hand.
     fn holds_numbered(original: Original) -> bool {
-        holds_on::<4, _>(original, |run| {
+        holds_on::<6, _>(original, |run| {
             for (codestream, _) in numbers::by_hand() {
                 check_with(run, &codestream, 9, codestream.len());
             }

@@ -9,7 +9,7 @@ use original::markers;
 use super::entries;
 use crate::model::header::{fillers, Header};
 
-pub use cases::{CARRIED_ON, KIND, RECORDS, RECORDS_CARRIED_ON};
+pub use cases::{CARRIED_ON, KIND, NEWER, RECORDS, RECORDS_CARRIED_ON, RECORDS_NEWER};
 pub use compare::COMPARISON;
 pub use rows::BENCHMARK;
 

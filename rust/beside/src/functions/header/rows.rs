@@ -1,17 +1,19 @@
 //! The benchmark: headers of one and many TLM segments, the entries into rows of bytes or into
 //! records, and of few and many fillers, which the original passes too and does not count. Entries are
-//! numbered as the original does, from 0 in each segment, or on over the segments. The table and the
-//! output that ours is lent are not cleared between calls; the original allocates its own.
+//! numbered as the original does, from 0 in each segment, or on over the segments. In the newer edition
+//! ours looks for CAP too, which the original passes over. The table and the output that ours is lent
+//! are not cleared between calls; the original allocates its own.
 
 use std::cell::RefCell;
 
 use probe::{host, TilePartEntry};
 
 use crate::bench::{row, Benchmark, ORIGINAL};
-use crate::model::header::{parse_main_header, Header, Numbering};
+use crate::model::header::{parse_main_header, Header, Reading};
 use crate::model::ROW;
+use crate::readings;
 use crate::sample::codestream::{Codestream, SOT};
-use crate::sample::{fillers, sample_a, tlms};
+use crate::sample::{caps, fillers, sample_a, tlms};
 use crate::wanted;
 
 pub const BENCHMARK: Benchmark = Benchmark {
@@ -33,7 +35,7 @@ impl Input {
             entries,
             decode_header,
             ..
-        } = parse_main_header(&codestream, Numbering::CarriedOn)
+        } = parse_main_header(&codestream, Reading::DEFAULT)
             .expect("a header to be timed is sound");
         Input {
             codestream,
@@ -46,24 +48,23 @@ impl Input {
 
 /// First SOT, the decode header's length, entries: the numbers that the original has too.
 fn ours(input: &Input) -> Option<[u64; 3]> {
-    by_numbering(input, host::RESTARTING)
+    by_reading(input, readings::ORIGINAL)
 }
 
 fn carried_on(input: &Input) -> Option<[u64; 3]> {
-    by_numbering(input, host::CARRIED_ON)
+    by_reading(input, readings::DEFAULT)
 }
 
-fn by_numbering(input: &Input, numbering: u32) -> Option<[u64; 3]> {
+fn newer(input: &Input) -> Option<[u64; 3]> {
+    by_reading(input, readings::IN_NEWER)
+}
+
+fn by_reading(input: &Input, reading: host::Reading) -> Option<[u64; 3]> {
     let mut values = [0; 4];
     let (mut table, mut out) = (input.table.borrow_mut(), input.out.borrow_mut());
     let codestream = &input.codestream;
-    let status = host::parse_main_header_by_numbering(
-        codestream,
-        numbering,
-        &mut table,
-        &mut out,
-        &mut values,
-    );
+    let status =
+        host::parse_main_header_by_reading(codestream, reading, &mut table, &mut out, &mut values);
     shared(status, values)
 }
 
@@ -71,13 +72,8 @@ fn recorded(input: &Input) -> Option<[u64; 3]> {
     let mut values = [0; 4];
     let (mut records, mut out) = (input.records.borrow_mut(), input.out.borrow_mut());
     let codestream = &input.codestream;
-    let status = probe::header_records(
-        codestream,
-        host::RESTARTING,
-        &mut records,
-        &mut out,
-        &mut values,
-    );
+    let reading = readings::ORIGINAL;
+    let status = probe::header_records(codestream, reading, &mut records, &mut out, &mut values);
     shared(status, values)
 }
 
@@ -120,6 +116,21 @@ fn rows() {
         "100 TLM of 10,000 indexed, carried on",
         tlms::many(100, 10_000, 0x60),
     );
+    for (name, segments) in [("10", 5), ("1,000", 500), ("100,000", 50_000)] {
+        let input = Input::of(caps::among(segments));
+        row(
+            &format!("CAP among {name} segments, older"),
+            &input,
+            ours,
+            theirs,
+        );
+        row(
+            &format!("CAP among {name} segments, newer"),
+            &input,
+            newer,
+            theirs,
+        );
+    }
 }
 
 fn both(name: &str, codestream: Vec<u8>) {

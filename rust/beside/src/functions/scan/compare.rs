@@ -8,7 +8,7 @@ use crate::compare::{self, Comparison};
 use crate::functions::records;
 use crate::judge::{Case, Leaves, Told};
 use crate::lent::{room, table, Lent};
-use crate::model::header::{parse_main_header, Numbering};
+use crate::model::header::{parse_main_header, Reading};
 use crate::model::parts::{needed, scan_sot_markers};
 use crate::model::{rows, Entry, Refusal, ACCEPTED};
 use crate::sample::codestream::EOC;
@@ -140,8 +140,7 @@ fn random(run: &mut Run) {
     let parts = parts::tile_parts(&mut run.random);
     around(run, &parts, 0);
     let whole = headers::codestream(&mut run.random);
-    let start =
-        parse_main_header(&whole, Numbering::Restarting).map_or(2, |header| header.first_sot);
+    let start = parse_main_header(&whole, Reading::ORIGINAL).map_or(2, |header| header.first_sot);
     around(run, &whole, start);
 }
 

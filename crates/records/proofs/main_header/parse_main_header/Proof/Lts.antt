@@ -7,8 +7,10 @@ use Rattle.header.proofs.parse.MainHeader
 use Rattle.header.proofs.parse.MainHeader.Laws as Laws'
 use Rattle.header.proofs.parse.MainHeaderInfo
 use Rattle.header.proofs.parse.MainHeaderInfo.Laws as Laws''
+use Rattle.header.proofs.reading.Reading
+use Rattle.header.proofs.reading.Reading.Laws as Laws'3
 use Rattle.types.proofs.CodestreamOffset
-use Rattle.types.proofs.CodestreamOffset.Laws as Laws'3
+use Rattle.types.proofs.CodestreamOffset.Laws as Laws'4
 use borrow.Author.Called
 use borrow.Author.Tests
 use borrow.Enum.Known
@@ -55,11 +57,12 @@ use borrow.Table.Rows
 use borrow.Table.Typed
 use contract.Lifetimes
 use denote.Enum.Declared
-use denote.Enum.Laws as Laws'4
+use denote.Enum.Laws as Laws'5
 use denote.Exit
+use denote.Laws as Laws'6
 use denote.Struct.At
 use denote.Struct.Declared as Declared'
-use denote.Struct.Laws as Laws'5
+use denote.Struct.Laws as Laws'7
 use denote.Triple.Clauses
 use denote.Triple.Statement
 use ghost.Atoms
@@ -76,23 +79,23 @@ use types.Run
 
 abbrev pub ps : List.List (Kinds.PK 3)
 ps = List._∷_ (ShrSlice.pShrS (Referent.rtF (Referent.fInt Syntax.w8)) 0 tt) (List._∷_ (Value.pVal record {
-  ty = Declared.row Numbering.the-type;
+  ty = Declared'.row Reading.the-type;
   one = Path'.refl;
-  val = Laws'4.val
-      Numbering.the-type Laws.the-laws;
-  tells = Laws'4.tells Numbering.the-type Laws.the-laws;
-  still = Laws'4.still Numbering.the-type Laws.the-copy Exit.yes;
+  val = Laws'7.val
+      Reading.the-type Laws'3.the-laws;
+  tells = Laws'7.tells Reading.the-type Laws'3.the-laws;
+  still = Laws'7.still Reading.the-type Laws'3.the-copy Exit.yes;
   row = Rows.whole
-      (Declared.row Numbering.the-type);
+      (Declared'.row Reading.the-type);
   rd = λ x. x;
   mk = λ x. x;
 } λ M 𝓤 H A W. record {
-  copies = Laws'4.copy Numbering.the-type Laws.the-copy 𝓤 H A W;
-  lawful = Laws'4.lawful
-      Numbering.the-type Laws.the-laws 𝓤 H A W tt;
-  makes = Laws'4.makes Numbering.the-type Laws.the-plain 𝓤 H A;
-  in-mem = Local.mem-whole 𝓤 H A W (Declared.row Numbering.the-type);
-  of-mem = Local.whole-mem 𝓤 H A W (Declared.row Numbering.the-type);
+  copies = Laws'7.copy Reading.the-type Laws'3.the-copy 𝓤 H A W;
+  lawful = Laws'7.lawful
+      Reading.the-type Laws'3.the-laws 𝓤 H A W;
+  makes = Laws'7.makes Reading.the-type Laws'3.the-plain 𝓤 H A;
+  in-mem = Local.mem-whole 𝓤 H A W (Declared'.row Reading.the-type);
+  of-mem = Local.whole-mem 𝓤 H A W (Declared'.row Reading.the-type);
 }) (List._∷_ (MutSlice.pMutS LentTilePartEntry.row 1 tt) (List._∷_ (MutSlice.pMutS (Referent.rtF
     (Referent.fInt Syntax.w8)) 2 tt) List.[])))
 
@@ -100,18 +103,18 @@ abbrev pub r : Kinds.RK 3
 r = Value.rVal record {
   ty = Declared.row MainHeader.the-type;
   one = Path'.refl;
-  val = Laws'4.val MainHeader.the-type Laws'.the-laws;
-  tells = Laws'4.tells MainHeader.the-type
+  val = Laws'5.val MainHeader.the-type Laws'.the-laws;
+  tells = Laws'5.tells MainHeader.the-type
       Laws'.the-laws;
-  still = Laws'4.still MainHeader.the-type Laws'.the-copy Exit.yes;
+  still = Laws'5.still MainHeader.the-type Laws'.the-copy Exit.yes;
   row = Rows.whole (Declared.row MainHeader.the-type);
   rd = λ x. x;
   mk = λ x. x;
 } λ M 𝓤 H A W.
     record {
-      copies = Laws'4.copy MainHeader.the-type Laws'.the-copy 𝓤 H A W;
-      lawful = Laws'4.lawful MainHeader.the-type Laws'.the-laws 𝓤 H A W tt;
-      makes = Laws'4.makes
+      copies = Laws'5.copy MainHeader.the-type Laws'.the-copy 𝓤 H A W;
+      lawful = Laws'5.lawful MainHeader.the-type Laws'.the-laws 𝓤 H A W tt;
+      makes = Laws'5.makes
           MainHeader.the-type Laws'.the-plain 𝓤 H A;
       in-mem = Local.mem-whole 𝓤 H A W (Declared.row MainHeader.the-type);
       of-mem = Local.whole-mem 𝓤 H A W (Declared.row
@@ -138,55 +141,58 @@ xs = List._∷_ (Syntax.tyEnum (List._∷_ 104 (List._∷_ 101 (List._∷_ 97 (L
     (Syntax.tcons (Syntax.tyInt Syntax.w64) (Syntax.tcons (Syntax.tyInt Syntax.w64) Syntax.tnil))))) (List._∷_ (Syntax.tyStruct (List._∷_ 116 (List._∷_ 121 (List._∷_ 112 (List._∷_
     101 (List._∷_ 115 (List._∷_ 58 (List._∷_ 58 (List._∷_ 67 (List._∷_ 111 (List._∷_ 100 (List._∷_ 101 (List._∷_ 115 (List._∷_ 116 (List._∷_ 114 (List._∷_ 101 (List._∷_ 97
     (List._∷_ 109 (List._∷_ 79 (List._∷_ 102 (List._∷_ 102 (List._∷_ 115 (List._∷_ 101 (List._∷_ 116 List.[]))))))))))))))))))))))) (Syntax.tcons (Syntax.tyInt Syntax.w64)
-    Syntax.tnil)) (List._∷_ (Syntax.tyInt Syntax.w64) (List._∷_ (Syntax.tyInt Syntax.w64) (List._∷_ (Syntax.tyInt Syntax.w64) (List._∷_ (Syntax.tyInt Syntax.w64) (List._∷_
-    Syntax.tyBool (List._∷_ (Syntax.tyInt Syntax.w64) (List._∷_ (Syntax.tyInt Syntax.w64) (List._∷_ (Syntax.tyRef Syntax.erased Syntax.mut (Syntax.tyInt Syntax.w8)) (List._∷_
-    (Syntax.tyStruct (List._∷_ 38 (List._∷_ 91 (List._∷_ 93 List.[]))) (Syntax.tcons (Syntax.tyRef Syntax.erased Syntax.mut (Syntax.tyInt Syntax.w8)) (Syntax.tcons (Syntax.tyInt
-    Syntax.w64) Syntax.tnil))) (List._∷_ Syntax.tyUnit (List._∷_ (Syntax.tyRef Syntax.erased Syntax.mut LentTilePartEntry.pointee) (List._∷_ (Syntax.tyStruct (List._∷_ 38 (List._∷_
-    91 (List._∷_ 93 List.[]))) (Syntax.tcons (Syntax.tyRef Syntax.erased Syntax.mut LentTilePartEntry.pointee) (Syntax.tcons (Syntax.tyInt Syntax.w64) Syntax.tnil))) (List._∷_
+    Syntax.tnil)) (List._∷_ (Syntax.tyEnum (List._∷_ 104 (List._∷_ 101 (List._∷_ 97 (List._∷_ 100 (List._∷_ 101 (List._∷_ 114 (List._∷_ 58 (List._∷_ 58 (List._∷_ 110 (List._∷_ 117
+    (List._∷_ 109 (List._∷_ 98 (List._∷_ 101 (List._∷_ 114 (List._∷_ 105 (List._∷_ 110 (List._∷_ 103 (List._∷_ 58 (List._∷_ 58 (List._∷_ 78 (List._∷_ 117 (List._∷_ 109 (List._∷_ 98
+    (List._∷_ 101 (List._∷_ 114 (List._∷_ 105 (List._∷_ 110 (List._∷_ 103 List.[])))))))))))))))))))))))))))) (Syntax.ttcons Syntax.tnil (Syntax.ttcons Syntax.tnil Syntax.ttnil)))
+    (List._∷_ (Syntax.tyInt Syntax.w64) (List._∷_ (Syntax.tyInt Syntax.w64) (List._∷_ (Syntax.tyInt Syntax.w64) (List._∷_ (Syntax.tyInt Syntax.w64) (List._∷_ Syntax.tyBool
+    (List._∷_ (Syntax.tyInt Syntax.w64) (List._∷_ (Syntax.tyInt Syntax.w64) (List._∷_ (Syntax.tyRef Syntax.erased Syntax.mut (Syntax.tyInt Syntax.w8)) (List._∷_ (Syntax.tyStruct
+    (List._∷_ 38 (List._∷_ 91 (List._∷_ 93 List.[]))) (Syntax.tcons (Syntax.tyRef Syntax.erased Syntax.mut (Syntax.tyInt Syntax.w8)) (Syntax.tcons (Syntax.tyInt Syntax.w64)
+    Syntax.tnil))) (List._∷_ Syntax.tyUnit (List._∷_ (Syntax.tyRef Syntax.erased Syntax.mut LentTilePartEntry.pointee) (List._∷_ (Syntax.tyStruct (List._∷_ 38 (List._∷_ 91
+    (List._∷_ 93 List.[]))) (Syntax.tcons (Syntax.tyRef Syntax.erased Syntax.mut LentTilePartEntry.pointee) (Syntax.tcons (Syntax.tyInt Syntax.w64) Syntax.tnil))) (List._∷_
     (Syntax.tyRef Syntax.erased Syntax.mut (Syntax.tyInt Syntax.w8)) (List._∷_ (Syntax.tyStruct (List._∷_ 38 (List._∷_ 91 (List._∷_ 93 List.[]))) (Syntax.tcons (Syntax.tyRef
-    Syntax.erased Syntax.mut (Syntax.tyInt Syntax.w8)) (Syntax.tcons (Syntax.tyInt Syntax.w64) Syntax.tnil))) List.[]))))))))))))))))
+    Syntax.erased Syntax.mut (Syntax.tyInt Syntax.w8)) (Syntax.tcons (Syntax.tyInt Syntax.w64) Syntax.tnil))) List.[])))))))))))))))))
 
 abbrev pub m : Nat.ℕ
 m = 3
 
 abbrev pub ps·0 : List.List (Kinds.PK 1)
 ps·0 = List._∷_ (ShrSlice.pShrS (Referent.rtF (Referent.fInt Syntax.w8)) 0 tt) (List._∷_ (Value.pVal record {
-  ty = Declared.row Numbering.the-type;
+  ty = Declared'.row Reading.the-type;
   one = Path'.refl;
   val =
-      Laws'4.val Numbering.the-type Laws.the-laws;
-  tells = Laws'4.tells Numbering.the-type Laws.the-laws;
-  still = Laws'4.still Numbering.the-type Laws.the-copy Exit.yes;
+      Laws'7.val Reading.the-type Laws'3.the-laws;
+  tells = Laws'7.tells Reading.the-type Laws'3.the-laws;
+  still = Laws'7.still Reading.the-type Laws'3.the-copy Exit.yes;
   row =
-      Rows.whole (Declared.row Numbering.the-type);
+      Rows.whole (Declared'.row Reading.the-type);
   rd = λ x. x;
   mk = λ x. x;
 } λ M 𝓤 H A W. record {
-  copies = Laws'4.copy Numbering.the-type Laws.the-copy 𝓤 H A W;
+  copies = Laws'7.copy Reading.the-type Laws'3.the-copy 𝓤 H A W;
   lawful =
-      Laws'4.lawful Numbering.the-type Laws.the-laws 𝓤 H A W tt;
-  makes = Laws'4.makes Numbering.the-type Laws.the-plain 𝓤 H A;
-  in-mem = Local.mem-whole 𝓤 H A W (Declared.row
-      Numbering.the-type);
-  of-mem = Local.whole-mem 𝓤 H A W (Declared.row Numbering.the-type);
+      Laws'7.lawful Reading.the-type Laws'3.the-laws 𝓤 H A W;
+  makes = Laws'7.makes Reading.the-type Laws'3.the-plain 𝓤 H A;
+  in-mem = Local.mem-whole 𝓤 H A W (Declared'.row
+      Reading.the-type);
+  of-mem = Local.whole-mem 𝓤 H A W (Declared'.row Reading.the-type);
 }) (List._∷_ (Num.pNum Syntax.w64) (List._∷_ (Num.pNum Syntax.w64) List.[])))
 
 abbrev pub r·0 : Kinds.RK 1
 r·0 = Value.rVal record {
   ty = Declared.row MainHeader.the-type;
   one = Path'.refl;
-  val = Laws'4.val MainHeader.the-type Laws'.the-laws;
-  tells = Laws'4.tells MainHeader.the-type
+  val = Laws'5.val MainHeader.the-type Laws'.the-laws;
+  tells = Laws'5.tells MainHeader.the-type
       Laws'.the-laws;
-  still = Laws'4.still MainHeader.the-type Laws'.the-copy Exit.yes;
+  still = Laws'5.still MainHeader.the-type Laws'.the-copy Exit.yes;
   row = Rows.whole (Declared.row MainHeader.the-type);
   rd = λ x. x;
   mk = λ x. x;
 } λ M 𝓤 H A W.
     record {
-      copies = Laws'4.copy MainHeader.the-type Laws'.the-copy 𝓤 H A W;
-      lawful = Laws'4.lawful MainHeader.the-type Laws'.the-laws 𝓤 H A W tt;
-      makes = Laws'4.makes
+      copies = Laws'5.copy MainHeader.the-type Laws'.the-copy 𝓤 H A W;
+      lawful = Laws'5.lawful MainHeader.the-type Laws'.the-laws 𝓤 H A W tt;
+      makes = Laws'5.makes
           MainHeader.the-type Laws'.the-plain 𝓤 H A;
       in-mem = Local.mem-whole 𝓤 H A W (Declared.row MainHeader.the-type);
       of-mem = Local.whole-mem 𝓤 H A W (Declared.row
@@ -197,19 +203,19 @@ abbrev pub ps·1 : List.List (Kinds.PK 0)
 ps·1 = List._∷_ (Value.pVal record {
   ty = Declared'.row CodestreamOffset.the-type;
   one = Path'.refl;
-  val = Laws'5.val CodestreamOffset.the-type Laws'3.the-laws;
+  val = Laws'7.val CodestreamOffset.the-type Laws'4.the-laws;
   tells =
-      Laws'5.tells CodestreamOffset.the-type Laws'3.the-laws;
-  still = Laws'5.still CodestreamOffset.the-type Laws'3.the-copy Exit.yes;
+      Laws'7.tells CodestreamOffset.the-type Laws'4.the-laws;
+  still = Laws'7.still CodestreamOffset.the-type Laws'4.the-copy Exit.yes;
   row = Rows.whole (Declared'.row
       CodestreamOffset.the-type);
   rd = λ x. x;
   mk = λ x. x;
 } λ M 𝓤 H A W. record {
-  copies = Laws'5.copy CodestreamOffset.the-type Laws'3.the-copy 𝓤 H A W;
-  lawful = Laws'5.lawful
-      CodestreamOffset.the-type Laws'3.the-laws 𝓤 H A W;
-  makes = Laws'5.makes CodestreamOffset.the-type Laws'3.the-plain 𝓤 H A;
+  copies = Laws'7.copy CodestreamOffset.the-type Laws'4.the-copy 𝓤 H A W;
+  lawful = Laws'7.lawful
+      CodestreamOffset.the-type Laws'4.the-laws 𝓤 H A W;
+  makes = Laws'7.makes CodestreamOffset.the-type Laws'4.the-plain 𝓤 H A;
   in-mem = Local.mem-whole 𝓤 H A W (Declared'.row
       CodestreamOffset.the-type);
   of-mem = Local.whole-mem 𝓤 H A W (Declared'.row CodestreamOffset.the-type);
@@ -230,18 +236,18 @@ ps·3 = List._∷_ (ShrSlice.pShrS (Referent.rtF (Referent.fInt Syntax.w8)) 0 tt
   ty = Declared.row Numbering.the-type;
   one = Path'.refl;
   val =
-      Laws'4.val Numbering.the-type Laws.the-laws;
-  tells = Laws'4.tells Numbering.the-type Laws.the-laws;
-  still = Laws'4.still Numbering.the-type Laws.the-copy Exit.yes;
+      Laws'5.val Numbering.the-type Laws.the-laws;
+  tells = Laws'5.tells Numbering.the-type Laws.the-laws;
+  still = Laws'5.still Numbering.the-type Laws.the-copy Exit.yes;
   row =
       Rows.whole (Declared.row Numbering.the-type);
   rd = λ x. x;
   mk = λ x. x;
 } λ M 𝓤 H A W. record {
-  copies = Laws'4.copy Numbering.the-type Laws.the-copy 𝓤 H A W;
+  copies = Laws'5.copy Numbering.the-type Laws.the-copy 𝓤 H A W;
   lawful =
-      Laws'4.lawful Numbering.the-type Laws.the-laws 𝓤 H A W tt;
-  makes = Laws'4.makes Numbering.the-type Laws.the-plain 𝓤 H A;
+      Laws'5.lawful Numbering.the-type Laws.the-laws 𝓤 H A W tt;
+  makes = Laws'5.makes Numbering.the-type Laws.the-plain 𝓤 H A;
   in-mem = Local.mem-whole 𝓤 H A W (Declared.row
       Numbering.the-type);
   of-mem = Local.whole-mem 𝓤 H A W (Declared.row Numbering.the-type);
@@ -249,19 +255,19 @@ ps·3 = List._∷_ (ShrSlice.pShrS (Referent.rtF (Referent.fInt Syntax.w8)) 0 tt
   ty = Declared'.row CodestreamOffset.the-type;
   one =
       Path'.refl;
-  val = Laws'5.val CodestreamOffset.the-type Laws'3.the-laws;
-  tells = Laws'5.tells CodestreamOffset.the-type Laws'3.the-laws;
-  still = Laws'5.still
-      CodestreamOffset.the-type Laws'3.the-copy Exit.yes;
+  val = Laws'7.val CodestreamOffset.the-type Laws'4.the-laws;
+  tells = Laws'7.tells CodestreamOffset.the-type Laws'4.the-laws;
+  still = Laws'7.still
+      CodestreamOffset.the-type Laws'4.the-copy Exit.yes;
   row = Rows.whole (Declared'.row CodestreamOffset.the-type);
   rd = λ x. x;
   mk = λ x. x;
 } λ M 𝓤 H A W. record {
   copies =
-      Laws'5.copy CodestreamOffset.the-type Laws'3.the-copy 𝓤 H A W;
-  lawful = Laws'5.lawful CodestreamOffset.the-type Laws'3.the-laws 𝓤 H A W;
-  makes = Laws'5.makes
-      CodestreamOffset.the-type Laws'3.the-plain 𝓤 H A;
+      Laws'7.copy CodestreamOffset.the-type Laws'4.the-copy 𝓤 H A W;
+  lawful = Laws'7.lawful CodestreamOffset.the-type Laws'4.the-laws 𝓤 H A W;
+  makes = Laws'7.makes
+      CodestreamOffset.the-type Laws'4.the-plain 𝓤 H A;
   in-mem = Local.mem-whole 𝓤 H A W (Declared'.row CodestreamOffset.the-type);
   of-mem = Local.whole-mem 𝓤 H A W (Declared'.row
       CodestreamOffset.the-type);
@@ -280,23 +286,23 @@ abbrev pub hs : List.List Syntax.Home
 hs = List._∷_ Syntax.valueLocal (List._∷_ Syntax.valueLocal (List._∷_ Syntax.valueLocal (List._∷_ Syntax.valueLocal (List._∷_ Syntax.valueLocal (List._∷_ Syntax.valueLocal
     (List._∷_ Syntax.valueLocal (List._∷_ Syntax.valueLocal (List._∷_ Syntax.valueLocal (List._∷_ Syntax.valueLocal (List._∷_ Syntax.valueLocal (List._∷_ Syntax.valueLocal
     (List._∷_ Syntax.valueLocal (List._∷_ Syntax.valueLocal (List._∷_ Syntax.valueLocal (List._∷_ Syntax.valueLocal (List._∷_ Syntax.valueLocal (List._∷_ Syntax.valueLocal
-    (List._∷_ Syntax.valueLocal (List._∷_ Syntax.valueLocal (List._∷_ Syntax.valueLocal (List._∷_ Syntax.valueLocal List.[])))))))))))))))))))))
+    (List._∷_ Syntax.valueLocal (List._∷_ Syntax.valueLocal (List._∷_ Syntax.valueLocal (List._∷_ Syntax.valueLocal (List._∷_ Syntax.valueLocal List.[]))))))))))))))))))))))
 
 abbrev b0 : Syntax.Body
-b0 = Syntax.assign (Syntax.place 8 List.[]) (Syntax.rvOpd (Syntax.copy (Syntax.place 3 (List._∷_ (Syntax.field 1) List.[]))))
+b0 = Syntax.assign (Syntax.place 9 List.[]) (Syntax.rvOpd (Syntax.copy (Syntax.place 3 (List._∷_ (Syntax.field 1) List.[]))))
 
 abbrev b1 : Syntax.Body
-b1 = Syntax.assign (Syntax.place 9 List.[]) (Syntax.rvOpd (Syntax.copy (Syntax.place 8 List.[])))
+b1 = Syntax.assign (Syntax.place 10 List.[]) (Syntax.rvOpd (Syntax.copy (Syntax.place 9 List.[])))
 
 abbrev b2 : Syntax.Body
-b2 = Syntax.assign (Syntax.place 10 List.[]) (Syntax.rvOpd (Syntax.copy (Syntax.place 4 (List._∷_ (Syntax.field 1) List.[]))))
+b2 = Syntax.assign (Syntax.place 11 List.[]) (Syntax.rvOpd (Syntax.copy (Syntax.place 4 (List._∷_ (Syntax.field 1) List.[]))))
 
 abbrev b3 : Syntax.Body
-b3 = Syntax.assign (Syntax.place 11 List.[]) (Syntax.rvOpd (Syntax.copy (Syntax.place 10 List.[])))
+b3 = Syntax.assign (Syntax.place 12 List.[]) (Syntax.rvOpd (Syntax.copy (Syntax.place 11 List.[])))
 
 abbrev b4 : Syntax.Body
-b4 = Syntax.call "header::parse::decide" (List._∷_ (Syntax.copy (Syntax.place 1 List.[])) (List._∷_ (Syntax.copy (Syntax.place 2 List.[])) (List._∷_ (Syntax.copy (Syntax.place 9
-    List.[])) (List._∷_ (Syntax.copy (Syntax.place 11 List.[])) List.[])))) (Syntax.place 5 List.[])
+b4 = Syntax.call "header::parse::decide" (List._∷_ (Syntax.copy (Syntax.place 1 List.[])) (List._∷_ (Syntax.copy (Syntax.place 2 List.[])) (List._∷_ (Syntax.copy (Syntax.place 10
+    List.[])) (List._∷_ (Syntax.copy (Syntax.place 12 List.[])) List.[])))) (Syntax.place 5 List.[])
 
 abbrev b5 : Syntax.Body
 b5 = Syntax.assign (Syntax.place 6 List.[]) (Syntax.rvOpd (Syntax.copy (Syntax.place 5 (List._∷_ (Syntax.variant 0) (List._∷_ (Syntax.field 1) List.[])))))
@@ -318,22 +324,22 @@ abbrev b10 : Syntax.Body
 b10 = Syntax.assign (Syntax.place 7 List.[]) (Syntax.rvOpd (Syntax.copy (Syntax.place 6 (List._∷_ (Syntax.field 0) List.[]))))
 
 abbrev b11 : Syntax.Body
-b11 = Syntax.assign (Syntax.place 12 List.[]) (Syntax.op2 Syntax.eq (Syntax.copy (Syntax.place 6 (List._∷_ (Syntax.field 1) List.[]))) (Syntax.copy (Syntax.place 7 (List._∷_
+b11 = Syntax.assign (Syntax.place 13 List.[]) (Syntax.op2 Syntax.eq (Syntax.copy (Syntax.place 6 (List._∷_ (Syntax.field 1) List.[]))) (Syntax.copy (Syntax.place 7 (List._∷_
     (Syntax.field 0) List.[]))))
 
 abbrev b12 : Syntax.Body
-b12 = Syntax.call "types::CodestreamOffset::position" (List._∷_ (Syntax.copy (Syntax.place 7 List.[])) List.[]) (Syntax.place 14 List.[])
+b12 = Syntax.call "types::CodestreamOffset::position" (List._∷_ (Syntax.copy (Syntax.place 7 List.[])) List.[]) (Syntax.place 15 List.[])
 
 abbrev b13 : Syntax.Body
-b13 = Syntax.assign (Syntax.place 15 List.[]) (Syntax.addrOf (Syntax.place 4 (List._∷_ (Syntax.field 0) (List._∷_ (Syntax.deref (Syntax.tyInt Syntax.w8)) List.[]))))
+b13 = Syntax.assign (Syntax.place 16 List.[]) (Syntax.addrOf (Syntax.place 4 (List._∷_ (Syntax.field 0) (List._∷_ (Syntax.deref (Syntax.tyInt Syntax.w8)) List.[]))))
 
 abbrev b14 : Syntax.Body
-b14 = Syntax.assign (Syntax.place 16 List.[]) (Syntax.aggregate (List._∷_ (Syntax.copy (Syntax.place 15 List.[])) (List._∷_ (Syntax.copy (Syntax.place 4 (List._∷_ (Syntax.field 1)
+b14 = Syntax.assign (Syntax.place 17 List.[]) (Syntax.aggregate (List._∷_ (Syntax.copy (Syntax.place 16 List.[])) (List._∷_ (Syntax.copy (Syntax.place 4 (List._∷_ (Syntax.field 1)
     List.[]))) List.[])))
 
 abbrev b15 : Syntax.Body
-b15 = Syntax.call "header::strip::append" (List._∷_ (Syntax.copy (Syntax.place 1 List.[])) (List._∷_ (Syntax.int Syntax.w64 0) (List._∷_ (Syntax.copy (Syntax.place 14 List.[]))
-    (List._∷_ (Syntax.copy (Syntax.place 16 List.[])) (List._∷_ (Syntax.int Syntax.w64 0) List.[]))))) (Syntax.place 13 List.[])
+b15 = Syntax.call "header::strip::append" (List._∷_ (Syntax.copy (Syntax.place 1 List.[])) (List._∷_ (Syntax.int Syntax.w64 0) (List._∷_ (Syntax.copy (Syntax.place 15 List.[]))
+    (List._∷_ (Syntax.copy (Syntax.place 17 List.[])) (List._∷_ (Syntax.int Syntax.w64 0) List.[]))))) (Syntax.place 14 List.[])
 
 abbrev b16 : Syntax.Body
 b16 = Syntax.assign (Syntax.place 0 List.[]) (Syntax.rvOpd (Syntax.copy (Syntax.place 5 List.[])))
@@ -360,85 +366,91 @@ abbrev b23 : Syntax.Body
 b23 = Syntax.skip
 
 abbrev b24 : Syntax.Body
-b24 = Syntax.cond (Syntax.copy (Syntax.place 12 List.[])) b22 b23
+b24 = Syntax.cond (Syntax.copy (Syntax.place 13 List.[])) b22 b23
 
 abbrev b25 : Syntax.Body
-b25 = Syntax.assign (Syntax.place 18 List.[]) (Syntax.addrOf (Syntax.place 3 (List._∷_ (Syntax.field 0) (List._∷_ (Syntax.deref LentTilePartEntry.spelled) List.[]))))
+b25 = Syntax.assign (Syntax.place 8 List.[]) (Syntax.rvOpd (Syntax.copy (Syntax.place 2 (List._∷_ (Syntax.field 0) List.[]))))
 
 abbrev b26 : Syntax.Body
-b26 = Syntax.assign (Syntax.place 19 List.[]) (Syntax.aggregate (List._∷_ (Syntax.copy (Syntax.place 18 List.[])) (List._∷_ (Syntax.copy (Syntax.place 3 (List._∷_ (Syntax.field 1)
-    List.[]))) List.[])))
+b26 = Syntax.assign (Syntax.place 19 List.[]) (Syntax.addrOf (Syntax.place 3 (List._∷_ (Syntax.field 0) (List._∷_ (Syntax.deref LentTilePartEntry.spelled) List.[]))))
 
 abbrev b27 : Syntax.Body
-b27 = Syntax.call "records::main_header::fill_table" (List._∷_ (Syntax.copy (Syntax.place 1 List.[])) (List._∷_ (Syntax.copy (Syntax.place 2 List.[])) (List._∷_ (Syntax.copy
-    (Syntax.place 7 List.[])) (List._∷_ (Syntax.copy (Syntax.place 19 List.[])) List.[])))) (Syntax.place 17 List.[])
-
-abbrev b28 : Syntax.Body
-b28 = Syntax.assign (Syntax.place 20 List.[]) (Syntax.addrOf (Syntax.place 4 (List._∷_ (Syntax.field 0) (List._∷_ (Syntax.deref (Syntax.tyInt Syntax.w8)) List.[]))))
-
-abbrev b29 : Syntax.Body
-b29 = Syntax.assign (Syntax.place 21 List.[]) (Syntax.aggregate (List._∷_ (Syntax.copy (Syntax.place 20 List.[])) (List._∷_ (Syntax.copy (Syntax.place 4 (List._∷_ (Syntax.field 1)
+b27 = Syntax.assign (Syntax.place 20 List.[]) (Syntax.aggregate (List._∷_ (Syntax.copy (Syntax.place 19 List.[])) (List._∷_ (Syntax.copy (Syntax.place 3 (List._∷_ (Syntax.field 1)
     List.[]))) List.[])))
 
+abbrev b28 : Syntax.Body
+b28 = Syntax.call "records::main_header::fill_table" (List._∷_ (Syntax.copy (Syntax.place 1 List.[])) (List._∷_ (Syntax.copy (Syntax.place 8 List.[])) (List._∷_ (Syntax.copy
+    (Syntax.place 7 List.[])) (List._∷_ (Syntax.copy (Syntax.place 20 List.[])) List.[])))) (Syntax.place 18 List.[])
+
+abbrev b29 : Syntax.Body
+b29 = Syntax.assign (Syntax.place 21 List.[]) (Syntax.addrOf (Syntax.place 4 (List._∷_ (Syntax.field 0) (List._∷_ (Syntax.deref (Syntax.tyInt Syntax.w8)) List.[]))))
+
 abbrev b30 : Syntax.Body
-b30 = Syntax.call "header::strip::strip" (List._∷_ (Syntax.copy (Syntax.place 1 List.[])) (List._∷_ (Syntax.copy (Syntax.place 21 List.[])) List.[])) (Syntax.place 17 List.[])
+b30 = Syntax.assign (Syntax.place 22 List.[]) (Syntax.aggregate (List._∷_ (Syntax.copy (Syntax.place 21 List.[])) (List._∷_ (Syntax.copy (Syntax.place 4 (List._∷_ (Syntax.field 1)
+    List.[]))) List.[])))
 
 abbrev b31 : Syntax.Body
-b31 = Syntax.assign (Syntax.place 0 List.[]) (Syntax.rvOpd (Syntax.copy (Syntax.place 5 List.[])))
+b31 = Syntax.call "header::strip::strip" (List._∷_ (Syntax.copy (Syntax.place 1 List.[])) (List._∷_ (Syntax.copy (Syntax.place 22 List.[])) List.[])) (Syntax.place 18 List.[])
 
 abbrev b32 : Syntax.Body
-b32 = Syntax.return
+b32 = Syntax.assign (Syntax.place 0 List.[]) (Syntax.rvOpd (Syntax.copy (Syntax.place 5 List.[])))
 
 abbrev b33 : Syntax.Body
-b33 = Syntax.seq b31 b32
+b33 = Syntax.return
 
 abbrev b34 : Syntax.Body
-b34 = Syntax.seq b30 b33
+b34 = Syntax.seq b32 b33
 
 abbrev b35 : Syntax.Body
-b35 = Syntax.seq b29 b34
+b35 = Syntax.seq b31 b34
 
 abbrev b36 : Syntax.Body
-b36 = Syntax.seq b28 b35
+b36 = Syntax.seq b30 b35
 
 abbrev b37 : Syntax.Body
-b37 = Syntax.seq b27 b36
+b37 = Syntax.seq b29 b36
 
 abbrev b38 : Syntax.Body
-b38 = Syntax.seq b26 b37
+b38 = Syntax.seq b28 b37
 
 abbrev b39 : Syntax.Body
-b39 = Syntax.seq b25 b38
+b39 = Syntax.seq b27 b38
 
 abbrev b40 : Syntax.Body
-b40 = Syntax.seq b24 b39
+b40 = Syntax.seq b26 b39
 
 abbrev b41 : Syntax.Body
-b41 = Syntax.seq b11 b40
+b41 = Syntax.seq b25 b40
 
 abbrev b42 : Syntax.Body
-b42 = Syntax.seq b10 b41
+b42 = Syntax.seq b24 b41
 
 abbrev b43 : Syntax.Body
-b43 = Syntax.seq b9 b42
+b43 = Syntax.seq b11 b42
 
 abbrev b44 : Syntax.Body
-b44 = Syntax.seq b4 b43
+b44 = Syntax.seq b10 b43
 
 abbrev b45 : Syntax.Body
-b45 = Syntax.seq b3 b44
+b45 = Syntax.seq b9 b44
 
 abbrev b46 : Syntax.Body
-b46 = Syntax.seq b2 b45
+b46 = Syntax.seq b4 b45
 
 abbrev b47 : Syntax.Body
-b47 = Syntax.seq b1 b46
+b47 = Syntax.seq b3 b46
 
 abbrev b48 : Syntax.Body
-b48 = Syntax.seq b0 b47
+b48 = Syntax.seq b2 b47
+
+abbrev b49 : Syntax.Body
+b49 = Syntax.seq b1 b48
+
+abbrev b50 : Syntax.Body
+b50 = Syntax.seq b0 b49
 
 abbrev pub body : Syntax.Body
-body = b48
+body = b50
 
 abbrev pub Claims : Type 1
 Claims = Kinds.In 1 ps·0 × Kinds.Out 1 ps·0 r·0 × Kinds.In 0 ps·1 × Kinds.Out 0 ps·1 r·1 × Kinds.In 2 ps·2 × Kinds.Out 2 ps·2 r·2 × Kinds.In 2 ps·3 × Kinds.Out 2 ps·3 r·3 ×
@@ -462,7 +474,7 @@ t0 = List._∷_ (
   1,
   Rows.sslice
       (Referent.rtF (Referent.fInt Syntax.w8)) (Syntax.tyRef (Syntax.named 0) Syntax.imm (Syntax.tyInt Syntax.w8)) 0,
-) (List._∷_ (2, Rows.whole (Declared.row Numbering.the-type))
+) (List._∷_ (2, Rows.whole (Declared'.row Reading.the-type))
     (List._∷_ (3, Mut.mslice LentTilePartEntry.row (Syntax.tyRef (Syntax.named 1) Syntax.mut LentTilePartEntry.pointee) 1) (List._∷_ (
       4,
       Mut.mslice (Referent.rtF (Referent.fInt
@@ -497,38 +509,38 @@ t0 = List._∷_ (
           (List._∷_ 102 (List._∷_ 102 (List._∷_ 115 (List._∷_ 101 (List._∷_ 116 List.[]))))))))))))))))))))))) (Syntax.tcons (Syntax.tyInt Syntax.w64) Syntax.tnil)),
     ) (List._∷_ (
       8,
+      Rows.any-gone (Syntax.tyEnum (List._∷_ 104 (List._∷_ 101 (List._∷_ 97 (List._∷_ 100 (List._∷_ 101 (List._∷_ 114 (List._∷_ 58 (List._∷_ 58 (List._∷_ 110 (List._∷_ 117 (List._∷_
+          109 (List._∷_ 98 (List._∷_ 101 (List._∷_ 114 (List._∷_ 105 (List._∷_ 110 (List._∷_ 103 (List._∷_ 58 (List._∷_ 58 (List._∷_ 78 (List._∷_ 117 (List._∷_ 109 (List._∷_ 98 (List._∷_
+          101 (List._∷_ 114 (List._∷_ 105 (List._∷_ 110 (List._∷_ 103 List.[])))))))))))))))))))))))))))) (Syntax.ttcons Syntax.tnil (Syntax.ttcons Syntax.tnil Syntax.ttnil))),
+    ) (List._∷_
+    (9, Rows.any-gone (Syntax.tyInt Syntax.w64)) (List._∷_ (10, Rows.any-gone (Syntax.tyInt Syntax.w64)) (List._∷_ (11, Rows.any-gone (Syntax.tyInt Syntax.w64)) (List._∷_ (
+      12,
       Rows.any-gone (Syntax.tyInt Syntax.w64),
-    ) (List._∷_ (9, Rows.any-gone (Syntax.tyInt Syntax.w64)) (List._∷_ (10, Rows.any-gone (Syntax.tyInt Syntax.w64)) (List._∷_ (
-      11,
-      Rows.any-gone (Syntax.tyInt Syntax.w64),
-    ) (List._∷_ (12, Rows.any-gone Syntax.tyBool) (List._∷_ (13, Rows.any-gone (Syntax.tyInt Syntax.w64)) (List._∷_ (
-      14,
+    ) (List._∷_ (13, Rows.any-gone Syntax.tyBool) (List._∷_ (14, Rows.any-gone (Syntax.tyInt Syntax.w64)) (List._∷_ (
+      15,
       Rows.any-gone
           (Syntax.tyInt Syntax.w64),
-    ) (List._∷_ (15, Rows.any-gone (Syntax.tyRef Syntax.erased Syntax.mut (Syntax.tyInt Syntax.w8))) List.[])))))))))))))))
+    ) List.[])))))))))))))))
 
 abbrev pub t1 : List.List Row.Entry
-t1 = List._∷_ (
-  16,
-  Rows.any-gone (Syntax.tyStruct (List._∷_ 38 (List._∷_ 91 (List._∷_ 93 List.[]))) (Syntax.tcons (Syntax.tyRef Syntax.erased Syntax.mut (Syntax.tyInt Syntax.w8))
-      (Syntax.tcons (Syntax.tyInt Syntax.w64) Syntax.tnil))),
-) (List._∷_ (17, Rows.any-gone Syntax.tyUnit) (List._∷_ (
+t1 = List._∷_ (16, Rows.any-gone (Syntax.tyRef Syntax.erased Syntax.mut (Syntax.tyInt Syntax.w8))) (List._∷_ (
+  17,
+  Rows.any-gone (Syntax.tyStruct (List._∷_ 38 (List._∷_ 91 (List._∷_
+      93 List.[]))) (Syntax.tcons (Syntax.tyRef Syntax.erased Syntax.mut (Syntax.tyInt Syntax.w8)) (Syntax.tcons (Syntax.tyInt Syntax.w64) Syntax.tnil))),
+) (List._∷_ (
   18,
-  Rows.any-gone (Syntax.tyRef Syntax.erased Syntax.mut
-      LentTilePartEntry.pointee),
-) (List._∷_ (
-  19,
-  Rows.any-gone (Syntax.tyStruct (List._∷_ 38 (List._∷_ 91 (List._∷_ 93 List.[]))) (Syntax.tcons (Syntax.tyRef Syntax.erased Syntax.mut
-      LentTilePartEntry.pointee) (Syntax.tcons (Syntax.tyInt Syntax.w64) Syntax.tnil))),
-) (List._∷_ (
+  Rows.any-gone Syntax.tyUnit,
+) (List._∷_ (19, Rows.any-gone (Syntax.tyRef Syntax.erased Syntax.mut LentTilePartEntry.pointee)) (List._∷_ (
   20,
-  Rows.any-gone (Syntax.tyRef Syntax.erased Syntax.mut (Syntax.tyInt
-      Syntax.w8)),
-) (List._∷_ (
-  21,
-  Rows.any-gone (Syntax.tyStruct (List._∷_ 38 (List._∷_ 91 (List._∷_ 93 List.[]))) (Syntax.tcons (Syntax.tyRef Syntax.erased Syntax.mut (Syntax.tyInt
-      Syntax.w8)) (Syntax.tcons (Syntax.tyInt Syntax.w64) Syntax.tnil))),
-) List.[])))))
+  Rows.any-gone (Syntax.tyStruct
+      (List._∷_ 38 (List._∷_ 91 (List._∷_ 93 List.[]))) (Syntax.tcons (Syntax.tyRef Syntax.erased Syntax.mut LentTilePartEntry.pointee) (Syntax.tcons (Syntax.tyInt Syntax.w64)
+      Syntax.tnil))),
+) (List._∷_ (21, Rows.any-gone (Syntax.tyRef Syntax.erased Syntax.mut (Syntax.tyInt Syntax.w8))) (List._∷_ (
+  22,
+  Rows.any-gone (Syntax.tyStruct (List._∷_ 38
+      (List._∷_ 91 (List._∷_ 93 List.[]))) (Syntax.tcons (Syntax.tyRef Syntax.erased Syntax.mut (Syntax.tyInt Syntax.w8)) (Syntax.tcons (Syntax.tyInt Syntax.w64) Syntax.tnil))),
+)
+    List.[]))))))
 
 abbrev pub t2 : List.List Row.Entry
 t2 = List._∷_ (0, Rows.whole (Declared.row MainHeader.the-type)) (List._∷_ (
@@ -537,24 +549,30 @@ t2 = List._∷_ (0, Rows.whole (Declared.row MainHeader.the-type)) (List._∷_ (
       (Syntax.tyInt Syntax.w8)) 0,
 ) (List._∷_ (
   2,
-  Rows.any-gone (Syntax.tyEnum (List._∷_ 104 (List._∷_ 101 (List._∷_ 97 (List._∷_ 100 (List._∷_ 101 (List._∷_ 114 (List._∷_ 58
-      (List._∷_ 58 (List._∷_ 110 (List._∷_ 117 (List._∷_ 109 (List._∷_ 98 (List._∷_ 101 (List._∷_ 114 (List._∷_ 105 (List._∷_ 110 (List._∷_ 103 (List._∷_ 58 (List._∷_ 58 (List._∷_ 78
-      (List._∷_ 117 (List._∷_ 109 (List._∷_ 98 (List._∷_ 101 (List._∷_ 114 (List._∷_ 105 (List._∷_ 110 (List._∷_ 103 List.[])))))))))))))))))))))))))))) (Syntax.ttcons Syntax.tnil
-      (Syntax.ttcons Syntax.tnil Syntax.ttnil))),
-) (List._∷_ (3, Mut.mslice LentTilePartEntry.row (Syntax.tyRef (Syntax.named 1) Syntax.mut LentTilePartEntry.pointee) 1) (List._∷_ (
-  4,
-  Mut.mslice (Referent.rtF (Referent.fInt Syntax.w8)) (Syntax.tyRef (Syntax.named 2) Syntax.mut (Syntax.tyInt Syntax.w8)) 2,
+  Rows.any-gone (Syntax.tyStruct (List._∷_ 104 (List._∷_ 101 (List._∷_ 97 (List._∷_ 100 (List._∷_ 101 (List._∷_ 114 (List._∷_ 58
+      (List._∷_ 58 (List._∷_ 114 (List._∷_ 101 (List._∷_ 97 (List._∷_ 100 (List._∷_ 105 (List._∷_ 110 (List._∷_ 103 (List._∷_ 58 (List._∷_ 58 (List._∷_ 82 (List._∷_ 101 (List._∷_ 97
+      (List._∷_ 100 (List._∷_ 105 (List._∷_ 110 (List._∷_ 103 List.[])))))))))))))))))))))))) (Syntax.tcons (Syntax.tyEnum (List._∷_ 104 (List._∷_ 101 (List._∷_ 97 (List._∷_ 100
+      (List._∷_ 101 (List._∷_ 114 (List._∷_ 58 (List._∷_ 58 (List._∷_ 110 (List._∷_ 117 (List._∷_ 109 (List._∷_ 98 (List._∷_ 101 (List._∷_ 114 (List._∷_ 105 (List._∷_ 110 (List._∷_
+      103 (List._∷_ 58 (List._∷_ 58 (List._∷_ 78 (List._∷_ 117 (List._∷_ 109 (List._∷_ 98 (List._∷_ 101 (List._∷_ 114 (List._∷_ 105 (List._∷_ 110 (List._∷_ 103
+      List.[])))))))))))))))))))))))))))) (Syntax.ttcons Syntax.tnil (Syntax.ttcons Syntax.tnil Syntax.ttnil))) (Syntax.tcons (Syntax.tyEnum (List._∷_ 104 (List._∷_ 101 (List._∷_ 97
+      (List._∷_ 100 (List._∷_ 101 (List._∷_ 114 (List._∷_ 58 (List._∷_ 58 (List._∷_ 101 (List._∷_ 100 (List._∷_ 105 (List._∷_ 116 (List._∷_ 105 (List._∷_ 111 (List._∷_ 110 (List._∷_
+      58 (List._∷_ 58 (List._∷_ 69 (List._∷_ 100 (List._∷_ 105 (List._∷_ 116 (List._∷_ 105 (List._∷_ 111 (List._∷_ 110 List.[])))))))))))))))))))))))) (Syntax.ttcons Syntax.tnil
+      (Syntax.ttcons Syntax.tnil Syntax.ttnil))) Syntax.tnil))),
 ) (List._∷_ (
+  3,
+  Mut.mslice LentTilePartEntry.row (Syntax.tyRef (Syntax.named 1) Syntax.mut LentTilePartEntry.pointee)
+      1,
+) (List._∷_ (4, Mut.mslice (Referent.rtF (Referent.fInt Syntax.w8)) (Syntax.tyRef (Syntax.named 2) Syntax.mut (Syntax.tyInt Syntax.w8)) 2) (List._∷_ (
   5,
-  Rows.any-gone (Syntax.tyEnum (List._∷_
-      104 (List._∷_ 101 (List._∷_ 97 (List._∷_ 100 (List._∷_ 101 (List._∷_ 114 (List._∷_ 58 (List._∷_ 58 (List._∷_ 112 (List._∷_ 97 (List._∷_ 114 (List._∷_ 115 (List._∷_ 101
-      (List._∷_ 58 (List._∷_ 58 (List._∷_ 77 (List._∷_ 97 (List._∷_ 105 (List._∷_ 110 (List._∷_ 72 (List._∷_ 101 (List._∷_ 97 (List._∷_ 100 (List._∷_ 101 (List._∷_ 114
-      List.[]))))))))))))))))))))))))) (Syntax.ttcons (Syntax.tcons (Syntax.tyStruct (List._∷_ 104 (List._∷_ 101 (List._∷_ 97 (List._∷_ 100 (List._∷_ 101 (List._∷_ 114 (List._∷_ 58
-      (List._∷_ 58 (List._∷_ 112 (List._∷_ 97 (List._∷_ 114 (List._∷_ 115 (List._∷_ 101 (List._∷_ 58 (List._∷_ 58 (List._∷_ 77 (List._∷_ 97 (List._∷_ 105 (List._∷_ 110 (List._∷_ 72
-      (List._∷_ 101 (List._∷_ 97 (List._∷_ 100 (List._∷_ 101 (List._∷_ 114 (List._∷_ 73 (List._∷_ 110 (List._∷_ 102 (List._∷_ 111 List.[]))))))))))))))))))))))))))))) (Syntax.tcons
-      (Syntax.tyStruct (List._∷_ 116 (List._∷_ 121 (List._∷_ 112 (List._∷_ 101 (List._∷_ 115 (List._∷_ 58 (List._∷_ 58 (List._∷_ 67 (List._∷_ 111 (List._∷_ 100 (List._∷_ 101
-      (List._∷_ 115 (List._∷_ 116 (List._∷_ 114 (List._∷_ 101 (List._∷_ 97 (List._∷_ 109 (List._∷_ 79 (List._∷_ 102 (List._∷_ 102 (List._∷_ 115 (List._∷_ 101 (List._∷_ 116
-      List.[]))))))))))))))))))))))) (Syntax.tcons (Syntax.tyInt Syntax.w64) Syntax.tnil)) (Syntax.tcons (Syntax.tyInt Syntax.w64) (Syntax.tcons (Syntax.tyInt Syntax.w64)
+  Rows.any-gone
+      (Syntax.tyEnum (List._∷_ 104 (List._∷_ 101 (List._∷_ 97 (List._∷_ 100 (List._∷_ 101 (List._∷_ 114 (List._∷_ 58 (List._∷_ 58 (List._∷_ 112 (List._∷_ 97 (List._∷_ 114 (List._∷_
+      115 (List._∷_ 101 (List._∷_ 58 (List._∷_ 58 (List._∷_ 77 (List._∷_ 97 (List._∷_ 105 (List._∷_ 110 (List._∷_ 72 (List._∷_ 101 (List._∷_ 97 (List._∷_ 100 (List._∷_ 101 (List._∷_
+      114 List.[]))))))))))))))))))))))))) (Syntax.ttcons (Syntax.tcons (Syntax.tyStruct (List._∷_ 104 (List._∷_ 101 (List._∷_ 97 (List._∷_ 100 (List._∷_ 101 (List._∷_ 114 (List._∷_
+      58 (List._∷_ 58 (List._∷_ 112 (List._∷_ 97 (List._∷_ 114 (List._∷_ 115 (List._∷_ 101 (List._∷_ 58 (List._∷_ 58 (List._∷_ 77 (List._∷_ 97 (List._∷_ 105 (List._∷_ 110 (List._∷_
+      72 (List._∷_ 101 (List._∷_ 97 (List._∷_ 100 (List._∷_ 101 (List._∷_ 114 (List._∷_ 73 (List._∷_ 110 (List._∷_ 102 (List._∷_ 111 List.[])))))))))))))))))))))))))))))
+      (Syntax.tcons (Syntax.tyStruct (List._∷_ 116 (List._∷_ 121 (List._∷_ 112 (List._∷_ 101 (List._∷_ 115 (List._∷_ 58 (List._∷_ 58 (List._∷_ 67 (List._∷_ 111 (List._∷_ 100
+      (List._∷_ 101 (List._∷_ 115 (List._∷_ 116 (List._∷_ 114 (List._∷_ 101 (List._∷_ 97 (List._∷_ 109 (List._∷_ 79 (List._∷_ 102 (List._∷_ 102 (List._∷_ 115 (List._∷_ 101 (List._∷_
+      116 List.[]))))))))))))))))))))))) (Syntax.tcons (Syntax.tyInt Syntax.w64) Syntax.tnil)) (Syntax.tcons (Syntax.tyInt Syntax.w64) (Syntax.tcons (Syntax.tyInt Syntax.w64)
       (Syntax.tcons (Syntax.tyInt Syntax.w64) Syntax.tnil))))) Syntax.tnil) (Syntax.ttcons (Syntax.tcons (Syntax.tyStruct (List._∷_ 116 (List._∷_ 121 (List._∷_ 112 (List._∷_ 101
       (List._∷_ 115 (List._∷_ 58 (List._∷_ 58 (List._∷_ 82 (List._∷_ 101 (List._∷_ 102 (List._∷_ 117 (List._∷_ 115 (List._∷_ 97 (List._∷_ 108 List.[])))))))))))))) (Syntax.tcons
       (Syntax.tyInt Syntax.w32) (Syntax.tcons (Syntax.tyInt Syntax.w64) Syntax.tnil))) Syntax.tnil) Syntax.ttnil))),
@@ -573,18 +591,20 @@ t2 = List._∷_ (0, Rows.whole (Declared.row MainHeader.the-type)) (List._∷_ (
       (List._∷_ 121 (List._∷_ 112 (List._∷_ 101 (List._∷_ 115 (List._∷_ 58 (List._∷_ 58 (List._∷_ 67 (List._∷_ 111 (List._∷_ 100 (List._∷_ 101 (List._∷_ 115 (List._∷_ 116 (List._∷_
       114 (List._∷_ 101 (List._∷_ 97 (List._∷_ 109 (List._∷_ 79 (List._∷_ 102 (List._∷_ 102 (List._∷_ 115 (List._∷_ 101 (List._∷_ 116 List.[]))))))))))))))))))))))) (Syntax.tcons
       (Syntax.tyInt Syntax.w64) Syntax.tnil)),
-) (List._∷_ (8, Rows.any-gone (Syntax.tyInt Syntax.w64)) (List._∷_ (9, Rows.any-gone (Syntax.tyInt Syntax.w64)) (List._∷_ (
-  10,
+) (List._∷_ (
+  8,
+  Rows.any-gone (Syntax.tyEnum (List._∷_ 104 (List._∷_ 101 (List._∷_ 97 (List._∷_ 100 (List._∷_ 101 (List._∷_ 114 (List._∷_
+      58 (List._∷_ 58 (List._∷_ 110 (List._∷_ 117 (List._∷_ 109 (List._∷_ 98 (List._∷_ 101 (List._∷_ 114 (List._∷_ 105 (List._∷_ 110 (List._∷_ 103 (List._∷_ 58 (List._∷_ 58 (List._∷_
+      78 (List._∷_ 117 (List._∷_ 109 (List._∷_ 98 (List._∷_ 101 (List._∷_ 114 (List._∷_ 105 (List._∷_ 110 (List._∷_ 103 List.[])))))))))))))))))))))))))))) (Syntax.ttcons Syntax.tnil
+      (Syntax.ttcons Syntax.tnil Syntax.ttnil))),
+) (List._∷_ (9, Rows.any-gone (Syntax.tyInt Syntax.w64)) (List._∷_ (10, Rows.any-gone (Syntax.tyInt Syntax.w64)) (List._∷_ (
+  11,
   Rows.any-gone (Syntax.tyInt Syntax.w64),
-) (List._∷_ (11, Rows.any-gone (Syntax.tyInt Syntax.w64)) (List._∷_ (12, Rows.any-gone Syntax.tyBool) (List._∷_ (
-  13,
+) (List._∷_ (12, Rows.any-gone (Syntax.tyInt Syntax.w64)) (List._∷_ (13, Rows.any-gone Syntax.tyBool) (List._∷_ (
+  14,
   Rows.any-gone
       (Syntax.tyInt Syntax.w64),
-) (List._∷_ (14, Rows.any-gone (Syntax.tyInt Syntax.w64)) (List._∷_ (
-  15,
-  Rows.any-gone (Syntax.tyRef Syntax.erased Syntax.mut (Syntax.tyInt
-      Syntax.w8)),
-) List.[])))))))))))))))
+) (List._∷_ (15, Rows.any-gone (Syntax.tyInt Syntax.w64)) List.[])))))))))))))))
 
 abbrev pub t3 : List.List Row.Entry
 t3 = List._∷_ (
@@ -604,7 +624,7 @@ t3 = List._∷_ (
   1,
   Rows.sslice
       (Referent.rtF (Referent.fInt Syntax.w8)) (Syntax.tyRef (Syntax.named 0) Syntax.imm (Syntax.tyInt Syntax.w8)) 0,
-) (List._∷_ (2, Rows.whole (Declared.row Numbering.the-type))
+) (List._∷_ (2, Rows.whole (Declared'.row Reading.the-type))
     (List._∷_ (3, Mut.mslice LentTilePartEntry.row (Syntax.tyRef (Syntax.named 1) Syntax.mut LentTilePartEntry.pointee) 1) (List._∷_ (
       4,
       Mut.mslice (Referent.rtF (Referent.fInt
@@ -639,16 +659,18 @@ t3 = List._∷_ (
           (List._∷_ 102 (List._∷_ 102 (List._∷_ 115 (List._∷_ 101 (List._∷_ 116 List.[]))))))))))))))))))))))) (Syntax.tcons (Syntax.tyInt Syntax.w64) Syntax.tnil)),
     ) (List._∷_ (
       8,
-      Rows.sc-here (Row.sInt Syntax.w64),
-    ) (List._∷_ (9, Rows.any-gone (Syntax.tyInt Syntax.w64)) (List._∷_ (10, Rows.any-gone (Syntax.tyInt Syntax.w64)) (List._∷_ (
-      11,
+      Rows.any-gone (Syntax.tyEnum (List._∷_ 104 (List._∷_ 101 (List._∷_ 97 (List._∷_ 100 (List._∷_ 101 (List._∷_ 114 (List._∷_ 58 (List._∷_ 58 (List._∷_ 110 (List._∷_ 117 (List._∷_
+          109 (List._∷_ 98 (List._∷_ 101 (List._∷_ 114 (List._∷_ 105 (List._∷_ 110 (List._∷_ 103 (List._∷_ 58 (List._∷_ 58 (List._∷_ 78 (List._∷_ 117 (List._∷_ 109 (List._∷_ 98 (List._∷_
+          101 (List._∷_ 114 (List._∷_ 105 (List._∷_ 110 (List._∷_ 103 List.[])))))))))))))))))))))))))))) (Syntax.ttcons Syntax.tnil (Syntax.ttcons Syntax.tnil Syntax.ttnil))),
+    ) (List._∷_
+    (9, Rows.sc-here (Row.sInt Syntax.w64)) (List._∷_ (10, Rows.any-gone (Syntax.tyInt Syntax.w64)) (List._∷_ (11, Rows.any-gone (Syntax.tyInt Syntax.w64)) (List._∷_ (
+      12,
+      Rows.any-gone (Syntax.tyInt Syntax.w64),
+    ) (List._∷_ (13, Rows.any-gone Syntax.tyBool) (List._∷_ (14, Rows.any-gone (Syntax.tyInt Syntax.w64)) (List._∷_ (
+      15,
       Rows.any-gone
           (Syntax.tyInt Syntax.w64),
-    ) (List._∷_ (12, Rows.any-gone Syntax.tyBool) (List._∷_ (13, Rows.any-gone (Syntax.tyInt Syntax.w64)) (List._∷_ (
-      14,
-      Rows.any-gone (Syntax.tyInt
-          Syntax.w64),
-    ) (List._∷_ (15, Rows.any-gone (Syntax.tyRef Syntax.erased Syntax.mut (Syntax.tyInt Syntax.w8))) List.[])))))))))))))))
+    ) List.[])))))))))))))))
 
 abbrev pub t4 : List.List Row.Entry
 t4 = List._∷_ (
@@ -668,7 +690,7 @@ t4 = List._∷_ (
   1,
   Rows.sslice
       (Referent.rtF (Referent.fInt Syntax.w8)) (Syntax.tyRef (Syntax.named 0) Syntax.imm (Syntax.tyInt Syntax.w8)) 0,
-) (List._∷_ (2, Rows.whole (Declared.row Numbering.the-type))
+) (List._∷_ (2, Rows.whole (Declared'.row Reading.the-type))
     (List._∷_ (3, Mut.mslice LentTilePartEntry.row (Syntax.tyRef (Syntax.named 1) Syntax.mut LentTilePartEntry.pointee) 1) (List._∷_ (
       4,
       Mut.mslice (Referent.rtF (Referent.fInt
@@ -703,16 +725,19 @@ t4 = List._∷_ (
           (List._∷_ 102 (List._∷_ 102 (List._∷_ 115 (List._∷_ 101 (List._∷_ 116 List.[]))))))))))))))))))))))) (Syntax.tcons (Syntax.tyInt Syntax.w64) Syntax.tnil)),
     ) (List._∷_ (
       8,
-      Rows.sc-here (Row.sInt Syntax.w64),
-    ) (List._∷_ (9, Rows.sc-here (Row.sInt Syntax.w64)) (List._∷_ (10, Rows.any-gone (Syntax.tyInt Syntax.w64)) (List._∷_ (
-      11,
+      Rows.any-gone (Syntax.tyEnum (List._∷_ 104 (List._∷_ 101 (List._∷_ 97 (List._∷_ 100 (List._∷_ 101 (List._∷_ 114 (List._∷_ 58 (List._∷_ 58 (List._∷_ 110 (List._∷_ 117 (List._∷_
+          109 (List._∷_ 98 (List._∷_ 101 (List._∷_ 114 (List._∷_ 105 (List._∷_ 110 (List._∷_ 103 (List._∷_ 58 (List._∷_ 58 (List._∷_ 78 (List._∷_ 117 (List._∷_ 109 (List._∷_ 98 (List._∷_
+          101 (List._∷_ 114 (List._∷_ 105 (List._∷_ 110 (List._∷_ 103 List.[])))))))))))))))))))))))))))) (Syntax.ttcons Syntax.tnil (Syntax.ttcons Syntax.tnil Syntax.ttnil))),
+    ) (List._∷_
+    (9, Rows.sc-here (Row.sInt Syntax.w64)) (List._∷_ (10, Rows.sc-here (Row.sInt Syntax.w64)) (List._∷_ (11, Rows.any-gone (Syntax.tyInt Syntax.w64)) (List._∷_ (
+      12,
       Rows.any-gone
           (Syntax.tyInt Syntax.w64),
-    ) (List._∷_ (12, Rows.any-gone Syntax.tyBool) (List._∷_ (13, Rows.any-gone (Syntax.tyInt Syntax.w64)) (List._∷_ (
-      14,
+    ) (List._∷_ (13, Rows.any-gone Syntax.tyBool) (List._∷_ (14, Rows.any-gone (Syntax.tyInt Syntax.w64)) (List._∷_ (
+      15,
       Rows.any-gone (Syntax.tyInt
           Syntax.w64),
-    ) (List._∷_ (15, Rows.any-gone (Syntax.tyRef Syntax.erased Syntax.mut (Syntax.tyInt Syntax.w8))) List.[])))))))))))))))
+    ) List.[])))))))))))))))
 
 abbrev pub t5 : List.List Row.Entry
 t5 = List._∷_ (
@@ -732,7 +757,7 @@ t5 = List._∷_ (
   1,
   Rows.sslice
       (Referent.rtF (Referent.fInt Syntax.w8)) (Syntax.tyRef (Syntax.named 0) Syntax.imm (Syntax.tyInt Syntax.w8)) 0,
-) (List._∷_ (2, Rows.whole (Declared.row Numbering.the-type))
+) (List._∷_ (2, Rows.whole (Declared'.row Reading.the-type))
     (List._∷_ (3, Mut.mslice LentTilePartEntry.row (Syntax.tyRef (Syntax.named 1) Syntax.mut LentTilePartEntry.pointee) 1) (List._∷_ (
       4,
       Mut.mslice (Referent.rtF (Referent.fInt
@@ -767,16 +792,18 @@ t5 = List._∷_ (
           (List._∷_ 102 (List._∷_ 102 (List._∷_ 115 (List._∷_ 101 (List._∷_ 116 List.[]))))))))))))))))))))))) (Syntax.tcons (Syntax.tyInt Syntax.w64) Syntax.tnil)),
     ) (List._∷_ (
       8,
+      Rows.any-gone (Syntax.tyEnum (List._∷_ 104 (List._∷_ 101 (List._∷_ 97 (List._∷_ 100 (List._∷_ 101 (List._∷_ 114 (List._∷_ 58 (List._∷_ 58 (List._∷_ 110 (List._∷_ 117 (List._∷_
+          109 (List._∷_ 98 (List._∷_ 101 (List._∷_ 114 (List._∷_ 105 (List._∷_ 110 (List._∷_ 103 (List._∷_ 58 (List._∷_ 58 (List._∷_ 78 (List._∷_ 117 (List._∷_ 109 (List._∷_ 98 (List._∷_
+          101 (List._∷_ 114 (List._∷_ 105 (List._∷_ 110 (List._∷_ 103 List.[])))))))))))))))))))))))))))) (Syntax.ttcons Syntax.tnil (Syntax.ttcons Syntax.tnil Syntax.ttnil))),
+    ) (List._∷_
+    (9, Rows.any-gone (Syntax.tyInt Syntax.w64)) (List._∷_ (10, Rows.sc-here (Row.sInt Syntax.w64)) (List._∷_ (11, Rows.any-gone (Syntax.tyInt Syntax.w64)) (List._∷_ (
+      12,
       Rows.any-gone (Syntax.tyInt Syntax.w64),
-    ) (List._∷_ (9, Rows.sc-here (Row.sInt Syntax.w64)) (List._∷_ (10, Rows.any-gone (Syntax.tyInt Syntax.w64)) (List._∷_ (
-      11,
+    ) (List._∷_ (13, Rows.any-gone Syntax.tyBool) (List._∷_ (14, Rows.any-gone (Syntax.tyInt Syntax.w64)) (List._∷_ (
+      15,
       Rows.any-gone
           (Syntax.tyInt Syntax.w64),
-    ) (List._∷_ (12, Rows.any-gone Syntax.tyBool) (List._∷_ (13, Rows.any-gone (Syntax.tyInt Syntax.w64)) (List._∷_ (
-      14,
-      Rows.any-gone (Syntax.tyInt
-          Syntax.w64),
-    ) (List._∷_ (15, Rows.any-gone (Syntax.tyRef Syntax.erased Syntax.mut (Syntax.tyInt Syntax.w8))) List.[])))))))))))))))
+    ) List.[])))))))))))))))
 
 abbrev pub t6 : List.List Row.Entry
 t6 = List._∷_ (
@@ -796,7 +823,7 @@ t6 = List._∷_ (
   1,
   Rows.sslice
       (Referent.rtF (Referent.fInt Syntax.w8)) (Syntax.tyRef (Syntax.named 0) Syntax.imm (Syntax.tyInt Syntax.w8)) 0,
-) (List._∷_ (2, Rows.whole (Declared.row Numbering.the-type))
+) (List._∷_ (2, Rows.whole (Declared'.row Reading.the-type))
     (List._∷_ (3, Mut.mslice LentTilePartEntry.row (Syntax.tyRef (Syntax.named 1) Syntax.mut LentTilePartEntry.pointee) 1) (List._∷_ (
       4,
       Mut.mslice (Referent.rtF (Referent.fInt
@@ -831,16 +858,19 @@ t6 = List._∷_ (
           (List._∷_ 102 (List._∷_ 102 (List._∷_ 115 (List._∷_ 101 (List._∷_ 116 List.[]))))))))))))))))))))))) (Syntax.tcons (Syntax.tyInt Syntax.w64) Syntax.tnil)),
     ) (List._∷_ (
       8,
-      Rows.any-gone (Syntax.tyInt Syntax.w64),
-    ) (List._∷_ (9, Rows.sc-here (Row.sInt Syntax.w64)) (List._∷_ (10, Rows.sc-here (Row.sInt Syntax.w64)) (List._∷_ (
-      11,
+      Rows.any-gone (Syntax.tyEnum (List._∷_ 104 (List._∷_ 101 (List._∷_ 97 (List._∷_ 100 (List._∷_ 101 (List._∷_ 114 (List._∷_ 58 (List._∷_ 58 (List._∷_ 110 (List._∷_ 117 (List._∷_
+          109 (List._∷_ 98 (List._∷_ 101 (List._∷_ 114 (List._∷_ 105 (List._∷_ 110 (List._∷_ 103 (List._∷_ 58 (List._∷_ 58 (List._∷_ 78 (List._∷_ 117 (List._∷_ 109 (List._∷_ 98 (List._∷_
+          101 (List._∷_ 114 (List._∷_ 105 (List._∷_ 110 (List._∷_ 103 List.[])))))))))))))))))))))))))))) (Syntax.ttcons Syntax.tnil (Syntax.ttcons Syntax.tnil Syntax.ttnil))),
+    ) (List._∷_
+    (9, Rows.any-gone (Syntax.tyInt Syntax.w64)) (List._∷_ (10, Rows.sc-here (Row.sInt Syntax.w64)) (List._∷_ (11, Rows.sc-here (Row.sInt Syntax.w64)) (List._∷_ (
+      12,
       Rows.any-gone
           (Syntax.tyInt Syntax.w64),
-    ) (List._∷_ (12, Rows.any-gone Syntax.tyBool) (List._∷_ (13, Rows.any-gone (Syntax.tyInt Syntax.w64)) (List._∷_ (
-      14,
+    ) (List._∷_ (13, Rows.any-gone Syntax.tyBool) (List._∷_ (14, Rows.any-gone (Syntax.tyInt Syntax.w64)) (List._∷_ (
+      15,
       Rows.any-gone (Syntax.tyInt
           Syntax.w64),
-    ) (List._∷_ (15, Rows.any-gone (Syntax.tyRef Syntax.erased Syntax.mut (Syntax.tyInt Syntax.w8))) List.[])))))))))))))))
+    ) List.[])))))))))))))))
 
 abbrev pub t7 : List.List Row.Entry
 t7 = List._∷_ (
@@ -860,7 +890,7 @@ t7 = List._∷_ (
   1,
   Rows.sslice
       (Referent.rtF (Referent.fInt Syntax.w8)) (Syntax.tyRef (Syntax.named 0) Syntax.imm (Syntax.tyInt Syntax.w8)) 0,
-) (List._∷_ (2, Rows.whole (Declared.row Numbering.the-type))
+) (List._∷_ (2, Rows.whole (Declared'.row Reading.the-type))
     (List._∷_ (3, Mut.mslice LentTilePartEntry.row (Syntax.tyRef (Syntax.named 1) Syntax.mut LentTilePartEntry.pointee) 1) (List._∷_ (
       4,
       Mut.mslice (Referent.rtF (Referent.fInt
@@ -895,16 +925,19 @@ t7 = List._∷_ (
           (List._∷_ 102 (List._∷_ 102 (List._∷_ 115 (List._∷_ 101 (List._∷_ 116 List.[]))))))))))))))))))))))) (Syntax.tcons (Syntax.tyInt Syntax.w64) Syntax.tnil)),
     ) (List._∷_ (
       8,
-      Rows.any-gone (Syntax.tyInt Syntax.w64),
-    ) (List._∷_ (9, Rows.sc-here (Row.sInt Syntax.w64)) (List._∷_ (10, Rows.sc-here (Row.sInt Syntax.w64)) (List._∷_ (
-      11,
+      Rows.any-gone (Syntax.tyEnum (List._∷_ 104 (List._∷_ 101 (List._∷_ 97 (List._∷_ 100 (List._∷_ 101 (List._∷_ 114 (List._∷_ 58 (List._∷_ 58 (List._∷_ 110 (List._∷_ 117 (List._∷_
+          109 (List._∷_ 98 (List._∷_ 101 (List._∷_ 114 (List._∷_ 105 (List._∷_ 110 (List._∷_ 103 (List._∷_ 58 (List._∷_ 58 (List._∷_ 78 (List._∷_ 117 (List._∷_ 109 (List._∷_ 98 (List._∷_
+          101 (List._∷_ 114 (List._∷_ 105 (List._∷_ 110 (List._∷_ 103 List.[])))))))))))))))))))))))))))) (Syntax.ttcons Syntax.tnil (Syntax.ttcons Syntax.tnil Syntax.ttnil))),
+    ) (List._∷_
+    (9, Rows.any-gone (Syntax.tyInt Syntax.w64)) (List._∷_ (10, Rows.sc-here (Row.sInt Syntax.w64)) (List._∷_ (11, Rows.sc-here (Row.sInt Syntax.w64)) (List._∷_ (
+      12,
       Rows.sc-here
           (Row.sInt Syntax.w64),
-    ) (List._∷_ (12, Rows.any-gone Syntax.tyBool) (List._∷_ (13, Rows.any-gone (Syntax.tyInt Syntax.w64)) (List._∷_ (
-      14,
+    ) (List._∷_ (13, Rows.any-gone Syntax.tyBool) (List._∷_ (14, Rows.any-gone (Syntax.tyInt Syntax.w64)) (List._∷_ (
+      15,
       Rows.any-gone (Syntax.tyInt
           Syntax.w64),
-    ) (List._∷_ (15, Rows.any-gone (Syntax.tyRef Syntax.erased Syntax.mut (Syntax.tyInt Syntax.w8))) List.[])))))))))))))))
+    ) List.[])))))))))))))))
 
 abbrev pub t8 : List.List Row.Entry
 t8 = List._∷_ (
@@ -924,7 +957,7 @@ t8 = List._∷_ (
   1,
   Rows.sslice
       (Referent.rtF (Referent.fInt Syntax.w8)) (Syntax.tyRef (Syntax.named 0) Syntax.imm (Syntax.tyInt Syntax.w8)) 0,
-) (List._∷_ (2, Rows.whole (Declared.row Numbering.the-type))
+) (List._∷_ (2, Rows.whole (Declared'.row Reading.the-type))
     (List._∷_ (3, Mut.mslice LentTilePartEntry.row (Syntax.tyRef (Syntax.named 1) Syntax.mut LentTilePartEntry.pointee) 1) (List._∷_ (
       4,
       Mut.mslice (Referent.rtF (Referent.fInt
@@ -959,16 +992,18 @@ t8 = List._∷_ (
           (List._∷_ 102 (List._∷_ 102 (List._∷_ 115 (List._∷_ 101 (List._∷_ 116 List.[]))))))))))))))))))))))) (Syntax.tcons (Syntax.tyInt Syntax.w64) Syntax.tnil)),
     ) (List._∷_ (
       8,
-      Rows.any-gone (Syntax.tyInt Syntax.w64),
-    ) (List._∷_ (9, Rows.sc-here (Row.sInt Syntax.w64)) (List._∷_ (10, Rows.any-gone (Syntax.tyInt Syntax.w64)) (List._∷_ (
-      11,
-      Rows.sc-here
-          (Row.sInt Syntax.w64),
-    ) (List._∷_ (12, Rows.any-gone Syntax.tyBool) (List._∷_ (13, Rows.any-gone (Syntax.tyInt Syntax.w64)) (List._∷_ (
-      14,
-      Rows.any-gone (Syntax.tyInt
-          Syntax.w64),
-    ) (List._∷_ (15, Rows.any-gone (Syntax.tyRef Syntax.erased Syntax.mut (Syntax.tyInt Syntax.w8))) List.[])))))))))))))))
+      Rows.any-gone (Syntax.tyEnum (List._∷_ 104 (List._∷_ 101 (List._∷_ 97 (List._∷_ 100 (List._∷_ 101 (List._∷_ 114 (List._∷_ 58 (List._∷_ 58 (List._∷_ 110 (List._∷_ 117 (List._∷_
+          109 (List._∷_ 98 (List._∷_ 101 (List._∷_ 114 (List._∷_ 105 (List._∷_ 110 (List._∷_ 103 (List._∷_ 58 (List._∷_ 58 (List._∷_ 78 (List._∷_ 117 (List._∷_ 109 (List._∷_ 98 (List._∷_
+          101 (List._∷_ 114 (List._∷_ 105 (List._∷_ 110 (List._∷_ 103 List.[])))))))))))))))))))))))))))) (Syntax.ttcons Syntax.tnil (Syntax.ttcons Syntax.tnil Syntax.ttnil))),
+    ) (List._∷_
+    (9, Rows.any-gone (Syntax.tyInt Syntax.w64)) (List._∷_ (10, Rows.sc-here (Row.sInt Syntax.w64)) (List._∷_ (11, Rows.any-gone (Syntax.tyInt Syntax.w64)) (List._∷_ (
+      12,
+      Rows.sc-here (Row.sInt Syntax.w64),
+    ) (List._∷_ (13, Rows.any-gone Syntax.tyBool) (List._∷_ (14, Rows.any-gone (Syntax.tyInt Syntax.w64)) (List._∷_ (
+      15,
+      Rows.any-gone
+          (Syntax.tyInt Syntax.w64),
+    ) List.[])))))))))))))))
 
 abbrev pub t9 : List.List Row.Entry
 t9 = List._∷_ (
@@ -988,7 +1023,7 @@ t9 = List._∷_ (
   1,
   Rows.sslice
       (Referent.rtF (Referent.fInt Syntax.w8)) (Syntax.tyRef (Syntax.named 0) Syntax.imm (Syntax.tyInt Syntax.w8)) 0,
-) (List._∷_ (2, Rows.whole (Declared.row Numbering.the-type))
+) (List._∷_ (2, Rows.whole (Declared'.row Reading.the-type))
     (List._∷_ (3, Mut.mslice LentTilePartEntry.row (Syntax.tyRef (Syntax.named 1) Syntax.mut LentTilePartEntry.pointee) 1) (List._∷_ (
       4,
       Mut.mslice (Referent.rtF (Referent.fInt
@@ -1007,16 +1042,20 @@ t9 = List._∷_ (
       Rows.any-gone (Syntax.tyStruct (List._∷_ 116 (List._∷_ 121 (List._∷_ 112 (List._∷_ 101 (List._∷_ 115 (List._∷_ 58 (List._∷_ 58 (List._∷_ 67 (List._∷_ 111 (List._∷_ 100
           (List._∷_ 101 (List._∷_ 115 (List._∷_ 116 (List._∷_ 114 (List._∷_ 101 (List._∷_ 97 (List._∷_ 109 (List._∷_ 79 (List._∷_ 102 (List._∷_ 102 (List._∷_ 115 (List._∷_ 101 (List._∷_
           116 List.[]))))))))))))))))))))))) (Syntax.tcons (Syntax.tyInt Syntax.w64) Syntax.tnil)),
-    ) (List._∷_ (8, Rows.any-gone (Syntax.tyInt Syntax.w64)) (List._∷_ (
-      9,
-      Rows.sc-here
-          (Row.sInt Syntax.w64),
-    ) (List._∷_ (10, Rows.any-gone (Syntax.tyInt Syntax.w64)) (List._∷_ (11, Rows.sc-here (Row.sInt Syntax.w64)) (List._∷_ (12, Rows.any-gone Syntax.tyBool)
-    (List._∷_ (13, Rows.any-gone (Syntax.tyInt Syntax.w64)) (List._∷_ (14, Rows.any-gone (Syntax.tyInt Syntax.w64)) (List._∷_ (
-      15,
-      Rows.any-gone (Syntax.tyRef Syntax.erased
-          Syntax.mut (Syntax.tyInt Syntax.w8)),
-    ) List.[])))))))))))))))
+    ) (List._∷_ (
+      8,
+      Rows.any-gone (Syntax.tyEnum (List._∷_ 104 (List._∷_ 101 (List._∷_ 97
+          (List._∷_ 100 (List._∷_ 101 (List._∷_ 114 (List._∷_ 58 (List._∷_ 58 (List._∷_ 110 (List._∷_ 117 (List._∷_ 109 (List._∷_ 98 (List._∷_ 101 (List._∷_ 114 (List._∷_ 105 (List._∷_
+          110 (List._∷_ 103 (List._∷_ 58 (List._∷_ 58 (List._∷_ 78 (List._∷_ 117 (List._∷_ 109 (List._∷_ 98 (List._∷_ 101 (List._∷_ 114 (List._∷_ 105 (List._∷_ 110 (List._∷_ 103
+          List.[])))))))))))))))))))))))))))) (Syntax.ttcons Syntax.tnil (Syntax.ttcons Syntax.tnil Syntax.ttnil))),
+    ) (List._∷_ (9, Rows.any-gone (Syntax.tyInt Syntax.w64)) (List._∷_ (
+      10,
+      Rows.sc-here (Row.sInt Syntax.w64),
+    ) (List._∷_ (11, Rows.any-gone (Syntax.tyInt Syntax.w64)) (List._∷_ (12, Rows.sc-here (Row.sInt Syntax.w64)) (List._∷_ (
+      13,
+      Rows.any-gone
+          Syntax.tyBool,
+    ) (List._∷_ (14, Rows.any-gone (Syntax.tyInt Syntax.w64)) (List._∷_ (15, Rows.any-gone (Syntax.tyInt Syntax.w64)) List.[])))))))))))))))
 
 abbrev pub t10 : List.List Row.Entry
 t10 = List._∷_ (
@@ -1036,7 +1075,7 @@ t10 = List._∷_ (
   1,
   Rows.sslice
       (Referent.rtF (Referent.fInt Syntax.w8)) (Syntax.tyRef (Syntax.named 0) Syntax.imm (Syntax.tyInt Syntax.w8)) 0,
-) (List._∷_ (2, Rows.whole (Declared.row Numbering.the-type))
+) (List._∷_ (2, Rows.whole (Declared'.row Reading.the-type))
     (List._∷_ (3, Mut.mslice LentTilePartEntry.row (Syntax.tyRef (Syntax.named 1) Syntax.mut LentTilePartEntry.pointee) 1) (List._∷_ (
       4,
       Mut.mslice (Referent.rtF (Referent.fInt
@@ -1053,16 +1092,20 @@ t10 = List._∷_ (
     ) (List._∷_ (
       8,
       Rows.any-gone
-          (Syntax.tyInt Syntax.w64),
-    ) (List._∷_ (9, Rows.any-gone (Syntax.tyInt Syntax.w64)) (List._∷_ (10, Rows.any-gone (Syntax.tyInt Syntax.w64)) (List._∷_ (
-      11,
+          (Syntax.tyEnum (List._∷_ 104 (List._∷_ 101 (List._∷_ 97 (List._∷_ 100 (List._∷_ 101 (List._∷_ 114 (List._∷_ 58 (List._∷_ 58 (List._∷_ 110 (List._∷_ 117 (List._∷_ 109 (List._∷_
+          98 (List._∷_ 101 (List._∷_ 114 (List._∷_ 105 (List._∷_ 110 (List._∷_ 103 (List._∷_ 58 (List._∷_ 58 (List._∷_ 78 (List._∷_ 117 (List._∷_ 109 (List._∷_ 98 (List._∷_ 101 (List._∷_
+          114 (List._∷_ 105 (List._∷_ 110 (List._∷_ 103 List.[])))))))))))))))))))))))))))) (Syntax.ttcons Syntax.tnil (Syntax.ttcons Syntax.tnil Syntax.ttnil))),
+    ) (List._∷_ (
+      9,
+      Rows.any-gone (Syntax.tyInt Syntax.w64),
+    ) (List._∷_ (10, Rows.any-gone (Syntax.tyInt Syntax.w64)) (List._∷_ (11, Rows.any-gone (Syntax.tyInt Syntax.w64)) (List._∷_ (
+      12,
+      Rows.any-gone (Syntax.tyInt Syntax.w64),
+    ) (List._∷_ (13, Rows.any-gone Syntax.tyBool) (List._∷_ (14, Rows.any-gone (Syntax.tyInt Syntax.w64)) (List._∷_ (
+      15,
       Rows.any-gone
           (Syntax.tyInt Syntax.w64),
-    ) (List._∷_ (12, Rows.any-gone Syntax.tyBool) (List._∷_ (13, Rows.any-gone (Syntax.tyInt Syntax.w64)) (List._∷_ (
-      14,
-      Rows.any-gone (Syntax.tyInt
-          Syntax.w64),
-    ) (List._∷_ (15, Rows.any-gone (Syntax.tyRef Syntax.erased Syntax.mut (Syntax.tyInt Syntax.w8))) List.[])))))))))))))))
+    ) List.[])))))))))))))))
 
 abbrev pub t11 : List.List Row.Entry
 t11 = List._∷_ (
@@ -1082,7 +1125,7 @@ t11 = List._∷_ (
   1,
   Rows.sslice
       (Referent.rtF (Referent.fInt Syntax.w8)) (Syntax.tyRef (Syntax.named 0) Syntax.imm (Syntax.tyInt Syntax.w8)) 0,
-) (List._∷_ (2, Rows.whole (Declared.row Numbering.the-type))
+) (List._∷_ (2, Rows.whole (Declared'.row Reading.the-type))
     (List._∷_ (3, Mut.mslice LentTilePartEntry.row (Syntax.tyRef (Syntax.named 1) Syntax.mut LentTilePartEntry.pointee) 1) (List._∷_ (
       4,
       Mut.mslice (Referent.rtF (Referent.fInt
@@ -1101,19 +1144,20 @@ t11 = List._∷_ (
       Rows.any-gone (Syntax.tyStruct (List._∷_ 116 (List._∷_ 121 (List._∷_ 112 (List._∷_ 101 (List._∷_ 115 (List._∷_ 58 (List._∷_ 58 (List._∷_ 67 (List._∷_ 111 (List._∷_ 100
           (List._∷_ 101 (List._∷_ 115 (List._∷_ 116 (List._∷_ 114 (List._∷_ 101 (List._∷_ 97 (List._∷_ 109 (List._∷_ 79 (List._∷_ 102 (List._∷_ 102 (List._∷_ 115 (List._∷_ 101 (List._∷_
           116 List.[]))))))))))))))))))))))) (Syntax.tcons (Syntax.tyInt Syntax.w64) Syntax.tnil)),
-    ) (List._∷_ (8, Rows.any-gone (Syntax.tyInt Syntax.w64)) (List._∷_ (
-      9,
-      Rows.any-gone
-          (Syntax.tyInt Syntax.w64),
-    ) (List._∷_ (10, Rows.any-gone (Syntax.tyInt Syntax.w64)) (List._∷_ (11, Rows.sc-here (Row.sInt Syntax.w64)) (List._∷_ (
-      12,
+    ) (List._∷_ (
+      8,
+      Rows.any-gone (Syntax.tyEnum (List._∷_ 104 (List._∷_ 101 (List._∷_ 97
+          (List._∷_ 100 (List._∷_ 101 (List._∷_ 114 (List._∷_ 58 (List._∷_ 58 (List._∷_ 110 (List._∷_ 117 (List._∷_ 109 (List._∷_ 98 (List._∷_ 101 (List._∷_ 114 (List._∷_ 105 (List._∷_
+          110 (List._∷_ 103 (List._∷_ 58 (List._∷_ 58 (List._∷_ 78 (List._∷_ 117 (List._∷_ 109 (List._∷_ 98 (List._∷_ 101 (List._∷_ 114 (List._∷_ 105 (List._∷_ 110 (List._∷_ 103
+          List.[])))))))))))))))))))))))))))) (Syntax.ttcons Syntax.tnil (Syntax.ttcons Syntax.tnil Syntax.ttnil))),
+    ) (List._∷_ (9, Rows.any-gone (Syntax.tyInt Syntax.w64)) (List._∷_ (
+      10,
+      Rows.any-gone (Syntax.tyInt Syntax.w64),
+    ) (List._∷_ (11, Rows.any-gone (Syntax.tyInt Syntax.w64)) (List._∷_ (12, Rows.sc-here (Row.sInt Syntax.w64)) (List._∷_ (
+      13,
       Rows.any-gone
           Syntax.tyBool,
-    ) (List._∷_ (13, Rows.any-gone (Syntax.tyInt Syntax.w64)) (List._∷_ (14, Rows.any-gone (Syntax.tyInt Syntax.w64)) (List._∷_ (
-      15,
-      Rows.any-gone (Syntax.tyRef
-          Syntax.erased Syntax.mut (Syntax.tyInt Syntax.w8)),
-    ) List.[])))))))))))))))
+    ) (List._∷_ (14, Rows.any-gone (Syntax.tyInt Syntax.w64)) (List._∷_ (15, Rows.any-gone (Syntax.tyInt Syntax.w64)) List.[])))))))))))))))
 
 abbrev pub t12 : List.List Row.Entry
 t12 = List._∷_ (
@@ -1133,7 +1177,7 @@ t12 = List._∷_ (
   1,
   Rows.sslice
       (Referent.rtF (Referent.fInt Syntax.w8)) (Syntax.tyRef (Syntax.named 0) Syntax.imm (Syntax.tyInt Syntax.w8)) 0,
-) (List._∷_ (2, Rows.whole (Declared.row Numbering.the-type))
+) (List._∷_ (2, Rows.whole (Declared'.row Reading.the-type))
     (List._∷_ (3, Mut.mslice LentTilePartEntry.row (Syntax.tyRef (Syntax.named 1) Syntax.mut LentTilePartEntry.pointee) 1) (List._∷_ (
       4,
       Mut.mslice (Referent.rtF (Referent.fInt
@@ -1152,19 +1196,19 @@ t12 = List._∷_ (
       Rows.any-gone (Syntax.tyStruct (List._∷_ 116 (List._∷_ 121 (List._∷_ 112 (List._∷_ 101 (List._∷_ 115 (List._∷_ 58 (List._∷_ 58 (List._∷_ 67 (List._∷_ 111 (List._∷_ 100
           (List._∷_ 101 (List._∷_ 115 (List._∷_ 116 (List._∷_ 114 (List._∷_ 101 (List._∷_ 97 (List._∷_ 109 (List._∷_ 79 (List._∷_ 102 (List._∷_ 102 (List._∷_ 115 (List._∷_ 101 (List._∷_
           116 List.[]))))))))))))))))))))))) (Syntax.tcons (Syntax.tyInt Syntax.w64) Syntax.tnil)),
-    ) (List._∷_ (8, Rows.any-gone (Syntax.tyInt Syntax.w64)) (List._∷_ (
-      9,
-      Rows.any-gone
-          (Syntax.tyInt Syntax.w64),
-    ) (List._∷_ (10, Rows.any-gone (Syntax.tyInt Syntax.w64)) (List._∷_ (11, Rows.any-gone (Syntax.tyInt Syntax.w64)) (List._∷_ (
-      12,
-      Rows.any-gone
-          Syntax.tyBool,
-    ) (List._∷_ (13, Rows.any-gone (Syntax.tyInt Syntax.w64)) (List._∷_ (14, Rows.any-gone (Syntax.tyInt Syntax.w64)) (List._∷_ (
-      15,
-      Rows.any-gone (Syntax.tyRef
-          Syntax.erased Syntax.mut (Syntax.tyInt Syntax.w8)),
-    ) List.[])))))))))))))))
+    ) (List._∷_ (
+      8,
+      Rows.any-gone (Syntax.tyEnum (List._∷_ 104 (List._∷_ 101 (List._∷_ 97
+          (List._∷_ 100 (List._∷_ 101 (List._∷_ 114 (List._∷_ 58 (List._∷_ 58 (List._∷_ 110 (List._∷_ 117 (List._∷_ 109 (List._∷_ 98 (List._∷_ 101 (List._∷_ 114 (List._∷_ 105 (List._∷_
+          110 (List._∷_ 103 (List._∷_ 58 (List._∷_ 58 (List._∷_ 78 (List._∷_ 117 (List._∷_ 109 (List._∷_ 98 (List._∷_ 101 (List._∷_ 114 (List._∷_ 105 (List._∷_ 110 (List._∷_ 103
+          List.[])))))))))))))))))))))))))))) (Syntax.ttcons Syntax.tnil (Syntax.ttcons Syntax.tnil Syntax.ttnil))),
+    ) (List._∷_ (9, Rows.any-gone (Syntax.tyInt Syntax.w64)) (List._∷_ (
+      10,
+      Rows.any-gone (Syntax.tyInt Syntax.w64),
+    ) (List._∷_ (11, Rows.any-gone (Syntax.tyInt Syntax.w64)) (List._∷_ (12, Rows.any-gone (Syntax.tyInt Syntax.w64)) (List._∷_ (
+      13,
+      Rows.any-gone Syntax.tyBool,
+    ) (List._∷_ (14, Rows.any-gone (Syntax.tyInt Syntax.w64)) (List._∷_ (15, Rows.any-gone (Syntax.tyInt Syntax.w64)) List.[])))))))))))))))
 
 abbrev pub t13 : List.List Row.Entry
 t13 = List._∷_ (
@@ -1184,7 +1228,7 @@ t13 = List._∷_ (
   1,
   Rows.sslice
       (Referent.rtF (Referent.fInt Syntax.w8)) (Syntax.tyRef (Syntax.named 0) Syntax.imm (Syntax.tyInt Syntax.w8)) 0,
-) (List._∷_ (2, Rows.whole (Declared.row Numbering.the-type))
+) (List._∷_ (2, Rows.whole (Declared'.row Reading.the-type))
     (List._∷_ (3, Mut.mslice LentTilePartEntry.row (Syntax.tyRef (Syntax.named 1) Syntax.mut LentTilePartEntry.pointee) 1) (List._∷_ (
       4,
       Mut.mslice (Referent.rtF (Referent.fInt
@@ -1203,19 +1247,19 @@ t13 = List._∷_ (
       Rows.any-gone (Syntax.tyStruct (List._∷_ 116 (List._∷_ 121 (List._∷_ 112 (List._∷_ 101 (List._∷_ 115 (List._∷_ 58 (List._∷_ 58 (List._∷_ 67 (List._∷_ 111 (List._∷_ 100
           (List._∷_ 101 (List._∷_ 115 (List._∷_ 116 (List._∷_ 114 (List._∷_ 101 (List._∷_ 97 (List._∷_ 109 (List._∷_ 79 (List._∷_ 102 (List._∷_ 102 (List._∷_ 115 (List._∷_ 101 (List._∷_
           116 List.[]))))))))))))))))))))))) (Syntax.tcons (Syntax.tyInt Syntax.w64) Syntax.tnil)),
-    ) (List._∷_ (8, Rows.any-gone (Syntax.tyInt Syntax.w64)) (List._∷_ (
-      9,
-      Rows.any-gone
-          (Syntax.tyInt Syntax.w64),
-    ) (List._∷_ (10, Rows.any-gone (Syntax.tyInt Syntax.w64)) (List._∷_ (11, Rows.any-gone (Syntax.tyInt Syntax.w64)) (List._∷_ (
-      12,
-      Rows.any-gone
-          Syntax.tyBool,
-    ) (List._∷_ (13, Rows.any-gone (Syntax.tyInt Syntax.w64)) (List._∷_ (14, Rows.any-gone (Syntax.tyInt Syntax.w64)) (List._∷_ (
-      15,
-      Rows.any-gone (Syntax.tyRef
-          Syntax.erased Syntax.mut (Syntax.tyInt Syntax.w8)),
-    ) List.[])))))))))))))))
+    ) (List._∷_ (
+      8,
+      Rows.any-gone (Syntax.tyEnum (List._∷_ 104 (List._∷_ 101 (List._∷_ 97
+          (List._∷_ 100 (List._∷_ 101 (List._∷_ 114 (List._∷_ 58 (List._∷_ 58 (List._∷_ 110 (List._∷_ 117 (List._∷_ 109 (List._∷_ 98 (List._∷_ 101 (List._∷_ 114 (List._∷_ 105 (List._∷_
+          110 (List._∷_ 103 (List._∷_ 58 (List._∷_ 58 (List._∷_ 78 (List._∷_ 117 (List._∷_ 109 (List._∷_ 98 (List._∷_ 101 (List._∷_ 114 (List._∷_ 105 (List._∷_ 110 (List._∷_ 103
+          List.[])))))))))))))))))))))))))))) (Syntax.ttcons Syntax.tnil (Syntax.ttcons Syntax.tnil Syntax.ttnil))),
+    ) (List._∷_ (9, Rows.any-gone (Syntax.tyInt Syntax.w64)) (List._∷_ (
+      10,
+      Rows.any-gone (Syntax.tyInt Syntax.w64),
+    ) (List._∷_ (11, Rows.any-gone (Syntax.tyInt Syntax.w64)) (List._∷_ (12, Rows.any-gone (Syntax.tyInt Syntax.w64)) (List._∷_ (
+      13,
+      Rows.any-gone Syntax.tyBool,
+    ) (List._∷_ (14, Rows.any-gone (Syntax.tyInt Syntax.w64)) (List._∷_ (15, Rows.any-gone (Syntax.tyInt Syntax.w64)) List.[])))))))))))))))
 
 abbrev pub t14 : List.List Row.Entry
 t14 = List._∷_ (
@@ -1235,7 +1279,7 @@ t14 = List._∷_ (
   1,
   Rows.sslice
       (Referent.rtF (Referent.fInt Syntax.w8)) (Syntax.tyRef (Syntax.named 0) Syntax.imm (Syntax.tyInt Syntax.w8)) 0,
-) (List._∷_ (2, Rows.whole (Declared.row Numbering.the-type))
+) (List._∷_ (2, Rows.whole (Declared'.row Reading.the-type))
     (List._∷_ (3, Mut.mslice LentTilePartEntry.row (Syntax.tyRef (Syntax.named 1) Syntax.mut LentTilePartEntry.pointee) 1) (List._∷_ (
       4,
       Mut.mslice (Referent.rtF (Referent.fInt
@@ -1252,16 +1296,20 @@ t14 = List._∷_ (
     ) (List._∷_ (
       8,
       Rows.any-gone
-          (Syntax.tyInt Syntax.w64),
-    ) (List._∷_ (9, Rows.any-gone (Syntax.tyInt Syntax.w64)) (List._∷_ (10, Rows.any-gone (Syntax.tyInt Syntax.w64)) (List._∷_ (
-      11,
+          (Syntax.tyEnum (List._∷_ 104 (List._∷_ 101 (List._∷_ 97 (List._∷_ 100 (List._∷_ 101 (List._∷_ 114 (List._∷_ 58 (List._∷_ 58 (List._∷_ 110 (List._∷_ 117 (List._∷_ 109 (List._∷_
+          98 (List._∷_ 101 (List._∷_ 114 (List._∷_ 105 (List._∷_ 110 (List._∷_ 103 (List._∷_ 58 (List._∷_ 58 (List._∷_ 78 (List._∷_ 117 (List._∷_ 109 (List._∷_ 98 (List._∷_ 101 (List._∷_
+          114 (List._∷_ 105 (List._∷_ 110 (List._∷_ 103 List.[])))))))))))))))))))))))))))) (Syntax.ttcons Syntax.tnil (Syntax.ttcons Syntax.tnil Syntax.ttnil))),
+    ) (List._∷_ (
+      9,
+      Rows.any-gone (Syntax.tyInt Syntax.w64),
+    ) (List._∷_ (10, Rows.any-gone (Syntax.tyInt Syntax.w64)) (List._∷_ (11, Rows.any-gone (Syntax.tyInt Syntax.w64)) (List._∷_ (
+      12,
+      Rows.any-gone (Syntax.tyInt Syntax.w64),
+    ) (List._∷_ (13, Rows.any-gone Syntax.tyBool) (List._∷_ (14, Rows.any-gone (Syntax.tyInt Syntax.w64)) (List._∷_ (
+      15,
       Rows.any-gone
           (Syntax.tyInt Syntax.w64),
-    ) (List._∷_ (12, Rows.any-gone Syntax.tyBool) (List._∷_ (13, Rows.any-gone (Syntax.tyInt Syntax.w64)) (List._∷_ (
-      14,
-      Rows.any-gone (Syntax.tyInt
-          Syntax.w64),
-    ) (List._∷_ (15, Rows.any-gone (Syntax.tyRef Syntax.erased Syntax.mut (Syntax.tyInt Syntax.w8))) List.[])))))))))))))))
+    ) List.[])))))))))))))))
 
 abbrev pub t15 : List.List Row.Entry
 t15 = List._∷_ (
@@ -1283,10 +1331,15 @@ t15 = List._∷_ (
       (Referent.rtF (Referent.fInt Syntax.w8)) (Syntax.tyRef (Syntax.named 0) Syntax.imm (Syntax.tyInt Syntax.w8)) 0,
 ) (List._∷_ (
   2,
-  Rows.any-gone (Syntax.tyEnum (List._∷_ 104
-      (List._∷_ 101 (List._∷_ 97 (List._∷_ 100 (List._∷_ 101 (List._∷_ 114 (List._∷_ 58 (List._∷_ 58 (List._∷_ 110 (List._∷_ 117 (List._∷_ 109 (List._∷_ 98 (List._∷_ 101 (List._∷_
-      114 (List._∷_ 105 (List._∷_ 110 (List._∷_ 103 (List._∷_ 58 (List._∷_ 58 (List._∷_ 78 (List._∷_ 117 (List._∷_ 109 (List._∷_ 98 (List._∷_ 101 (List._∷_ 114 (List._∷_ 105
-      (List._∷_ 110 (List._∷_ 103 List.[])))))))))))))))))))))))))))) (Syntax.ttcons Syntax.tnil (Syntax.ttcons Syntax.tnil Syntax.ttnil))),
+  Rows.any-gone (Syntax.tyStruct (List._∷_ 104
+      (List._∷_ 101 (List._∷_ 97 (List._∷_ 100 (List._∷_ 101 (List._∷_ 114 (List._∷_ 58 (List._∷_ 58 (List._∷_ 114 (List._∷_ 101 (List._∷_ 97 (List._∷_ 100 (List._∷_ 105 (List._∷_
+      110 (List._∷_ 103 (List._∷_ 58 (List._∷_ 58 (List._∷_ 82 (List._∷_ 101 (List._∷_ 97 (List._∷_ 100 (List._∷_ 105 (List._∷_ 110 (List._∷_ 103 List.[]))))))))))))))))))))))))
+      (Syntax.tcons (Syntax.tyEnum (List._∷_ 104 (List._∷_ 101 (List._∷_ 97 (List._∷_ 100 (List._∷_ 101 (List._∷_ 114 (List._∷_ 58 (List._∷_ 58 (List._∷_ 110 (List._∷_ 117 (List._∷_
+      109 (List._∷_ 98 (List._∷_ 101 (List._∷_ 114 (List._∷_ 105 (List._∷_ 110 (List._∷_ 103 (List._∷_ 58 (List._∷_ 58 (List._∷_ 78 (List._∷_ 117 (List._∷_ 109 (List._∷_ 98 (List._∷_
+      101 (List._∷_ 114 (List._∷_ 105 (List._∷_ 110 (List._∷_ 103 List.[])))))))))))))))))))))))))))) (Syntax.ttcons Syntax.tnil (Syntax.ttcons Syntax.tnil Syntax.ttnil)))
+      (Syntax.tcons (Syntax.tyEnum (List._∷_ 104 (List._∷_ 101 (List._∷_ 97 (List._∷_ 100 (List._∷_ 101 (List._∷_ 114 (List._∷_ 58 (List._∷_ 58 (List._∷_ 101 (List._∷_ 100 (List._∷_
+      105 (List._∷_ 116 (List._∷_ 105 (List._∷_ 111 (List._∷_ 110 (List._∷_ 58 (List._∷_ 58 (List._∷_ 69 (List._∷_ 100 (List._∷_ 105 (List._∷_ 116 (List._∷_ 105 (List._∷_ 111
+      (List._∷_ 110 List.[])))))))))))))))))))))))) (Syntax.ttcons Syntax.tnil (Syntax.ttcons Syntax.tnil Syntax.ttnil))) Syntax.tnil))),
 ) (List._∷_ (
   3,
   Mut.mslice
@@ -1310,18 +1363,20 @@ t15 = List._∷_ (
       (List._∷_ 121 (List._∷_ 112 (List._∷_ 101 (List._∷_ 115 (List._∷_ 58 (List._∷_ 58 (List._∷_ 67 (List._∷_ 111 (List._∷_ 100 (List._∷_ 101 (List._∷_ 115 (List._∷_ 116 (List._∷_
       114 (List._∷_ 101 (List._∷_ 97 (List._∷_ 109 (List._∷_ 79 (List._∷_ 102 (List._∷_ 102 (List._∷_ 115 (List._∷_ 101 (List._∷_ 116 List.[]))))))))))))))))))))))) (Syntax.tcons
       (Syntax.tyInt Syntax.w64) Syntax.tnil)),
-) (List._∷_ (8, Rows.any-gone (Syntax.tyInt Syntax.w64)) (List._∷_ (9, Rows.any-gone (Syntax.tyInt Syntax.w64)) (List._∷_ (
-  10,
+) (List._∷_ (
+  8,
+  Rows.any-gone (Syntax.tyEnum (List._∷_ 104 (List._∷_ 101 (List._∷_ 97 (List._∷_ 100 (List._∷_ 101 (List._∷_ 114 (List._∷_
+      58 (List._∷_ 58 (List._∷_ 110 (List._∷_ 117 (List._∷_ 109 (List._∷_ 98 (List._∷_ 101 (List._∷_ 114 (List._∷_ 105 (List._∷_ 110 (List._∷_ 103 (List._∷_ 58 (List._∷_ 58 (List._∷_
+      78 (List._∷_ 117 (List._∷_ 109 (List._∷_ 98 (List._∷_ 101 (List._∷_ 114 (List._∷_ 105 (List._∷_ 110 (List._∷_ 103 List.[])))))))))))))))))))))))))))) (Syntax.ttcons Syntax.tnil
+      (Syntax.ttcons Syntax.tnil Syntax.ttnil))),
+) (List._∷_ (9, Rows.any-gone (Syntax.tyInt Syntax.w64)) (List._∷_ (10, Rows.any-gone (Syntax.tyInt Syntax.w64)) (List._∷_ (
+  11,
   Rows.any-gone (Syntax.tyInt Syntax.w64),
-) (List._∷_ (11, Rows.any-gone (Syntax.tyInt Syntax.w64)) (List._∷_ (12, Rows.any-gone Syntax.tyBool) (List._∷_ (
-  13,
+) (List._∷_ (12, Rows.any-gone (Syntax.tyInt Syntax.w64)) (List._∷_ (13, Rows.any-gone Syntax.tyBool) (List._∷_ (
+  14,
   Rows.any-gone
       (Syntax.tyInt Syntax.w64),
-) (List._∷_ (14, Rows.any-gone (Syntax.tyInt Syntax.w64)) (List._∷_ (
-  15,
-  Rows.any-gone (Syntax.tyRef Syntax.erased Syntax.mut (Syntax.tyInt
-      Syntax.w8)),
-) List.[])))))))))))))))
+) (List._∷_ (15, Rows.any-gone (Syntax.tyInt Syntax.w64)) List.[])))))))))))))))
 
 abbrev pub t16 : List.List Row.Entry
 t16 = List._∷_ (0, Rows.whole (Declared.row MainHeader.the-type)) (List._∷_ (
@@ -1330,22 +1385,28 @@ t16 = List._∷_ (0, Rows.whole (Declared.row MainHeader.the-type)) (List._∷_ 
       (Syntax.tyInt Syntax.w8)) 0,
 ) (List._∷_ (
   2,
-  Rows.any-gone (Syntax.tyEnum (List._∷_ 104 (List._∷_ 101 (List._∷_ 97 (List._∷_ 100 (List._∷_ 101 (List._∷_ 114 (List._∷_ 58
-      (List._∷_ 58 (List._∷_ 110 (List._∷_ 117 (List._∷_ 109 (List._∷_ 98 (List._∷_ 101 (List._∷_ 114 (List._∷_ 105 (List._∷_ 110 (List._∷_ 103 (List._∷_ 58 (List._∷_ 58 (List._∷_ 78
-      (List._∷_ 117 (List._∷_ 109 (List._∷_ 98 (List._∷_ 101 (List._∷_ 114 (List._∷_ 105 (List._∷_ 110 (List._∷_ 103 List.[])))))))))))))))))))))))))))) (Syntax.ttcons Syntax.tnil
-      (Syntax.ttcons Syntax.tnil Syntax.ttnil))),
-) (List._∷_ (3, Mut.mslice LentTilePartEntry.row (Syntax.tyRef (Syntax.named 1) Syntax.mut LentTilePartEntry.pointee) 1) (List._∷_ (
-  4,
-  Mut.mslice (Referent.rtF (Referent.fInt Syntax.w8)) (Syntax.tyRef (Syntax.named 2) Syntax.mut (Syntax.tyInt Syntax.w8)) 2,
+  Rows.any-gone (Syntax.tyStruct (List._∷_ 104 (List._∷_ 101 (List._∷_ 97 (List._∷_ 100 (List._∷_ 101 (List._∷_ 114 (List._∷_ 58
+      (List._∷_ 58 (List._∷_ 114 (List._∷_ 101 (List._∷_ 97 (List._∷_ 100 (List._∷_ 105 (List._∷_ 110 (List._∷_ 103 (List._∷_ 58 (List._∷_ 58 (List._∷_ 82 (List._∷_ 101 (List._∷_ 97
+      (List._∷_ 100 (List._∷_ 105 (List._∷_ 110 (List._∷_ 103 List.[])))))))))))))))))))))))) (Syntax.tcons (Syntax.tyEnum (List._∷_ 104 (List._∷_ 101 (List._∷_ 97 (List._∷_ 100
+      (List._∷_ 101 (List._∷_ 114 (List._∷_ 58 (List._∷_ 58 (List._∷_ 110 (List._∷_ 117 (List._∷_ 109 (List._∷_ 98 (List._∷_ 101 (List._∷_ 114 (List._∷_ 105 (List._∷_ 110 (List._∷_
+      103 (List._∷_ 58 (List._∷_ 58 (List._∷_ 78 (List._∷_ 117 (List._∷_ 109 (List._∷_ 98 (List._∷_ 101 (List._∷_ 114 (List._∷_ 105 (List._∷_ 110 (List._∷_ 103
+      List.[])))))))))))))))))))))))))))) (Syntax.ttcons Syntax.tnil (Syntax.ttcons Syntax.tnil Syntax.ttnil))) (Syntax.tcons (Syntax.tyEnum (List._∷_ 104 (List._∷_ 101 (List._∷_ 97
+      (List._∷_ 100 (List._∷_ 101 (List._∷_ 114 (List._∷_ 58 (List._∷_ 58 (List._∷_ 101 (List._∷_ 100 (List._∷_ 105 (List._∷_ 116 (List._∷_ 105 (List._∷_ 111 (List._∷_ 110 (List._∷_
+      58 (List._∷_ 58 (List._∷_ 69 (List._∷_ 100 (List._∷_ 105 (List._∷_ 116 (List._∷_ 105 (List._∷_ 111 (List._∷_ 110 List.[])))))))))))))))))))))))) (Syntax.ttcons Syntax.tnil
+      (Syntax.ttcons Syntax.tnil Syntax.ttnil))) Syntax.tnil))),
 ) (List._∷_ (
+  3,
+  Mut.mslice LentTilePartEntry.row (Syntax.tyRef (Syntax.named 1) Syntax.mut LentTilePartEntry.pointee)
+      1,
+) (List._∷_ (4, Mut.mslice (Referent.rtF (Referent.fInt Syntax.w8)) (Syntax.tyRef (Syntax.named 2) Syntax.mut (Syntax.tyInt Syntax.w8)) 2) (List._∷_ (
   5,
-  Rows.whole (Declared.row
-      MainHeader.the-type),
+  Rows.whole
+      (Declared.row MainHeader.the-type),
 ) (List._∷_ (
   6,
-  Rows.any-gone (Syntax.tyStruct (List._∷_ 104 (List._∷_ 101 (List._∷_ 97 (List._∷_ 100 (List._∷_ 101 (List._∷_ 114 (List._∷_ 58 (List._∷_ 58
-      (List._∷_ 112 (List._∷_ 97 (List._∷_ 114 (List._∷_ 115 (List._∷_ 101 (List._∷_ 58 (List._∷_ 58 (List._∷_ 77 (List._∷_ 97 (List._∷_ 105 (List._∷_ 110 (List._∷_ 72 (List._∷_ 101
-      (List._∷_ 97 (List._∷_ 100 (List._∷_ 101 (List._∷_ 114 (List._∷_ 73 (List._∷_ 110 (List._∷_ 102 (List._∷_ 111 List.[]))))))))))))))))))))))))))))) (Syntax.tcons
+  Rows.any-gone (Syntax.tyStruct (List._∷_ 104 (List._∷_ 101 (List._∷_ 97 (List._∷_ 100 (List._∷_ 101 (List._∷_ 114 (List._∷_ 58
+      (List._∷_ 58 (List._∷_ 112 (List._∷_ 97 (List._∷_ 114 (List._∷_ 115 (List._∷_ 101 (List._∷_ 58 (List._∷_ 58 (List._∷_ 77 (List._∷_ 97 (List._∷_ 105 (List._∷_ 110 (List._∷_ 72
+      (List._∷_ 101 (List._∷_ 97 (List._∷_ 100 (List._∷_ 101 (List._∷_ 114 (List._∷_ 73 (List._∷_ 110 (List._∷_ 102 (List._∷_ 111 List.[]))))))))))))))))))))))))))))) (Syntax.tcons
       (Syntax.tyStruct (List._∷_ 116 (List._∷_ 121 (List._∷_ 112 (List._∷_ 101 (List._∷_ 115 (List._∷_ 58 (List._∷_ 58 (List._∷_ 67 (List._∷_ 111 (List._∷_ 100 (List._∷_ 101
       (List._∷_ 115 (List._∷_ 116 (List._∷_ 114 (List._∷_ 101 (List._∷_ 97 (List._∷_ 109 (List._∷_ 79 (List._∷_ 102 (List._∷_ 102 (List._∷_ 115 (List._∷_ 101 (List._∷_ 116
       List.[]))))))))))))))))))))))) (Syntax.tcons (Syntax.tyInt Syntax.w64) Syntax.tnil)) (Syntax.tcons (Syntax.tyInt Syntax.w64) (Syntax.tcons (Syntax.tyInt Syntax.w64)
@@ -1357,15 +1418,18 @@ t16 = List._∷_ (0, Rows.whole (Declared.row MainHeader.the-type)) (List._∷_ 
       (List._∷_ 102 (List._∷_ 102 (List._∷_ 115 (List._∷_ 101 (List._∷_ 116 List.[]))))))))))))))))))))))) (Syntax.tcons (Syntax.tyInt Syntax.w64) Syntax.tnil)),
 ) (List._∷_ (
   8,
-  Rows.any-gone (Syntax.tyInt Syntax.w64),
-) (List._∷_ (9, Rows.any-gone (Syntax.tyInt Syntax.w64)) (List._∷_ (10, Rows.any-gone (Syntax.tyInt Syntax.w64)) (List._∷_ (
-  11,
-  Rows.any-gone (Syntax.tyInt Syntax.w64),
-) (List._∷_ (12, Rows.any-gone Syntax.tyBool) (List._∷_ (13, Rows.any-gone (Syntax.tyInt Syntax.w64)) (List._∷_ (
-  14,
-  Rows.any-gone
-      (Syntax.tyInt Syntax.w64),
-) (List._∷_ (15, Rows.any-gone (Syntax.tyRef Syntax.erased Syntax.mut (Syntax.tyInt Syntax.w8))) List.[])))))))))))))))
+  Rows.any-gone (Syntax.tyEnum (List._∷_ 104 (List._∷_ 101 (List._∷_ 97 (List._∷_ 100 (List._∷_ 101 (List._∷_ 114 (List._∷_ 58 (List._∷_ 58 (List._∷_ 110 (List._∷_ 117 (List._∷_
+      109 (List._∷_ 98 (List._∷_ 101 (List._∷_ 114 (List._∷_ 105 (List._∷_ 110 (List._∷_ 103 (List._∷_ 58 (List._∷_ 58 (List._∷_ 78 (List._∷_ 117 (List._∷_ 109 (List._∷_ 98 (List._∷_
+      101 (List._∷_ 114 (List._∷_ 105 (List._∷_ 110 (List._∷_ 103 List.[])))))))))))))))))))))))))))) (Syntax.ttcons Syntax.tnil (Syntax.ttcons Syntax.tnil Syntax.ttnil))),
+) (List._∷_
+    (9, Rows.any-gone (Syntax.tyInt Syntax.w64)) (List._∷_ (10, Rows.any-gone (Syntax.tyInt Syntax.w64)) (List._∷_ (11, Rows.any-gone (Syntax.tyInt Syntax.w64)) (List._∷_ (
+      12,
+      Rows.any-gone (Syntax.tyInt Syntax.w64),
+    ) (List._∷_ (13, Rows.any-gone Syntax.tyBool) (List._∷_ (14, Rows.any-gone (Syntax.tyInt Syntax.w64)) (List._∷_ (
+      15,
+      Rows.any-gone
+          (Syntax.tyInt Syntax.w64),
+    ) List.[])))))))))))))))
 
 abbrev pub t17 : List.List Row.Entry
 t17 = List._∷_ (
@@ -1385,7 +1449,7 @@ t17 = List._∷_ (
   1,
   Rows.sslice
       (Referent.rtF (Referent.fInt Syntax.w8)) (Syntax.tyRef (Syntax.named 0) Syntax.imm (Syntax.tyInt Syntax.w8)) 0,
-) (List._∷_ (2, Rows.whole (Declared.row Numbering.the-type))
+) (List._∷_ (2, Rows.whole (Declared'.row Reading.the-type))
     (List._∷_ (3, Mut.mslice LentTilePartEntry.row (Syntax.tyRef (Syntax.named 1) Syntax.mut LentTilePartEntry.pointee) 1) (List._∷_ (
       4,
       Mut.mslice (Referent.rtF (Referent.fInt
@@ -1394,15 +1458,22 @@ t17 = List._∷_ (
       6,
       Rows.whole
           (Declared'.row MainHeaderInfo.the-type),
-    ) (List._∷_ (7, Rows.whole (Declared'.row CodestreamOffset.the-type)) (List._∷_ (8, Rows.any-gone (Syntax.tyInt Syntax.w64)) (List._∷_
-    (9, Rows.any-gone (Syntax.tyInt Syntax.w64)) (List._∷_ (10, Rows.any-gone (Syntax.tyInt Syntax.w64)) (List._∷_ (11, Rows.any-gone (Syntax.tyInt Syntax.w64)) (List._∷_ (
+    ) (List._∷_ (7, Rows.whole (Declared'.row CodestreamOffset.the-type)) (List._∷_ (
+      8,
+      Rows.any-gone (Syntax.tyEnum (List._∷_ 104 (List._∷_
+          101 (List._∷_ 97 (List._∷_ 100 (List._∷_ 101 (List._∷_ 114 (List._∷_ 58 (List._∷_ 58 (List._∷_ 110 (List._∷_ 117 (List._∷_ 109 (List._∷_ 98 (List._∷_ 101 (List._∷_ 114
+          (List._∷_ 105 (List._∷_ 110 (List._∷_ 103 (List._∷_ 58 (List._∷_ 58 (List._∷_ 78 (List._∷_ 117 (List._∷_ 109 (List._∷_ 98 (List._∷_ 101 (List._∷_ 114 (List._∷_ 105 (List._∷_
+          110 (List._∷_ 103 List.[])))))))))))))))))))))))))))) (Syntax.ttcons Syntax.tnil (Syntax.ttcons Syntax.tnil Syntax.ttnil))),
+    ) (List._∷_ (
+      9,
+      Rows.any-gone (Syntax.tyInt
+          Syntax.w64),
+    ) (List._∷_ (10, Rows.any-gone (Syntax.tyInt Syntax.w64)) (List._∷_ (11, Rows.any-gone (Syntax.tyInt Syntax.w64)) (List._∷_ (
       12,
-      Rows.any-gone Syntax.tyBool,
-    ) (List._∷_ (13, Rows.any-gone (Syntax.tyInt Syntax.w64)) (List._∷_ (14, Rows.any-gone (Syntax.tyInt Syntax.w64)) (List._∷_ (
-      15,
-      Rows.any-gone
-          (Syntax.tyRef Syntax.erased Syntax.mut (Syntax.tyInt Syntax.w8)),
-    ) List.[])))))))))))))))
+      Rows.any-gone (Syntax.tyInt
+          Syntax.w64),
+    ) (List._∷_ (13, Rows.any-gone Syntax.tyBool) (List._∷_ (14, Rows.any-gone (Syntax.tyInt Syntax.w64)) (List._∷_ (15, Rows.any-gone (Syntax.tyInt Syntax.w64))
+    List.[])))))))))))))))
 
 abbrev pub t18 : List.List Row.Entry
 t18 = List._∷_ (
@@ -1422,7 +1493,7 @@ t18 = List._∷_ (
   1,
   Rows.sslice
       (Referent.rtF (Referent.fInt Syntax.w8)) (Syntax.tyRef (Syntax.named 0) Syntax.imm (Syntax.tyInt Syntax.w8)) 0,
-) (List._∷_ (2, Rows.whole (Declared.row Numbering.the-type))
+) (List._∷_ (2, Rows.whole (Declared'.row Reading.the-type))
     (List._∷_ (3, Mut.mslice LentTilePartEntry.row (Syntax.tyRef (Syntax.named 1) Syntax.mut LentTilePartEntry.pointee) 1) (List._∷_ (
       4,
       Mut.mslice (Referent.rtF (Referent.fInt
@@ -1431,15 +1502,22 @@ t18 = List._∷_ (
       6,
       Rows.whole
           (Declared'.row MainHeaderInfo.the-type),
-    ) (List._∷_ (7, Rows.whole (Declared'.row CodestreamOffset.the-type)) (List._∷_ (8, Rows.any-gone (Syntax.tyInt Syntax.w64)) (List._∷_
-    (9, Rows.any-gone (Syntax.tyInt Syntax.w64)) (List._∷_ (10, Rows.any-gone (Syntax.tyInt Syntax.w64)) (List._∷_ (11, Rows.any-gone (Syntax.tyInt Syntax.w64)) (List._∷_ (
+    ) (List._∷_ (7, Rows.whole (Declared'.row CodestreamOffset.the-type)) (List._∷_ (
+      8,
+      Rows.any-gone (Syntax.tyEnum (List._∷_ 104 (List._∷_
+          101 (List._∷_ 97 (List._∷_ 100 (List._∷_ 101 (List._∷_ 114 (List._∷_ 58 (List._∷_ 58 (List._∷_ 110 (List._∷_ 117 (List._∷_ 109 (List._∷_ 98 (List._∷_ 101 (List._∷_ 114
+          (List._∷_ 105 (List._∷_ 110 (List._∷_ 103 (List._∷_ 58 (List._∷_ 58 (List._∷_ 78 (List._∷_ 117 (List._∷_ 109 (List._∷_ 98 (List._∷_ 101 (List._∷_ 114 (List._∷_ 105 (List._∷_
+          110 (List._∷_ 103 List.[])))))))))))))))))))))))))))) (Syntax.ttcons Syntax.tnil (Syntax.ttcons Syntax.tnil Syntax.ttnil))),
+    ) (List._∷_ (
+      9,
+      Rows.any-gone (Syntax.tyInt
+          Syntax.w64),
+    ) (List._∷_ (10, Rows.any-gone (Syntax.tyInt Syntax.w64)) (List._∷_ (11, Rows.any-gone (Syntax.tyInt Syntax.w64)) (List._∷_ (
       12,
-      Rows.sc-here Row.sBool,
-    ) (List._∷_ (13, Rows.any-gone (Syntax.tyInt Syntax.w64)) (List._∷_ (14, Rows.any-gone (Syntax.tyInt Syntax.w64)) (List._∷_ (
-      15,
-      Rows.any-gone
-          (Syntax.tyRef Syntax.erased Syntax.mut (Syntax.tyInt Syntax.w8)),
-    ) List.[])))))))))))))))
+      Rows.any-gone (Syntax.tyInt
+          Syntax.w64),
+    ) (List._∷_ (13, Rows.sc-here Row.sBool) (List._∷_ (14, Rows.any-gone (Syntax.tyInt Syntax.w64)) (List._∷_ (15, Rows.any-gone (Syntax.tyInt Syntax.w64))
+    List.[])))))))))))))))
 
 abbrev pub t19 : List.List Row.Entry
 t19 = List._∷_ (
@@ -1459,7 +1537,7 @@ t19 = List._∷_ (
   1,
   Rows.sslice
       (Referent.rtF (Referent.fInt Syntax.w8)) (Syntax.tyRef (Syntax.named 0) Syntax.imm (Syntax.tyInt Syntax.w8)) 0,
-) (List._∷_ (2, Rows.whole (Declared.row Numbering.the-type))
+) (List._∷_ (2, Rows.whole (Declared'.row Reading.the-type))
     (List._∷_ (3, Mut.mslice LentTilePartEntry.row (Syntax.tyRef (Syntax.named 1) Syntax.mut LentTilePartEntry.pointee) 1) (List._∷_ (
       4,
       Mut.mslice (Referent.rtF (Referent.fInt
@@ -1477,18 +1555,18 @@ t19 = List._∷_ (
       7,
       Rows.whole
           (Declared'.row CodestreamOffset.the-type),
-    ) (List._∷_ (8, Rows.any-gone (Syntax.tyInt Syntax.w64)) (List._∷_ (9, Rows.any-gone (Syntax.tyInt Syntax.w64)) (List._∷_ (
-      10,
-      Rows.any-gone (Syntax.tyInt Syntax.w64),
-    ) (List._∷_ (11, Rows.any-gone (Syntax.tyInt Syntax.w64)) (List._∷_ (12, Rows.any-gone Syntax.tyBool) (List._∷_ (
-      13,
+    ) (List._∷_ (
+      8,
+      Rows.any-gone (Syntax.tyEnum (List._∷_ 104 (List._∷_ 101 (List._∷_ 97 (List._∷_ 100 (List._∷_ 101 (List._∷_ 114
+          (List._∷_ 58 (List._∷_ 58 (List._∷_ 110 (List._∷_ 117 (List._∷_ 109 (List._∷_ 98 (List._∷_ 101 (List._∷_ 114 (List._∷_ 105 (List._∷_ 110 (List._∷_ 103 (List._∷_ 58 (List._∷_ 58
+          (List._∷_ 78 (List._∷_ 117 (List._∷_ 109 (List._∷_ 98 (List._∷_ 101 (List._∷_ 114 (List._∷_ 105 (List._∷_ 110 (List._∷_ 103 List.[])))))))))))))))))))))))))))) (Syntax.ttcons
+          Syntax.tnil (Syntax.ttcons Syntax.tnil Syntax.ttnil))),
+    ) (List._∷_ (9, Rows.any-gone (Syntax.tyInt Syntax.w64)) (List._∷_ (10, Rows.any-gone (Syntax.tyInt Syntax.w64)) (List._∷_
+    (11, Rows.any-gone (Syntax.tyInt Syntax.w64)) (List._∷_ (12, Rows.any-gone (Syntax.tyInt Syntax.w64)) (List._∷_ (13, Rows.any-gone Syntax.tyBool) (List._∷_ (
+      14,
       Rows.any-gone
           (Syntax.tyInt Syntax.w64),
-    ) (List._∷_ (14, Rows.any-gone (Syntax.tyInt Syntax.w64)) (List._∷_ (
-      15,
-      Rows.any-gone (Syntax.tyRef Syntax.erased Syntax.mut (Syntax.tyInt
-          Syntax.w8)),
-    ) List.[])))))))))))))))
+    ) (List._∷_ (15, Rows.any-gone (Syntax.tyInt Syntax.w64)) List.[])))))))))))))))
 
 abbrev pub t20 : List.List Row.Entry
 t20 = List._∷_ (
@@ -1508,7 +1586,7 @@ t20 = List._∷_ (
   1,
   Rows.sslice
       (Referent.rtF (Referent.fInt Syntax.w8)) (Syntax.tyRef (Syntax.named 0) Syntax.imm (Syntax.tyInt Syntax.w8)) 0,
-) (List._∷_ (2, Rows.whole (Declared.row Numbering.the-type))
+) (List._∷_ (2, Rows.whole (Declared'.row Reading.the-type))
     (List._∷_ (3, Mut.mslice LentTilePartEntry.row (Syntax.tyRef (Syntax.named 1) Syntax.mut LentTilePartEntry.pointee) 1) (List._∷_ (
       4,
       Mut.mslice (Referent.rtF (Referent.fInt
@@ -1526,18 +1604,18 @@ t20 = List._∷_ (
       7,
       Rows.whole
           (Declared'.row CodestreamOffset.the-type),
-    ) (List._∷_ (8, Rows.any-gone (Syntax.tyInt Syntax.w64)) (List._∷_ (9, Rows.any-gone (Syntax.tyInt Syntax.w64)) (List._∷_ (
-      10,
-      Rows.any-gone (Syntax.tyInt Syntax.w64),
-    ) (List._∷_ (11, Rows.any-gone (Syntax.tyInt Syntax.w64)) (List._∷_ (12, Rows.sc-here Row.sBool) (List._∷_ (
-      13,
+    ) (List._∷_ (
+      8,
+      Rows.any-gone (Syntax.tyEnum (List._∷_ 104 (List._∷_ 101 (List._∷_ 97 (List._∷_ 100 (List._∷_ 101 (List._∷_ 114
+          (List._∷_ 58 (List._∷_ 58 (List._∷_ 110 (List._∷_ 117 (List._∷_ 109 (List._∷_ 98 (List._∷_ 101 (List._∷_ 114 (List._∷_ 105 (List._∷_ 110 (List._∷_ 103 (List._∷_ 58 (List._∷_ 58
+          (List._∷_ 78 (List._∷_ 117 (List._∷_ 109 (List._∷_ 98 (List._∷_ 101 (List._∷_ 114 (List._∷_ 105 (List._∷_ 110 (List._∷_ 103 List.[])))))))))))))))))))))))))))) (Syntax.ttcons
+          Syntax.tnil (Syntax.ttcons Syntax.tnil Syntax.ttnil))),
+    ) (List._∷_ (9, Rows.any-gone (Syntax.tyInt Syntax.w64)) (List._∷_ (10, Rows.any-gone (Syntax.tyInt Syntax.w64)) (List._∷_
+    (11, Rows.any-gone (Syntax.tyInt Syntax.w64)) (List._∷_ (12, Rows.any-gone (Syntax.tyInt Syntax.w64)) (List._∷_ (13, Rows.sc-here Row.sBool) (List._∷_ (
+      14,
       Rows.any-gone
           (Syntax.tyInt Syntax.w64),
-    ) (List._∷_ (14, Rows.any-gone (Syntax.tyInt Syntax.w64)) (List._∷_ (
-      15,
-      Rows.any-gone (Syntax.tyRef Syntax.erased Syntax.mut (Syntax.tyInt
-          Syntax.w8)),
-    ) List.[])))))))))))))))
+    ) (List._∷_ (15, Rows.any-gone (Syntax.tyInt Syntax.w64)) List.[])))))))))))))))
 
 abbrev pub t21 : List.List Row.Entry
 t21 = List._∷_ (
@@ -1559,10 +1637,15 @@ t21 = List._∷_ (
       (Referent.rtF (Referent.fInt Syntax.w8)) (Syntax.tyRef (Syntax.named 0) Syntax.imm (Syntax.tyInt Syntax.w8)) 0,
 ) (List._∷_ (
   2,
-  Rows.any-gone (Syntax.tyEnum (List._∷_ 104
-      (List._∷_ 101 (List._∷_ 97 (List._∷_ 100 (List._∷_ 101 (List._∷_ 114 (List._∷_ 58 (List._∷_ 58 (List._∷_ 110 (List._∷_ 117 (List._∷_ 109 (List._∷_ 98 (List._∷_ 101 (List._∷_
-      114 (List._∷_ 105 (List._∷_ 110 (List._∷_ 103 (List._∷_ 58 (List._∷_ 58 (List._∷_ 78 (List._∷_ 117 (List._∷_ 109 (List._∷_ 98 (List._∷_ 101 (List._∷_ 114 (List._∷_ 105
-      (List._∷_ 110 (List._∷_ 103 List.[])))))))))))))))))))))))))))) (Syntax.ttcons Syntax.tnil (Syntax.ttcons Syntax.tnil Syntax.ttnil))),
+  Rows.any-gone (Syntax.tyStruct (List._∷_ 104
+      (List._∷_ 101 (List._∷_ 97 (List._∷_ 100 (List._∷_ 101 (List._∷_ 114 (List._∷_ 58 (List._∷_ 58 (List._∷_ 114 (List._∷_ 101 (List._∷_ 97 (List._∷_ 100 (List._∷_ 105 (List._∷_
+      110 (List._∷_ 103 (List._∷_ 58 (List._∷_ 58 (List._∷_ 82 (List._∷_ 101 (List._∷_ 97 (List._∷_ 100 (List._∷_ 105 (List._∷_ 110 (List._∷_ 103 List.[]))))))))))))))))))))))))
+      (Syntax.tcons (Syntax.tyEnum (List._∷_ 104 (List._∷_ 101 (List._∷_ 97 (List._∷_ 100 (List._∷_ 101 (List._∷_ 114 (List._∷_ 58 (List._∷_ 58 (List._∷_ 110 (List._∷_ 117 (List._∷_
+      109 (List._∷_ 98 (List._∷_ 101 (List._∷_ 114 (List._∷_ 105 (List._∷_ 110 (List._∷_ 103 (List._∷_ 58 (List._∷_ 58 (List._∷_ 78 (List._∷_ 117 (List._∷_ 109 (List._∷_ 98 (List._∷_
+      101 (List._∷_ 114 (List._∷_ 105 (List._∷_ 110 (List._∷_ 103 List.[])))))))))))))))))))))))))))) (Syntax.ttcons Syntax.tnil (Syntax.ttcons Syntax.tnil Syntax.ttnil)))
+      (Syntax.tcons (Syntax.tyEnum (List._∷_ 104 (List._∷_ 101 (List._∷_ 97 (List._∷_ 100 (List._∷_ 101 (List._∷_ 114 (List._∷_ 58 (List._∷_ 58 (List._∷_ 101 (List._∷_ 100 (List._∷_
+      105 (List._∷_ 116 (List._∷_ 105 (List._∷_ 111 (List._∷_ 110 (List._∷_ 58 (List._∷_ 58 (List._∷_ 69 (List._∷_ 100 (List._∷_ 105 (List._∷_ 116 (List._∷_ 105 (List._∷_ 111
+      (List._∷_ 110 List.[])))))))))))))))))))))))) (Syntax.ttcons Syntax.tnil (Syntax.ttcons Syntax.tnil Syntax.ttnil))) Syntax.tnil))),
 ) (List._∷_ (
   3,
   Mut.mslice
@@ -1584,16 +1667,20 @@ t21 = List._∷_ (
   7,
   Rows.whole (Declared'.row
       CodestreamOffset.the-type),
-) (List._∷_ (8, Rows.any-gone (Syntax.tyInt Syntax.w64)) (List._∷_ (9, Rows.any-gone (Syntax.tyInt Syntax.w64)) (List._∷_ (
-  10,
+) (List._∷_ (
+  8,
+  Rows.any-gone (Syntax.tyEnum (List._∷_ 104 (List._∷_ 101 (List._∷_ 97 (List._∷_ 100 (List._∷_ 101 (List._∷_ 114 (List._∷_ 58 (List._∷_
+      58 (List._∷_ 110 (List._∷_ 117 (List._∷_ 109 (List._∷_ 98 (List._∷_ 101 (List._∷_ 114 (List._∷_ 105 (List._∷_ 110 (List._∷_ 103 (List._∷_ 58 (List._∷_ 58 (List._∷_ 78 (List._∷_
+      117 (List._∷_ 109 (List._∷_ 98 (List._∷_ 101 (List._∷_ 114 (List._∷_ 105 (List._∷_ 110 (List._∷_ 103 List.[])))))))))))))))))))))))))))) (Syntax.ttcons Syntax.tnil
+      (Syntax.ttcons Syntax.tnil Syntax.ttnil))),
+) (List._∷_ (9, Rows.any-gone (Syntax.tyInt Syntax.w64)) (List._∷_ (10, Rows.any-gone (Syntax.tyInt Syntax.w64)) (List._∷_ (
+  11,
+  Rows.any-gone (Syntax.tyInt Syntax.w64),
+) (List._∷_ (12, Rows.any-gone (Syntax.tyInt Syntax.w64)) (List._∷_ (13, Rows.sc-here Row.sBool) (List._∷_ (
+  14,
   Rows.any-gone
       (Syntax.tyInt Syntax.w64),
-) (List._∷_ (11, Rows.any-gone (Syntax.tyInt Syntax.w64)) (List._∷_ (12, Rows.sc-here Row.sBool) (List._∷_ (
-  13,
-  Rows.any-gone (Syntax.tyInt
-      Syntax.w64),
-) (List._∷_ (14, Rows.any-gone (Syntax.tyInt Syntax.w64)) (List._∷_ (15, Rows.any-gone (Syntax.tyRef Syntax.erased Syntax.mut (Syntax.tyInt Syntax.w8)))
-    List.[])))))))))))))))
+) (List._∷_ (15, Rows.any-gone (Syntax.tyInt Syntax.w64)) List.[])))))))))))))))
 
 abbrev pub t22 : List.List Row.Entry
 t22 = List._∷_ (
@@ -1615,10 +1702,15 @@ t22 = List._∷_ (
       (Referent.rtF (Referent.fInt Syntax.w8)) (Syntax.tyRef (Syntax.named 0) Syntax.imm (Syntax.tyInt Syntax.w8)) 0,
 ) (List._∷_ (
   2,
-  Rows.any-gone (Syntax.tyEnum (List._∷_ 104
-      (List._∷_ 101 (List._∷_ 97 (List._∷_ 100 (List._∷_ 101 (List._∷_ 114 (List._∷_ 58 (List._∷_ 58 (List._∷_ 110 (List._∷_ 117 (List._∷_ 109 (List._∷_ 98 (List._∷_ 101 (List._∷_
-      114 (List._∷_ 105 (List._∷_ 110 (List._∷_ 103 (List._∷_ 58 (List._∷_ 58 (List._∷_ 78 (List._∷_ 117 (List._∷_ 109 (List._∷_ 98 (List._∷_ 101 (List._∷_ 114 (List._∷_ 105
-      (List._∷_ 110 (List._∷_ 103 List.[])))))))))))))))))))))))))))) (Syntax.ttcons Syntax.tnil (Syntax.ttcons Syntax.tnil Syntax.ttnil))),
+  Rows.any-gone (Syntax.tyStruct (List._∷_ 104
+      (List._∷_ 101 (List._∷_ 97 (List._∷_ 100 (List._∷_ 101 (List._∷_ 114 (List._∷_ 58 (List._∷_ 58 (List._∷_ 114 (List._∷_ 101 (List._∷_ 97 (List._∷_ 100 (List._∷_ 105 (List._∷_
+      110 (List._∷_ 103 (List._∷_ 58 (List._∷_ 58 (List._∷_ 82 (List._∷_ 101 (List._∷_ 97 (List._∷_ 100 (List._∷_ 105 (List._∷_ 110 (List._∷_ 103 List.[]))))))))))))))))))))))))
+      (Syntax.tcons (Syntax.tyEnum (List._∷_ 104 (List._∷_ 101 (List._∷_ 97 (List._∷_ 100 (List._∷_ 101 (List._∷_ 114 (List._∷_ 58 (List._∷_ 58 (List._∷_ 110 (List._∷_ 117 (List._∷_
+      109 (List._∷_ 98 (List._∷_ 101 (List._∷_ 114 (List._∷_ 105 (List._∷_ 110 (List._∷_ 103 (List._∷_ 58 (List._∷_ 58 (List._∷_ 78 (List._∷_ 117 (List._∷_ 109 (List._∷_ 98 (List._∷_
+      101 (List._∷_ 114 (List._∷_ 105 (List._∷_ 110 (List._∷_ 103 List.[])))))))))))))))))))))))))))) (Syntax.ttcons Syntax.tnil (Syntax.ttcons Syntax.tnil Syntax.ttnil)))
+      (Syntax.tcons (Syntax.tyEnum (List._∷_ 104 (List._∷_ 101 (List._∷_ 97 (List._∷_ 100 (List._∷_ 101 (List._∷_ 114 (List._∷_ 58 (List._∷_ 58 (List._∷_ 101 (List._∷_ 100 (List._∷_
+      105 (List._∷_ 116 (List._∷_ 105 (List._∷_ 111 (List._∷_ 110 (List._∷_ 58 (List._∷_ 58 (List._∷_ 69 (List._∷_ 100 (List._∷_ 105 (List._∷_ 116 (List._∷_ 105 (List._∷_ 111
+      (List._∷_ 110 List.[])))))))))))))))))))))))) (Syntax.ttcons Syntax.tnil (Syntax.ttcons Syntax.tnil Syntax.ttnil))) Syntax.tnil))),
 ) (List._∷_ (
   3,
   Mut.mslice
@@ -1640,16 +1732,20 @@ t22 = List._∷_ (
   7,
   Rows.whole (Declared'.row
       CodestreamOffset.the-type),
-) (List._∷_ (8, Rows.any-gone (Syntax.tyInt Syntax.w64)) (List._∷_ (9, Rows.any-gone (Syntax.tyInt Syntax.w64)) (List._∷_ (
-  10,
+) (List._∷_ (
+  8,
+  Rows.any-gone (Syntax.tyEnum (List._∷_ 104 (List._∷_ 101 (List._∷_ 97 (List._∷_ 100 (List._∷_ 101 (List._∷_ 114 (List._∷_ 58 (List._∷_
+      58 (List._∷_ 110 (List._∷_ 117 (List._∷_ 109 (List._∷_ 98 (List._∷_ 101 (List._∷_ 114 (List._∷_ 105 (List._∷_ 110 (List._∷_ 103 (List._∷_ 58 (List._∷_ 58 (List._∷_ 78 (List._∷_
+      117 (List._∷_ 109 (List._∷_ 98 (List._∷_ 101 (List._∷_ 114 (List._∷_ 105 (List._∷_ 110 (List._∷_ 103 List.[])))))))))))))))))))))))))))) (Syntax.ttcons Syntax.tnil
+      (Syntax.ttcons Syntax.tnil Syntax.ttnil))),
+) (List._∷_ (9, Rows.any-gone (Syntax.tyInt Syntax.w64)) (List._∷_ (10, Rows.any-gone (Syntax.tyInt Syntax.w64)) (List._∷_ (
+  11,
+  Rows.any-gone (Syntax.tyInt Syntax.w64),
+) (List._∷_ (12, Rows.any-gone (Syntax.tyInt Syntax.w64)) (List._∷_ (13, Rows.any-gone Syntax.tyBool) (List._∷_ (
+  14,
   Rows.any-gone
       (Syntax.tyInt Syntax.w64),
-) (List._∷_ (11, Rows.any-gone (Syntax.tyInt Syntax.w64)) (List._∷_ (12, Rows.any-gone Syntax.tyBool) (List._∷_ (
-  13,
-  Rows.any-gone (Syntax.tyInt
-      Syntax.w64),
-) (List._∷_ (14, Rows.any-gone (Syntax.tyInt Syntax.w64)) (List._∷_ (15, Rows.any-gone (Syntax.tyRef Syntax.erased Syntax.mut (Syntax.tyInt Syntax.w8)))
-    List.[])))))))))))))))
+) (List._∷_ (15, Rows.any-gone (Syntax.tyInt Syntax.w64)) List.[])))))))))))))))
 
 abbrev pub t23 : List.List Row.Entry
 t23 = List._∷_ (
@@ -1671,10 +1767,15 @@ t23 = List._∷_ (
       (Referent.rtF (Referent.fInt Syntax.w8)) (Syntax.tyRef (Syntax.named 0) Syntax.imm (Syntax.tyInt Syntax.w8)) 0,
 ) (List._∷_ (
   2,
-  Rows.any-gone (Syntax.tyEnum (List._∷_ 104
-      (List._∷_ 101 (List._∷_ 97 (List._∷_ 100 (List._∷_ 101 (List._∷_ 114 (List._∷_ 58 (List._∷_ 58 (List._∷_ 110 (List._∷_ 117 (List._∷_ 109 (List._∷_ 98 (List._∷_ 101 (List._∷_
-      114 (List._∷_ 105 (List._∷_ 110 (List._∷_ 103 (List._∷_ 58 (List._∷_ 58 (List._∷_ 78 (List._∷_ 117 (List._∷_ 109 (List._∷_ 98 (List._∷_ 101 (List._∷_ 114 (List._∷_ 105
-      (List._∷_ 110 (List._∷_ 103 List.[])))))))))))))))))))))))))))) (Syntax.ttcons Syntax.tnil (Syntax.ttcons Syntax.tnil Syntax.ttnil))),
+  Rows.any-gone (Syntax.tyStruct (List._∷_ 104
+      (List._∷_ 101 (List._∷_ 97 (List._∷_ 100 (List._∷_ 101 (List._∷_ 114 (List._∷_ 58 (List._∷_ 58 (List._∷_ 114 (List._∷_ 101 (List._∷_ 97 (List._∷_ 100 (List._∷_ 105 (List._∷_
+      110 (List._∷_ 103 (List._∷_ 58 (List._∷_ 58 (List._∷_ 82 (List._∷_ 101 (List._∷_ 97 (List._∷_ 100 (List._∷_ 105 (List._∷_ 110 (List._∷_ 103 List.[]))))))))))))))))))))))))
+      (Syntax.tcons (Syntax.tyEnum (List._∷_ 104 (List._∷_ 101 (List._∷_ 97 (List._∷_ 100 (List._∷_ 101 (List._∷_ 114 (List._∷_ 58 (List._∷_ 58 (List._∷_ 110 (List._∷_ 117 (List._∷_
+      109 (List._∷_ 98 (List._∷_ 101 (List._∷_ 114 (List._∷_ 105 (List._∷_ 110 (List._∷_ 103 (List._∷_ 58 (List._∷_ 58 (List._∷_ 78 (List._∷_ 117 (List._∷_ 109 (List._∷_ 98 (List._∷_
+      101 (List._∷_ 114 (List._∷_ 105 (List._∷_ 110 (List._∷_ 103 List.[])))))))))))))))))))))))))))) (Syntax.ttcons Syntax.tnil (Syntax.ttcons Syntax.tnil Syntax.ttnil)))
+      (Syntax.tcons (Syntax.tyEnum (List._∷_ 104 (List._∷_ 101 (List._∷_ 97 (List._∷_ 100 (List._∷_ 101 (List._∷_ 114 (List._∷_ 58 (List._∷_ 58 (List._∷_ 101 (List._∷_ 100 (List._∷_
+      105 (List._∷_ 116 (List._∷_ 105 (List._∷_ 111 (List._∷_ 110 (List._∷_ 58 (List._∷_ 58 (List._∷_ 69 (List._∷_ 100 (List._∷_ 105 (List._∷_ 116 (List._∷_ 105 (List._∷_ 111
+      (List._∷_ 110 List.[])))))))))))))))))))))))) (Syntax.ttcons Syntax.tnil (Syntax.ttcons Syntax.tnil Syntax.ttnil))) Syntax.tnil))),
 ) (List._∷_ (
   3,
   Mut.mslice
@@ -1696,16 +1797,20 @@ t23 = List._∷_ (
   7,
   Rows.whole (Declared'.row
       CodestreamOffset.the-type),
-) (List._∷_ (8, Rows.any-gone (Syntax.tyInt Syntax.w64)) (List._∷_ (9, Rows.any-gone (Syntax.tyInt Syntax.w64)) (List._∷_ (
-  10,
+) (List._∷_ (
+  8,
+  Rows.any-gone (Syntax.tyEnum (List._∷_ 104 (List._∷_ 101 (List._∷_ 97 (List._∷_ 100 (List._∷_ 101 (List._∷_ 114 (List._∷_ 58 (List._∷_
+      58 (List._∷_ 110 (List._∷_ 117 (List._∷_ 109 (List._∷_ 98 (List._∷_ 101 (List._∷_ 114 (List._∷_ 105 (List._∷_ 110 (List._∷_ 103 (List._∷_ 58 (List._∷_ 58 (List._∷_ 78 (List._∷_
+      117 (List._∷_ 109 (List._∷_ 98 (List._∷_ 101 (List._∷_ 114 (List._∷_ 105 (List._∷_ 110 (List._∷_ 103 List.[])))))))))))))))))))))))))))) (Syntax.ttcons Syntax.tnil
+      (Syntax.ttcons Syntax.tnil Syntax.ttnil))),
+) (List._∷_ (9, Rows.any-gone (Syntax.tyInt Syntax.w64)) (List._∷_ (10, Rows.any-gone (Syntax.tyInt Syntax.w64)) (List._∷_ (
+  11,
+  Rows.any-gone (Syntax.tyInt Syntax.w64),
+) (List._∷_ (12, Rows.any-gone (Syntax.tyInt Syntax.w64)) (List._∷_ (13, Rows.any-gone Syntax.tyBool) (List._∷_ (
+  14,
   Rows.any-gone
       (Syntax.tyInt Syntax.w64),
-) (List._∷_ (11, Rows.any-gone (Syntax.tyInt Syntax.w64)) (List._∷_ (12, Rows.any-gone Syntax.tyBool) (List._∷_ (
-  13,
-  Rows.any-gone (Syntax.tyInt
-      Syntax.w64),
-) (List._∷_ (14, Rows.sc-here (Row.sInt Syntax.w64)) (List._∷_ (15, Rows.any-gone (Syntax.tyRef Syntax.erased Syntax.mut (Syntax.tyInt Syntax.w8)))
-    List.[])))))))))))))))
+) (List._∷_ (15, Rows.sc-here (Row.sInt Syntax.w64)) List.[])))))))))))))))
 
 abbrev pub t24 : List.List Row.Entry
 t24 = List._∷_ (
@@ -1727,10 +1832,15 @@ t24 = List._∷_ (
       (Referent.rtF (Referent.fInt Syntax.w8)) (Syntax.tyRef (Syntax.named 0) Syntax.imm (Syntax.tyInt Syntax.w8)) 0,
 ) (List._∷_ (
   2,
-  Rows.any-gone (Syntax.tyEnum (List._∷_ 104
-      (List._∷_ 101 (List._∷_ 97 (List._∷_ 100 (List._∷_ 101 (List._∷_ 114 (List._∷_ 58 (List._∷_ 58 (List._∷_ 110 (List._∷_ 117 (List._∷_ 109 (List._∷_ 98 (List._∷_ 101 (List._∷_
-      114 (List._∷_ 105 (List._∷_ 110 (List._∷_ 103 (List._∷_ 58 (List._∷_ 58 (List._∷_ 78 (List._∷_ 117 (List._∷_ 109 (List._∷_ 98 (List._∷_ 101 (List._∷_ 114 (List._∷_ 105
-      (List._∷_ 110 (List._∷_ 103 List.[])))))))))))))))))))))))))))) (Syntax.ttcons Syntax.tnil (Syntax.ttcons Syntax.tnil Syntax.ttnil))),
+  Rows.any-gone (Syntax.tyStruct (List._∷_ 104
+      (List._∷_ 101 (List._∷_ 97 (List._∷_ 100 (List._∷_ 101 (List._∷_ 114 (List._∷_ 58 (List._∷_ 58 (List._∷_ 114 (List._∷_ 101 (List._∷_ 97 (List._∷_ 100 (List._∷_ 105 (List._∷_
+      110 (List._∷_ 103 (List._∷_ 58 (List._∷_ 58 (List._∷_ 82 (List._∷_ 101 (List._∷_ 97 (List._∷_ 100 (List._∷_ 105 (List._∷_ 110 (List._∷_ 103 List.[]))))))))))))))))))))))))
+      (Syntax.tcons (Syntax.tyEnum (List._∷_ 104 (List._∷_ 101 (List._∷_ 97 (List._∷_ 100 (List._∷_ 101 (List._∷_ 114 (List._∷_ 58 (List._∷_ 58 (List._∷_ 110 (List._∷_ 117 (List._∷_
+      109 (List._∷_ 98 (List._∷_ 101 (List._∷_ 114 (List._∷_ 105 (List._∷_ 110 (List._∷_ 103 (List._∷_ 58 (List._∷_ 58 (List._∷_ 78 (List._∷_ 117 (List._∷_ 109 (List._∷_ 98 (List._∷_
+      101 (List._∷_ 114 (List._∷_ 105 (List._∷_ 110 (List._∷_ 103 List.[])))))))))))))))))))))))))))) (Syntax.ttcons Syntax.tnil (Syntax.ttcons Syntax.tnil Syntax.ttnil)))
+      (Syntax.tcons (Syntax.tyEnum (List._∷_ 104 (List._∷_ 101 (List._∷_ 97 (List._∷_ 100 (List._∷_ 101 (List._∷_ 114 (List._∷_ 58 (List._∷_ 58 (List._∷_ 101 (List._∷_ 100 (List._∷_
+      105 (List._∷_ 116 (List._∷_ 105 (List._∷_ 111 (List._∷_ 110 (List._∷_ 58 (List._∷_ 58 (List._∷_ 69 (List._∷_ 100 (List._∷_ 105 (List._∷_ 116 (List._∷_ 105 (List._∷_ 111
+      (List._∷_ 110 List.[])))))))))))))))))))))))) (Syntax.ttcons Syntax.tnil (Syntax.ttcons Syntax.tnil Syntax.ttnil))) Syntax.tnil))),
 ) (List._∷_ (
   3,
   Mut.mslice
@@ -1754,15 +1864,20 @@ t24 = List._∷_ (
       (List._∷_ 121 (List._∷_ 112 (List._∷_ 101 (List._∷_ 115 (List._∷_ 58 (List._∷_ 58 (List._∷_ 67 (List._∷_ 111 (List._∷_ 100 (List._∷_ 101 (List._∷_ 115 (List._∷_ 116 (List._∷_
       114 (List._∷_ 101 (List._∷_ 97 (List._∷_ 109 (List._∷_ 79 (List._∷_ 102 (List._∷_ 102 (List._∷_ 115 (List._∷_ 101 (List._∷_ 116 List.[]))))))))))))))))))))))) (Syntax.tcons
       (Syntax.tyInt Syntax.w64) Syntax.tnil)),
-) (List._∷_ (8, Rows.any-gone (Syntax.tyInt Syntax.w64)) (List._∷_ (9, Rows.any-gone (Syntax.tyInt Syntax.w64)) (List._∷_ (
-  10,
+) (List._∷_ (
+  8,
+  Rows.any-gone (Syntax.tyEnum (List._∷_ 104 (List._∷_ 101 (List._∷_ 97 (List._∷_ 100 (List._∷_ 101 (List._∷_ 114 (List._∷_
+      58 (List._∷_ 58 (List._∷_ 110 (List._∷_ 117 (List._∷_ 109 (List._∷_ 98 (List._∷_ 101 (List._∷_ 114 (List._∷_ 105 (List._∷_ 110 (List._∷_ 103 (List._∷_ 58 (List._∷_ 58 (List._∷_
+      78 (List._∷_ 117 (List._∷_ 109 (List._∷_ 98 (List._∷_ 101 (List._∷_ 114 (List._∷_ 105 (List._∷_ 110 (List._∷_ 103 List.[])))))))))))))))))))))))))))) (Syntax.ttcons Syntax.tnil
+      (Syntax.ttcons Syntax.tnil Syntax.ttnil))),
+) (List._∷_ (9, Rows.any-gone (Syntax.tyInt Syntax.w64)) (List._∷_ (10, Rows.any-gone (Syntax.tyInt Syntax.w64)) (List._∷_ (
+  11,
   Rows.any-gone (Syntax.tyInt Syntax.w64),
-) (List._∷_ (11, Rows.any-gone (Syntax.tyInt Syntax.w64)) (List._∷_ (12, Rows.any-gone Syntax.tyBool) (List._∷_ (
-  13,
+) (List._∷_ (12, Rows.any-gone (Syntax.tyInt Syntax.w64)) (List._∷_ (13, Rows.any-gone Syntax.tyBool) (List._∷_ (
+  14,
   Rows.any-gone
       (Syntax.tyInt Syntax.w64),
-) (List._∷_ (14, Rows.sc-here (Row.sInt Syntax.w64)) (List._∷_ (15, Rows.any-gone (Syntax.tyRef Syntax.erased Syntax.mut (Syntax.tyInt Syntax.w8)))
-    List.[])))))))))))))))
+) (List._∷_ (15, Rows.sc-here (Row.sInt Syntax.w64)) List.[])))))))))))))))
 
 abbrev pub t25 : List.List Row.Entry
 t25 = List._∷_ (
@@ -1784,10 +1899,15 @@ t25 = List._∷_ (
       (Referent.rtF (Referent.fInt Syntax.w8)) (Syntax.tyRef (Syntax.named 0) Syntax.imm (Syntax.tyInt Syntax.w8)) 0,
 ) (List._∷_ (
   2,
-  Rows.any-gone (Syntax.tyEnum (List._∷_ 104
-      (List._∷_ 101 (List._∷_ 97 (List._∷_ 100 (List._∷_ 101 (List._∷_ 114 (List._∷_ 58 (List._∷_ 58 (List._∷_ 110 (List._∷_ 117 (List._∷_ 109 (List._∷_ 98 (List._∷_ 101 (List._∷_
-      114 (List._∷_ 105 (List._∷_ 110 (List._∷_ 103 (List._∷_ 58 (List._∷_ 58 (List._∷_ 78 (List._∷_ 117 (List._∷_ 109 (List._∷_ 98 (List._∷_ 101 (List._∷_ 114 (List._∷_ 105
-      (List._∷_ 110 (List._∷_ 103 List.[])))))))))))))))))))))))))))) (Syntax.ttcons Syntax.tnil (Syntax.ttcons Syntax.tnil Syntax.ttnil))),
+  Rows.any-gone (Syntax.tyStruct (List._∷_ 104
+      (List._∷_ 101 (List._∷_ 97 (List._∷_ 100 (List._∷_ 101 (List._∷_ 114 (List._∷_ 58 (List._∷_ 58 (List._∷_ 114 (List._∷_ 101 (List._∷_ 97 (List._∷_ 100 (List._∷_ 105 (List._∷_
+      110 (List._∷_ 103 (List._∷_ 58 (List._∷_ 58 (List._∷_ 82 (List._∷_ 101 (List._∷_ 97 (List._∷_ 100 (List._∷_ 105 (List._∷_ 110 (List._∷_ 103 List.[]))))))))))))))))))))))))
+      (Syntax.tcons (Syntax.tyEnum (List._∷_ 104 (List._∷_ 101 (List._∷_ 97 (List._∷_ 100 (List._∷_ 101 (List._∷_ 114 (List._∷_ 58 (List._∷_ 58 (List._∷_ 110 (List._∷_ 117 (List._∷_
+      109 (List._∷_ 98 (List._∷_ 101 (List._∷_ 114 (List._∷_ 105 (List._∷_ 110 (List._∷_ 103 (List._∷_ 58 (List._∷_ 58 (List._∷_ 78 (List._∷_ 117 (List._∷_ 109 (List._∷_ 98 (List._∷_
+      101 (List._∷_ 114 (List._∷_ 105 (List._∷_ 110 (List._∷_ 103 List.[])))))))))))))))))))))))))))) (Syntax.ttcons Syntax.tnil (Syntax.ttcons Syntax.tnil Syntax.ttnil)))
+      (Syntax.tcons (Syntax.tyEnum (List._∷_ 104 (List._∷_ 101 (List._∷_ 97 (List._∷_ 100 (List._∷_ 101 (List._∷_ 114 (List._∷_ 58 (List._∷_ 58 (List._∷_ 101 (List._∷_ 100 (List._∷_
+      105 (List._∷_ 116 (List._∷_ 105 (List._∷_ 111 (List._∷_ 110 (List._∷_ 58 (List._∷_ 58 (List._∷_ 69 (List._∷_ 100 (List._∷_ 105 (List._∷_ 116 (List._∷_ 105 (List._∷_ 111
+      (List._∷_ 110 List.[])))))))))))))))))))))))) (Syntax.ttcons Syntax.tnil (Syntax.ttcons Syntax.tnil Syntax.ttnil))) Syntax.tnil))),
 ) (List._∷_ (
   3,
   Mut.mslice
@@ -1810,95 +1930,59 @@ t25 = List._∷_ (
   Rows.any-gone (Syntax.tyStruct (List._∷_ 116 (List._∷_ 121 (List._∷_ 112 (List._∷_ 101 (List._∷_ 115 (List._∷_ 58 (List._∷_ 58 (List._∷_ 67 (List._∷_ 111 (List._∷_ 100
       (List._∷_ 101 (List._∷_ 115 (List._∷_ 116 (List._∷_ 114 (List._∷_ 101 (List._∷_ 97 (List._∷_ 109 (List._∷_ 79 (List._∷_ 102 (List._∷_ 102 (List._∷_ 115 (List._∷_ 101 (List._∷_
       116 List.[]))))))))))))))))))))))) (Syntax.tcons (Syntax.tyInt Syntax.w64) Syntax.tnil)),
-) (List._∷_ (8, Rows.any-gone (Syntax.tyInt Syntax.w64)) (List._∷_ (
-  9,
-  Rows.any-gone
-      (Syntax.tyInt Syntax.w64),
-) (List._∷_ (10, Rows.any-gone (Syntax.tyInt Syntax.w64)) (List._∷_ (11, Rows.any-gone (Syntax.tyInt Syntax.w64)) (List._∷_ (
-  12,
-  Rows.any-gone
-      Syntax.tyBool,
-) (List._∷_ (13, Rows.any-gone (Syntax.tyInt Syntax.w64)) (List._∷_ (14, Rows.sc-here (Row.sInt Syntax.w64)) (List._∷_ (
-  15,
-  Relend.msptr (Referent.rtF
-      (Referent.fInt Syntax.w8)) (Syntax.tyRef Syntax.erased Syntax.mut (Syntax.tyInt Syntax.w8)) 3,
-) List.[])))))))))))))))
+) (List._∷_ (
+  8,
+  Rows.any-gone (Syntax.tyEnum (List._∷_ 104 (List._∷_ 101 (List._∷_ 97
+      (List._∷_ 100 (List._∷_ 101 (List._∷_ 114 (List._∷_ 58 (List._∷_ 58 (List._∷_ 110 (List._∷_ 117 (List._∷_ 109 (List._∷_ 98 (List._∷_ 101 (List._∷_ 114 (List._∷_ 105 (List._∷_
+      110 (List._∷_ 103 (List._∷_ 58 (List._∷_ 58 (List._∷_ 78 (List._∷_ 117 (List._∷_ 109 (List._∷_ 98 (List._∷_ 101 (List._∷_ 114 (List._∷_ 105 (List._∷_ 110 (List._∷_ 103
+      List.[])))))))))))))))))))))))))))) (Syntax.ttcons Syntax.tnil (Syntax.ttcons Syntax.tnil Syntax.ttnil))),
+) (List._∷_ (9, Rows.any-gone (Syntax.tyInt Syntax.w64)) (List._∷_ (
+  10,
+  Rows.any-gone (Syntax.tyInt Syntax.w64),
+) (List._∷_ (11, Rows.any-gone (Syntax.tyInt Syntax.w64)) (List._∷_ (12, Rows.any-gone (Syntax.tyInt Syntax.w64)) (List._∷_ (
+  13,
+  Rows.any-gone Syntax.tyBool,
+) (List._∷_ (14, Rows.any-gone (Syntax.tyInt Syntax.w64)) (List._∷_ (15, Rows.sc-here (Row.sInt Syntax.w64)) List.[])))))))))))))))
 
 abbrev pub t26 : List.List Row.Entry
-t26 = List._∷_ (
-  0,
-  Rows.any-gone (Syntax.tyEnum (List._∷_ 104 (List._∷_ 101 (List._∷_ 97 (List._∷_ 100 (List._∷_ 101 (List._∷_ 114 (List._∷_ 58 (List._∷_ 58 (List._∷_ 112 (List._∷_
-      97 (List._∷_ 114 (List._∷_ 115 (List._∷_ 101 (List._∷_ 58 (List._∷_ 58 (List._∷_ 77 (List._∷_ 97 (List._∷_ 105 (List._∷_ 110 (List._∷_ 72 (List._∷_ 101 (List._∷_ 97 (List._∷_
-      100 (List._∷_ 101 (List._∷_ 114 List.[]))))))))))))))))))))))))) (Syntax.ttcons (Syntax.tcons (Syntax.tyStruct (List._∷_ 104 (List._∷_ 101 (List._∷_ 97 (List._∷_ 100 (List._∷_
-      101 (List._∷_ 114 (List._∷_ 58 (List._∷_ 58 (List._∷_ 112 (List._∷_ 97 (List._∷_ 114 (List._∷_ 115 (List._∷_ 101 (List._∷_ 58 (List._∷_ 58 (List._∷_ 77 (List._∷_ 97 (List._∷_
-      105 (List._∷_ 110 (List._∷_ 72 (List._∷_ 101 (List._∷_ 97 (List._∷_ 100 (List._∷_ 101 (List._∷_ 114 (List._∷_ 73 (List._∷_ 110 (List._∷_ 102 (List._∷_ 111
-      List.[]))))))))))))))))))))))))))))) (Syntax.tcons (Syntax.tyStruct (List._∷_ 116 (List._∷_ 121 (List._∷_ 112 (List._∷_ 101 (List._∷_ 115 (List._∷_ 58 (List._∷_ 58 (List._∷_ 67
-      (List._∷_ 111 (List._∷_ 100 (List._∷_ 101 (List._∷_ 115 (List._∷_ 116 (List._∷_ 114 (List._∷_ 101 (List._∷_ 97 (List._∷_ 109 (List._∷_ 79 (List._∷_ 102 (List._∷_ 102 (List._∷_
-      115 (List._∷_ 101 (List._∷_ 116 List.[]))))))))))))))))))))))) (Syntax.tcons (Syntax.tyInt Syntax.w64) Syntax.tnil)) (Syntax.tcons (Syntax.tyInt Syntax.w64) (Syntax.tcons
-      (Syntax.tyInt Syntax.w64) (Syntax.tcons (Syntax.tyInt Syntax.w64) Syntax.tnil))))) Syntax.tnil) (Syntax.ttcons (Syntax.tcons (Syntax.tyStruct (List._∷_ 116 (List._∷_ 121
-      (List._∷_ 112 (List._∷_ 101 (List._∷_ 115 (List._∷_ 58 (List._∷_ 58 (List._∷_ 82 (List._∷_ 101 (List._∷_ 102 (List._∷_ 117 (List._∷_ 115 (List._∷_ 97 (List._∷_ 108
-      List.[])))))))))))))) (Syntax.tcons (Syntax.tyInt Syntax.w32) (Syntax.tcons (Syntax.tyInt Syntax.w64) Syntax.tnil))) Syntax.tnil) Syntax.ttnil))),
-) (List._∷_ (
-  1,
-  Rows.sslice
-      (Referent.rtF (Referent.fInt Syntax.w8)) (Syntax.tyRef (Syntax.named 0) Syntax.imm (Syntax.tyInt Syntax.w8)) 0,
-) (List._∷_ (
-  2,
-  Rows.any-gone (Syntax.tyEnum (List._∷_ 104
-      (List._∷_ 101 (List._∷_ 97 (List._∷_ 100 (List._∷_ 101 (List._∷_ 114 (List._∷_ 58 (List._∷_ 58 (List._∷_ 110 (List._∷_ 117 (List._∷_ 109 (List._∷_ 98 (List._∷_ 101 (List._∷_
-      114 (List._∷_ 105 (List._∷_ 110 (List._∷_ 103 (List._∷_ 58 (List._∷_ 58 (List._∷_ 78 (List._∷_ 117 (List._∷_ 109 (List._∷_ 98 (List._∷_ 101 (List._∷_ 114 (List._∷_ 105
-      (List._∷_ 110 (List._∷_ 103 List.[])))))))))))))))))))))))))))) (Syntax.ttcons Syntax.tnil (Syntax.ttcons Syntax.tnil Syntax.ttnil))),
-) (List._∷_ (
-  3,
-  Mut.mslice
-      LentTilePartEntry.row (Syntax.tyRef (Syntax.named 1) Syntax.mut LentTilePartEntry.pointee) 1,
-) (List._∷_ (
-  4,
-  Relend.mslice-owed (Referent.rtF (Referent.fInt Syntax.w8))
-      (Syntax.tyRef (Syntax.named 2) Syntax.mut (Syntax.tyInt Syntax.w8)) 2 3 Row.off,
-) (List._∷_ (5, Rows.whole (Declared.row MainHeader.the-type)) (List._∷_ (
-  6,
-  Rows.any-gone
-      (Syntax.tyStruct (List._∷_ 104 (List._∷_ 101 (List._∷_ 97 (List._∷_ 100 (List._∷_ 101 (List._∷_ 114 (List._∷_ 58 (List._∷_ 58 (List._∷_ 112 (List._∷_ 97 (List._∷_ 114 (List._∷_
-      115 (List._∷_ 101 (List._∷_ 58 (List._∷_ 58 (List._∷_ 77 (List._∷_ 97 (List._∷_ 105 (List._∷_ 110 (List._∷_ 72 (List._∷_ 101 (List._∷_ 97 (List._∷_ 100 (List._∷_ 101 (List._∷_
-      114 (List._∷_ 73 (List._∷_ 110 (List._∷_ 102 (List._∷_ 111 List.[]))))))))))))))))))))))))))))) (Syntax.tcons (Syntax.tyStruct (List._∷_ 116 (List._∷_ 121 (List._∷_ 112
-      (List._∷_ 101 (List._∷_ 115 (List._∷_ 58 (List._∷_ 58 (List._∷_ 67 (List._∷_ 111 (List._∷_ 100 (List._∷_ 101 (List._∷_ 115 (List._∷_ 116 (List._∷_ 114 (List._∷_ 101 (List._∷_
-      97 (List._∷_ 109 (List._∷_ 79 (List._∷_ 102 (List._∷_ 102 (List._∷_ 115 (List._∷_ 101 (List._∷_ 116 List.[]))))))))))))))))))))))) (Syntax.tcons (Syntax.tyInt Syntax.w64)
-      Syntax.tnil)) (Syntax.tcons (Syntax.tyInt Syntax.w64) (Syntax.tcons (Syntax.tyInt Syntax.w64) (Syntax.tcons (Syntax.tyInt Syntax.w64) Syntax.tnil))))),
-) (List._∷_ (
-  7,
-  Rows.any-gone (Syntax.tyStruct (List._∷_ 116 (List._∷_ 121 (List._∷_ 112 (List._∷_ 101 (List._∷_ 115 (List._∷_ 58 (List._∷_ 58 (List._∷_ 67 (List._∷_ 111 (List._∷_ 100
-      (List._∷_ 101 (List._∷_ 115 (List._∷_ 116 (List._∷_ 114 (List._∷_ 101 (List._∷_ 97 (List._∷_ 109 (List._∷_ 79 (List._∷_ 102 (List._∷_ 102 (List._∷_ 115 (List._∷_ 101 (List._∷_
-      116 List.[]))))))))))))))))))))))) (Syntax.tcons (Syntax.tyInt Syntax.w64) Syntax.tnil)),
-) (List._∷_ (8, Rows.any-gone (Syntax.tyInt Syntax.w64)) (List._∷_ (
-  9,
-  Rows.any-gone
-      (Syntax.tyInt Syntax.w64),
-) (List._∷_ (10, Rows.any-gone (Syntax.tyInt Syntax.w64)) (List._∷_ (11, Rows.any-gone (Syntax.tyInt Syntax.w64)) (List._∷_ (
-  12,
-  Rows.any-gone
-      Syntax.tyBool,
-) (List._∷_ (13, Rows.any-gone (Syntax.tyInt Syntax.w64)) (List._∷_ (14, Rows.sc-here (Row.sInt Syntax.w64)) (List._∷_ (
-  15,
-  Rows.any-gone (Syntax.tyRef
-      Syntax.erased Syntax.mut (Syntax.tyInt Syntax.w8)),
-) List.[])))))))))))))))
-
-abbrev pub t27 : List.List Row.Entry
-t27 = List._∷_ (16, Mut.mslice (Referent.rtF (Referent.fInt Syntax.w8)) (Syntax.tyRef Syntax.erased Syntax.mut (Syntax.tyInt Syntax.w8)) 3) (List._∷_ (
+t26 = List._∷_ (16, Relend.msptr (Referent.rtF (Referent.fInt Syntax.w8)) (Syntax.tyRef Syntax.erased Syntax.mut (Syntax.tyInt Syntax.w8)) 3) (List._∷_ (
   17,
   Rows.any-gone
-      Syntax.tyUnit,
-) (List._∷_ (18, Rows.any-gone (Syntax.tyRef Syntax.erased Syntax.mut LentTilePartEntry.pointee)) (List._∷_ (
+      (Syntax.tyStruct (List._∷_ 38 (List._∷_ 91 (List._∷_ 93 List.[]))) (Syntax.tcons (Syntax.tyRef Syntax.erased Syntax.mut (Syntax.tyInt Syntax.w8)) (Syntax.tcons (Syntax.tyInt
+      Syntax.w64) Syntax.tnil))),
+) (List._∷_ (18, Rows.any-gone Syntax.tyUnit) (List._∷_ (19, Rows.any-gone (Syntax.tyRef Syntax.erased Syntax.mut LentTilePartEntry.pointee))
+    (List._∷_ (
+      20,
+      Rows.any-gone (Syntax.tyStruct (List._∷_ 38 (List._∷_ 91 (List._∷_ 93 List.[]))) (Syntax.tcons (Syntax.tyRef Syntax.erased Syntax.mut LentTilePartEntry.pointee)
+          (Syntax.tcons (Syntax.tyInt Syntax.w64) Syntax.tnil))),
+    ) (List._∷_ (21, Rows.any-gone (Syntax.tyRef Syntax.erased Syntax.mut (Syntax.tyInt Syntax.w8))) (List._∷_ (
+      22,
+      Rows.any-gone (Syntax.tyStruct (List._∷_ 38 (List._∷_ 91 (List._∷_ 93 List.[]))) (Syntax.tcons (Syntax.tyRef Syntax.erased Syntax.mut (Syntax.tyInt Syntax.w8)) (Syntax.tcons
+          (Syntax.tyInt Syntax.w64) Syntax.tnil))),
+    ) List.[]))))))
+
+abbrev pub t27 : List.List Row.Entry
+t27 = List._∷_ (16, Rows.any-gone (Syntax.tyRef Syntax.erased Syntax.mut (Syntax.tyInt Syntax.w8))) (List._∷_ (
+  17,
+  Mut.mslice (Referent.rtF (Referent.fInt Syntax.w8)) (Syntax.tyRef
+      Syntax.erased Syntax.mut (Syntax.tyInt Syntax.w8)) 3,
+) (List._∷_ (18, Rows.any-gone Syntax.tyUnit) (List._∷_ (
   19,
-  Rows.any-gone (Syntax.tyStruct (List._∷_ 38
-      (List._∷_ 91 (List._∷_ 93 List.[]))) (Syntax.tcons (Syntax.tyRef Syntax.erased Syntax.mut LentTilePartEntry.pointee) (Syntax.tcons (Syntax.tyInt Syntax.w64) Syntax.tnil))),
-)
-    (List._∷_ (20, Rows.any-gone (Syntax.tyRef Syntax.erased Syntax.mut (Syntax.tyInt Syntax.w8))) (List._∷_ (
-      21,
-      Rows.any-gone (Syntax.tyStruct (List._∷_ 38 (List._∷_ 91 (List._∷_
-          93 List.[]))) (Syntax.tcons (Syntax.tyRef Syntax.erased Syntax.mut (Syntax.tyInt Syntax.w8)) (Syntax.tcons (Syntax.tyInt Syntax.w64) Syntax.tnil))),
-    ) List.[])))))
+  Rows.any-gone (Syntax.tyRef Syntax.erased Syntax.mut
+      LentTilePartEntry.pointee),
+) (List._∷_ (
+  20,
+  Rows.any-gone (Syntax.tyStruct (List._∷_ 38 (List._∷_ 91 (List._∷_ 93 List.[]))) (Syntax.tcons (Syntax.tyRef Syntax.erased Syntax.mut
+      LentTilePartEntry.pointee) (Syntax.tcons (Syntax.tyInt Syntax.w64) Syntax.tnil))),
+) (List._∷_ (
+  21,
+  Rows.any-gone (Syntax.tyRef Syntax.erased Syntax.mut (Syntax.tyInt
+      Syntax.w8)),
+) (List._∷_ (
+  22,
+  Rows.any-gone (Syntax.tyStruct (List._∷_ 38 (List._∷_ 91 (List._∷_ 93 List.[]))) (Syntax.tcons (Syntax.tyRef Syntax.erased Syntax.mut (Syntax.tyInt
+      Syntax.w8)) (Syntax.tcons (Syntax.tyInt Syntax.w64) Syntax.tnil))),
+) List.[]))))))
 
 abbrev pub t28 : List.List Row.Entry
 t28 = List._∷_ (
@@ -1920,10 +2004,15 @@ t28 = List._∷_ (
       (Referent.rtF (Referent.fInt Syntax.w8)) (Syntax.tyRef (Syntax.named 0) Syntax.imm (Syntax.tyInt Syntax.w8)) 0,
 ) (List._∷_ (
   2,
-  Rows.any-gone (Syntax.tyEnum (List._∷_ 104
-      (List._∷_ 101 (List._∷_ 97 (List._∷_ 100 (List._∷_ 101 (List._∷_ 114 (List._∷_ 58 (List._∷_ 58 (List._∷_ 110 (List._∷_ 117 (List._∷_ 109 (List._∷_ 98 (List._∷_ 101 (List._∷_
-      114 (List._∷_ 105 (List._∷_ 110 (List._∷_ 103 (List._∷_ 58 (List._∷_ 58 (List._∷_ 78 (List._∷_ 117 (List._∷_ 109 (List._∷_ 98 (List._∷_ 101 (List._∷_ 114 (List._∷_ 105
-      (List._∷_ 110 (List._∷_ 103 List.[])))))))))))))))))))))))))))) (Syntax.ttcons Syntax.tnil (Syntax.ttcons Syntax.tnil Syntax.ttnil))),
+  Rows.any-gone (Syntax.tyStruct (List._∷_ 104
+      (List._∷_ 101 (List._∷_ 97 (List._∷_ 100 (List._∷_ 101 (List._∷_ 114 (List._∷_ 58 (List._∷_ 58 (List._∷_ 114 (List._∷_ 101 (List._∷_ 97 (List._∷_ 100 (List._∷_ 105 (List._∷_
+      110 (List._∷_ 103 (List._∷_ 58 (List._∷_ 58 (List._∷_ 82 (List._∷_ 101 (List._∷_ 97 (List._∷_ 100 (List._∷_ 105 (List._∷_ 110 (List._∷_ 103 List.[]))))))))))))))))))))))))
+      (Syntax.tcons (Syntax.tyEnum (List._∷_ 104 (List._∷_ 101 (List._∷_ 97 (List._∷_ 100 (List._∷_ 101 (List._∷_ 114 (List._∷_ 58 (List._∷_ 58 (List._∷_ 110 (List._∷_ 117 (List._∷_
+      109 (List._∷_ 98 (List._∷_ 101 (List._∷_ 114 (List._∷_ 105 (List._∷_ 110 (List._∷_ 103 (List._∷_ 58 (List._∷_ 58 (List._∷_ 78 (List._∷_ 117 (List._∷_ 109 (List._∷_ 98 (List._∷_
+      101 (List._∷_ 114 (List._∷_ 105 (List._∷_ 110 (List._∷_ 103 List.[])))))))))))))))))))))))))))) (Syntax.ttcons Syntax.tnil (Syntax.ttcons Syntax.tnil Syntax.ttnil)))
+      (Syntax.tcons (Syntax.tyEnum (List._∷_ 104 (List._∷_ 101 (List._∷_ 97 (List._∷_ 100 (List._∷_ 101 (List._∷_ 114 (List._∷_ 58 (List._∷_ 58 (List._∷_ 101 (List._∷_ 100 (List._∷_
+      105 (List._∷_ 116 (List._∷_ 105 (List._∷_ 111 (List._∷_ 110 (List._∷_ 58 (List._∷_ 58 (List._∷_ 69 (List._∷_ 100 (List._∷_ 105 (List._∷_ 116 (List._∷_ 105 (List._∷_ 111
+      (List._∷_ 110 List.[])))))))))))))))))))))))) (Syntax.ttcons Syntax.tnil (Syntax.ttcons Syntax.tnil Syntax.ttnil))) Syntax.tnil))),
 ) (List._∷_ (
   3,
   Mut.mslice
@@ -1946,35 +2035,42 @@ t28 = List._∷_ (
   Rows.any-gone (Syntax.tyStruct (List._∷_ 116 (List._∷_ 121 (List._∷_ 112 (List._∷_ 101 (List._∷_ 115 (List._∷_ 58 (List._∷_ 58 (List._∷_ 67 (List._∷_ 111 (List._∷_ 100
       (List._∷_ 101 (List._∷_ 115 (List._∷_ 116 (List._∷_ 114 (List._∷_ 101 (List._∷_ 97 (List._∷_ 109 (List._∷_ 79 (List._∷_ 102 (List._∷_ 102 (List._∷_ 115 (List._∷_ 101 (List._∷_
       116 List.[]))))))))))))))))))))))) (Syntax.tcons (Syntax.tyInt Syntax.w64) Syntax.tnil)),
-) (List._∷_ (8, Rows.any-gone (Syntax.tyInt Syntax.w64)) (List._∷_ (
-  9,
-  Rows.any-gone
-      (Syntax.tyInt Syntax.w64),
-) (List._∷_ (10, Rows.any-gone (Syntax.tyInt Syntax.w64)) (List._∷_ (11, Rows.any-gone (Syntax.tyInt Syntax.w64)) (List._∷_ (
-  12,
-  Rows.any-gone
-      Syntax.tyBool,
-) (List._∷_ (13, Rows.sc-here (Row.sInt Syntax.w64)) (List._∷_ (14, Rows.sc-here (Row.sInt Syntax.w64)) (List._∷_ (
-  15,
-  Rows.any-gone (Syntax.tyRef Syntax.erased
-      Syntax.mut (Syntax.tyInt Syntax.w8)),
-) List.[])))))))))))))))
+) (List._∷_ (
+  8,
+  Rows.any-gone (Syntax.tyEnum (List._∷_ 104 (List._∷_ 101 (List._∷_ 97
+      (List._∷_ 100 (List._∷_ 101 (List._∷_ 114 (List._∷_ 58 (List._∷_ 58 (List._∷_ 110 (List._∷_ 117 (List._∷_ 109 (List._∷_ 98 (List._∷_ 101 (List._∷_ 114 (List._∷_ 105 (List._∷_
+      110 (List._∷_ 103 (List._∷_ 58 (List._∷_ 58 (List._∷_ 78 (List._∷_ 117 (List._∷_ 109 (List._∷_ 98 (List._∷_ 101 (List._∷_ 114 (List._∷_ 105 (List._∷_ 110 (List._∷_ 103
+      List.[])))))))))))))))))))))))))))) (Syntax.ttcons Syntax.tnil (Syntax.ttcons Syntax.tnil Syntax.ttnil))),
+) (List._∷_ (9, Rows.any-gone (Syntax.tyInt Syntax.w64)) (List._∷_ (
+  10,
+  Rows.any-gone (Syntax.tyInt Syntax.w64),
+) (List._∷_ (11, Rows.any-gone (Syntax.tyInt Syntax.w64)) (List._∷_ (12, Rows.any-gone (Syntax.tyInt Syntax.w64)) (List._∷_ (
+  13,
+  Rows.any-gone Syntax.tyBool,
+) (List._∷_ (14, Rows.sc-here (Row.sInt Syntax.w64)) (List._∷_ (15, Rows.sc-here (Row.sInt Syntax.w64)) List.[])))))))))))))))
 
 abbrev pub t29 : List.List Row.Entry
-t29 = List._∷_ (16, Mut.msleft (Referent.rtF (Referent.fInt Syntax.w8)) (Syntax.tyRef Syntax.erased Syntax.mut (Syntax.tyInt Syntax.w8))) (List._∷_ (
+t29 = List._∷_ (16, Rows.any-gone (Syntax.tyRef Syntax.erased Syntax.mut (Syntax.tyInt Syntax.w8))) (List._∷_ (
   17,
-  Rows.any-gone
-      Syntax.tyUnit,
-) (List._∷_ (18, Rows.any-gone (Syntax.tyRef Syntax.erased Syntax.mut LentTilePartEntry.pointee)) (List._∷_ (
+  Mut.msleft (Referent.rtF (Referent.fInt Syntax.w8)) (Syntax.tyRef
+      Syntax.erased Syntax.mut (Syntax.tyInt Syntax.w8)),
+) (List._∷_ (18, Rows.any-gone Syntax.tyUnit) (List._∷_ (
   19,
-  Rows.any-gone (Syntax.tyStruct (List._∷_ 38
-      (List._∷_ 91 (List._∷_ 93 List.[]))) (Syntax.tcons (Syntax.tyRef Syntax.erased Syntax.mut LentTilePartEntry.pointee) (Syntax.tcons (Syntax.tyInt Syntax.w64) Syntax.tnil))),
-)
-    (List._∷_ (20, Rows.any-gone (Syntax.tyRef Syntax.erased Syntax.mut (Syntax.tyInt Syntax.w8))) (List._∷_ (
-      21,
-      Rows.any-gone (Syntax.tyStruct (List._∷_ 38 (List._∷_ 91 (List._∷_
-          93 List.[]))) (Syntax.tcons (Syntax.tyRef Syntax.erased Syntax.mut (Syntax.tyInt Syntax.w8)) (Syntax.tcons (Syntax.tyInt Syntax.w64) Syntax.tnil))),
-    ) List.[])))))
+  Rows.any-gone (Syntax.tyRef Syntax.erased Syntax.mut
+      LentTilePartEntry.pointee),
+) (List._∷_ (
+  20,
+  Rows.any-gone (Syntax.tyStruct (List._∷_ 38 (List._∷_ 91 (List._∷_ 93 List.[]))) (Syntax.tcons (Syntax.tyRef Syntax.erased Syntax.mut
+      LentTilePartEntry.pointee) (Syntax.tcons (Syntax.tyInt Syntax.w64) Syntax.tnil))),
+) (List._∷_ (
+  21,
+  Rows.any-gone (Syntax.tyRef Syntax.erased Syntax.mut (Syntax.tyInt
+      Syntax.w8)),
+) (List._∷_ (
+  22,
+  Rows.any-gone (Syntax.tyStruct (List._∷_ 38 (List._∷_ 91 (List._∷_ 93 List.[]))) (Syntax.tcons (Syntax.tyRef Syntax.erased Syntax.mut (Syntax.tyInt
+      Syntax.w8)) (Syntax.tcons (Syntax.tyInt Syntax.w64) Syntax.tnil))),
+) List.[]))))))
 
 abbrev pub t30 : List.List Row.Entry
 t30 = List._∷_ (
@@ -1996,10 +2092,15 @@ t30 = List._∷_ (
       (Referent.rtF (Referent.fInt Syntax.w8)) (Syntax.tyRef (Syntax.named 0) Syntax.imm (Syntax.tyInt Syntax.w8)) 0,
 ) (List._∷_ (
   2,
-  Rows.any-gone (Syntax.tyEnum (List._∷_ 104
-      (List._∷_ 101 (List._∷_ 97 (List._∷_ 100 (List._∷_ 101 (List._∷_ 114 (List._∷_ 58 (List._∷_ 58 (List._∷_ 110 (List._∷_ 117 (List._∷_ 109 (List._∷_ 98 (List._∷_ 101 (List._∷_
-      114 (List._∷_ 105 (List._∷_ 110 (List._∷_ 103 (List._∷_ 58 (List._∷_ 58 (List._∷_ 78 (List._∷_ 117 (List._∷_ 109 (List._∷_ 98 (List._∷_ 101 (List._∷_ 114 (List._∷_ 105
-      (List._∷_ 110 (List._∷_ 103 List.[])))))))))))))))))))))))))))) (Syntax.ttcons Syntax.tnil (Syntax.ttcons Syntax.tnil Syntax.ttnil))),
+  Rows.any-gone (Syntax.tyStruct (List._∷_ 104
+      (List._∷_ 101 (List._∷_ 97 (List._∷_ 100 (List._∷_ 101 (List._∷_ 114 (List._∷_ 58 (List._∷_ 58 (List._∷_ 114 (List._∷_ 101 (List._∷_ 97 (List._∷_ 100 (List._∷_ 105 (List._∷_
+      110 (List._∷_ 103 (List._∷_ 58 (List._∷_ 58 (List._∷_ 82 (List._∷_ 101 (List._∷_ 97 (List._∷_ 100 (List._∷_ 105 (List._∷_ 110 (List._∷_ 103 List.[]))))))))))))))))))))))))
+      (Syntax.tcons (Syntax.tyEnum (List._∷_ 104 (List._∷_ 101 (List._∷_ 97 (List._∷_ 100 (List._∷_ 101 (List._∷_ 114 (List._∷_ 58 (List._∷_ 58 (List._∷_ 110 (List._∷_ 117 (List._∷_
+      109 (List._∷_ 98 (List._∷_ 101 (List._∷_ 114 (List._∷_ 105 (List._∷_ 110 (List._∷_ 103 (List._∷_ 58 (List._∷_ 58 (List._∷_ 78 (List._∷_ 117 (List._∷_ 109 (List._∷_ 98 (List._∷_
+      101 (List._∷_ 114 (List._∷_ 105 (List._∷_ 110 (List._∷_ 103 List.[])))))))))))))))))))))))))))) (Syntax.ttcons Syntax.tnil (Syntax.ttcons Syntax.tnil Syntax.ttnil)))
+      (Syntax.tcons (Syntax.tyEnum (List._∷_ 104 (List._∷_ 101 (List._∷_ 97 (List._∷_ 100 (List._∷_ 101 (List._∷_ 114 (List._∷_ 58 (List._∷_ 58 (List._∷_ 101 (List._∷_ 100 (List._∷_
+      105 (List._∷_ 116 (List._∷_ 105 (List._∷_ 111 (List._∷_ 110 (List._∷_ 58 (List._∷_ 58 (List._∷_ 69 (List._∷_ 100 (List._∷_ 105 (List._∷_ 116 (List._∷_ 105 (List._∷_ 111
+      (List._∷_ 110 List.[])))))))))))))))))))))))) (Syntax.ttcons Syntax.tnil (Syntax.ttcons Syntax.tnil Syntax.ttnil))) Syntax.tnil))),
 ) (List._∷_ (
   3,
   Mut.mslice
@@ -2022,19 +2123,19 @@ t30 = List._∷_ (
   Rows.any-gone (Syntax.tyStruct (List._∷_ 116 (List._∷_ 121 (List._∷_ 112 (List._∷_ 101 (List._∷_ 115 (List._∷_ 58 (List._∷_ 58 (List._∷_ 67 (List._∷_ 111 (List._∷_ 100
       (List._∷_ 101 (List._∷_ 115 (List._∷_ 116 (List._∷_ 114 (List._∷_ 101 (List._∷_ 97 (List._∷_ 109 (List._∷_ 79 (List._∷_ 102 (List._∷_ 102 (List._∷_ 115 (List._∷_ 101 (List._∷_
       116 List.[]))))))))))))))))))))))) (Syntax.tcons (Syntax.tyInt Syntax.w64) Syntax.tnil)),
-) (List._∷_ (8, Rows.any-gone (Syntax.tyInt Syntax.w64)) (List._∷_ (
-  9,
-  Rows.any-gone
-      (Syntax.tyInt Syntax.w64),
-) (List._∷_ (10, Rows.any-gone (Syntax.tyInt Syntax.w64)) (List._∷_ (11, Rows.any-gone (Syntax.tyInt Syntax.w64)) (List._∷_ (
-  12,
-  Rows.any-gone
-      Syntax.tyBool,
-) (List._∷_ (13, Rows.any-gone (Syntax.tyInt Syntax.w64)) (List._∷_ (14, Rows.any-gone (Syntax.tyInt Syntax.w64)) (List._∷_ (
-  15,
-  Rows.any-gone (Syntax.tyRef
-      Syntax.erased Syntax.mut (Syntax.tyInt Syntax.w8)),
-) List.[])))))))))))))))
+) (List._∷_ (
+  8,
+  Rows.any-gone (Syntax.tyEnum (List._∷_ 104 (List._∷_ 101 (List._∷_ 97
+      (List._∷_ 100 (List._∷_ 101 (List._∷_ 114 (List._∷_ 58 (List._∷_ 58 (List._∷_ 110 (List._∷_ 117 (List._∷_ 109 (List._∷_ 98 (List._∷_ 101 (List._∷_ 114 (List._∷_ 105 (List._∷_
+      110 (List._∷_ 103 (List._∷_ 58 (List._∷_ 58 (List._∷_ 78 (List._∷_ 117 (List._∷_ 109 (List._∷_ 98 (List._∷_ 101 (List._∷_ 114 (List._∷_ 105 (List._∷_ 110 (List._∷_ 103
+      List.[])))))))))))))))))))))))))))) (Syntax.ttcons Syntax.tnil (Syntax.ttcons Syntax.tnil Syntax.ttnil))),
+) (List._∷_ (9, Rows.any-gone (Syntax.tyInt Syntax.w64)) (List._∷_ (
+  10,
+  Rows.any-gone (Syntax.tyInt Syntax.w64),
+) (List._∷_ (11, Rows.any-gone (Syntax.tyInt Syntax.w64)) (List._∷_ (12, Rows.any-gone (Syntax.tyInt Syntax.w64)) (List._∷_ (
+  13,
+  Rows.any-gone Syntax.tyBool,
+) (List._∷_ (14, Rows.any-gone (Syntax.tyInt Syntax.w64)) (List._∷_ (15, Rows.any-gone (Syntax.tyInt Syntax.w64)) List.[])))))))))))))))
 
 abbrev pub t31 : List.List Row.Entry
 t31 = List._∷_ (
@@ -2054,93 +2155,34 @@ t31 = List._∷_ (
   1,
   Rows.sslice
       (Referent.rtF (Referent.fInt Syntax.w8)) (Syntax.tyRef (Syntax.named 0) Syntax.imm (Syntax.tyInt Syntax.w8)) 0,
-) (List._∷_ (2, Rows.whole (Declared.row Numbering.the-type))
-    (List._∷_ (3, Relend.mslice-owed LentTilePartEntry.row (Syntax.tyRef (Syntax.named 1) Syntax.mut LentTilePartEntry.pointee) 1 4 Row.off) (List._∷_ (
+) (List._∷_ (2, Rows.whole (Declared'.row Reading.the-type))
+    (List._∷_ (3, Mut.mslice LentTilePartEntry.row (Syntax.tyRef (Syntax.named 1) Syntax.mut LentTilePartEntry.pointee) 1) (List._∷_ (
       4,
-      Mut.mslice (Referent.rtF
-          (Referent.fInt Syntax.w8)) (Syntax.tyRef (Syntax.named 2) Syntax.mut (Syntax.tyInt Syntax.w8)) 2,
+      Mut.mslice (Referent.rtF (Referent.fInt
+          Syntax.w8)) (Syntax.tyRef (Syntax.named 2) Syntax.mut (Syntax.tyInt Syntax.w8)) 2,
     ) (List._∷_ (5, Rows.whole (Declared.row MainHeader.the-type)) (List._∷_ (
       6,
-      Rows.any-gone (Syntax.tyStruct (List._∷_ 104 (List._∷_ 101 (List._∷_ 97 (List._∷_ 100 (List._∷_ 101 (List._∷_ 114 (List._∷_ 58 (List._∷_ 58 (List._∷_ 112 (List._∷_ 97 (List._∷_
-          114 (List._∷_ 115 (List._∷_ 101 (List._∷_ 58 (List._∷_ 58 (List._∷_ 77 (List._∷_ 97 (List._∷_ 105 (List._∷_ 110 (List._∷_ 72 (List._∷_ 101 (List._∷_ 97 (List._∷_ 100 (List._∷_
-          101 (List._∷_ 114 (List._∷_ 73 (List._∷_ 110 (List._∷_ 102 (List._∷_ 111 List.[]))))))))))))))))))))))))))))) (Syntax.tcons (Syntax.tyStruct (List._∷_ 116 (List._∷_ 121
-          (List._∷_ 112 (List._∷_ 101 (List._∷_ 115 (List._∷_ 58 (List._∷_ 58 (List._∷_ 67 (List._∷_ 111 (List._∷_ 100 (List._∷_ 101 (List._∷_ 115 (List._∷_ 116 (List._∷_ 114 (List._∷_
-          101 (List._∷_ 97 (List._∷_ 109 (List._∷_ 79 (List._∷_ 102 (List._∷_ 102 (List._∷_ 115 (List._∷_ 101 (List._∷_ 116 List.[]))))))))))))))))))))))) (Syntax.tcons (Syntax.tyInt
-          Syntax.w64) Syntax.tnil)) (Syntax.tcons (Syntax.tyInt Syntax.w64) (Syntax.tcons (Syntax.tyInt Syntax.w64) (Syntax.tcons (Syntax.tyInt Syntax.w64) Syntax.tnil))))),
-    ) (List._∷_
-    (7, Rows.whole (Declared'.row CodestreamOffset.the-type)) (List._∷_ (8, Rows.any-gone (Syntax.tyInt Syntax.w64)) (List._∷_ (9, Rows.any-gone (Syntax.tyInt Syntax.w64))
-    (List._∷_ (10, Rows.any-gone (Syntax.tyInt Syntax.w64)) (List._∷_ (11, Rows.any-gone (Syntax.tyInt Syntax.w64)) (List._∷_ (12, Rows.any-gone Syntax.tyBool) (List._∷_ (
-      13,
+      Rows.any-gone
+          (Syntax.tyStruct (List._∷_ 104 (List._∷_ 101 (List._∷_ 97 (List._∷_ 100 (List._∷_ 101 (List._∷_ 114 (List._∷_ 58 (List._∷_ 58 (List._∷_ 112 (List._∷_ 97 (List._∷_ 114 (List._∷_
+          115 (List._∷_ 101 (List._∷_ 58 (List._∷_ 58 (List._∷_ 77 (List._∷_ 97 (List._∷_ 105 (List._∷_ 110 (List._∷_ 72 (List._∷_ 101 (List._∷_ 97 (List._∷_ 100 (List._∷_ 101 (List._∷_
+          114 (List._∷_ 73 (List._∷_ 110 (List._∷_ 102 (List._∷_ 111 List.[]))))))))))))))))))))))))))))) (Syntax.tcons (Syntax.tyStruct (List._∷_ 116 (List._∷_ 121 (List._∷_ 112
+          (List._∷_ 101 (List._∷_ 115 (List._∷_ 58 (List._∷_ 58 (List._∷_ 67 (List._∷_ 111 (List._∷_ 100 (List._∷_ 101 (List._∷_ 115 (List._∷_ 116 (List._∷_ 114 (List._∷_ 101 (List._∷_
+          97 (List._∷_ 109 (List._∷_ 79 (List._∷_ 102 (List._∷_ 102 (List._∷_ 115 (List._∷_ 101 (List._∷_ 116 List.[]))))))))))))))))))))))) (Syntax.tcons (Syntax.tyInt Syntax.w64)
+          Syntax.tnil)) (Syntax.tcons (Syntax.tyInt Syntax.w64) (Syntax.tcons (Syntax.tyInt Syntax.w64) (Syntax.tcons (Syntax.tyInt Syntax.w64) Syntax.tnil))))),
+    ) (List._∷_ (
+      7,
+      Rows.whole
+          (Declared'.row CodestreamOffset.the-type),
+    ) (List._∷_ (8, Rows.whole (Declared.row Numbering.the-type)) (List._∷_ (9, Rows.any-gone (Syntax.tyInt Syntax.w64)) (List._∷_ (
+      10,
       Rows.any-gone (Syntax.tyInt Syntax.w64),
-    ) (List._∷_ (14, Rows.any-gone (Syntax.tyInt Syntax.w64)) (List._∷_ (
-      15,
-      Rows.any-gone (Syntax.tyRef Syntax.erased Syntax.mut
-          (Syntax.tyInt Syntax.w8)),
-    ) List.[])))))))))))))))
+    ) (List._∷_ (11, Rows.any-gone (Syntax.tyInt Syntax.w64)) (List._∷_ (12, Rows.any-gone (Syntax.tyInt Syntax.w64)) (List._∷_ (
+      13,
+      Rows.any-gone Syntax.tyBool,
+    ) (List._∷_ (14, Rows.any-gone (Syntax.tyInt Syntax.w64)) (List._∷_ (15, Rows.any-gone (Syntax.tyInt Syntax.w64)) List.[])))))))))))))))
 
 abbrev pub t32 : List.List Row.Entry
 t32 = List._∷_ (
-  16,
-  Rows.any-gone (Syntax.tyStruct (List._∷_ 38 (List._∷_ 91 (List._∷_ 93 List.[]))) (Syntax.tcons (Syntax.tyRef Syntax.erased Syntax.mut (Syntax.tyInt Syntax.w8))
-      (Syntax.tcons (Syntax.tyInt Syntax.w64) Syntax.tnil))),
-) (List._∷_ (17, Rows.any-gone Syntax.tyUnit) (List._∷_ (
-  18,
-  Relend.msptr LentTilePartEntry.row (Syntax.tyRef
-      Syntax.erased Syntax.mut LentTilePartEntry.pointee) 4,
-) (List._∷_ (
-  19,
-  Rows.any-gone (Syntax.tyStruct (List._∷_ 38 (List._∷_ 91 (List._∷_ 93 List.[]))) (Syntax.tcons
-      (Syntax.tyRef Syntax.erased Syntax.mut LentTilePartEntry.pointee) (Syntax.tcons (Syntax.tyInt Syntax.w64) Syntax.tnil))),
-) (List._∷_ (
-  20,
-  Rows.any-gone (Syntax.tyRef
-      Syntax.erased Syntax.mut (Syntax.tyInt Syntax.w8)),
-) (List._∷_ (
-  21,
-  Rows.any-gone (Syntax.tyStruct (List._∷_ 38 (List._∷_ 91 (List._∷_ 93 List.[]))) (Syntax.tcons (Syntax.tyRef
-      Syntax.erased Syntax.mut (Syntax.tyInt Syntax.w8)) (Syntax.tcons (Syntax.tyInt Syntax.w64) Syntax.tnil))),
-) List.[])))))
-
-abbrev pub t33 : List.List Row.Entry
-t33 = List._∷_ (
-  16,
-  Rows.any-gone (Syntax.tyStruct (List._∷_ 38 (List._∷_ 91 (List._∷_ 93 List.[]))) (Syntax.tcons (Syntax.tyRef Syntax.erased Syntax.mut (Syntax.tyInt Syntax.w8))
-      (Syntax.tcons (Syntax.tyInt Syntax.w64) Syntax.tnil))),
-) (List._∷_ (17, Rows.any-gone Syntax.tyUnit) (List._∷_ (
-  18,
-  Rows.any-gone (Syntax.tyRef Syntax.erased Syntax.mut
-      LentTilePartEntry.pointee),
-) (List._∷_ (19, Mut.mslice LentTilePartEntry.row (Syntax.tyRef Syntax.erased Syntax.mut LentTilePartEntry.pointee) 4) (List._∷_ (
-  20,
-  Rows.any-gone
-      (Syntax.tyRef Syntax.erased Syntax.mut (Syntax.tyInt Syntax.w8)),
-) (List._∷_ (
-  21,
-  Rows.any-gone (Syntax.tyStruct (List._∷_ 38 (List._∷_ 91 (List._∷_ 93 List.[]))) (Syntax.tcons
-      (Syntax.tyRef Syntax.erased Syntax.mut (Syntax.tyInt Syntax.w8)) (Syntax.tcons (Syntax.tyInt Syntax.w64) Syntax.tnil))),
-) List.[])))))
-
-abbrev pub t34 : List.List Row.Entry
-t34 = List._∷_ (
-  16,
-  Rows.any-gone (Syntax.tyStruct (List._∷_ 38 (List._∷_ 91 (List._∷_ 93 List.[]))) (Syntax.tcons (Syntax.tyRef Syntax.erased Syntax.mut (Syntax.tyInt Syntax.w8))
-      (Syntax.tcons (Syntax.tyInt Syntax.w64) Syntax.tnil))),
-) (List._∷_ (17, Rows.sc-here Row.sUnit) (List._∷_ (
-  18,
-  Rows.any-gone (Syntax.tyRef Syntax.erased Syntax.mut
-      LentTilePartEntry.pointee),
-) (List._∷_ (19, Mut.msleft LentTilePartEntry.row (Syntax.tyRef Syntax.erased Syntax.mut LentTilePartEntry.pointee)) (List._∷_ (
-  20,
-  Rows.any-gone
-      (Syntax.tyRef Syntax.erased Syntax.mut (Syntax.tyInt Syntax.w8)),
-) (List._∷_ (
-  21,
-  Rows.any-gone (Syntax.tyStruct (List._∷_ 38 (List._∷_ 91 (List._∷_ 93 List.[]))) (Syntax.tcons
-      (Syntax.tyRef Syntax.erased Syntax.mut (Syntax.tyInt Syntax.w8)) (Syntax.tcons (Syntax.tyInt Syntax.w64) Syntax.tnil))),
-) List.[])))))
-
-abbrev pub t35 : List.List Row.Entry
-t35 = List._∷_ (
   0,
   Rows.any-gone (Syntax.tyEnum (List._∷_ 104 (List._∷_ 101 (List._∷_ 97 (List._∷_ 100 (List._∷_ 101 (List._∷_ 114 (List._∷_ 58 (List._∷_ 58 (List._∷_ 112 (List._∷_
       97 (List._∷_ 114 (List._∷_ 115 (List._∷_ 101 (List._∷_ 58 (List._∷_ 58 (List._∷_ 77 (List._∷_ 97 (List._∷_ 105 (List._∷_ 110 (List._∷_ 72 (List._∷_ 101 (List._∷_ 97 (List._∷_
@@ -2159,10 +2201,75 @@ t35 = List._∷_ (
       (Referent.rtF (Referent.fInt Syntax.w8)) (Syntax.tyRef (Syntax.named 0) Syntax.imm (Syntax.tyInt Syntax.w8)) 0,
 ) (List._∷_ (
   2,
-  Rows.any-gone (Syntax.tyEnum (List._∷_ 104
-      (List._∷_ 101 (List._∷_ 97 (List._∷_ 100 (List._∷_ 101 (List._∷_ 114 (List._∷_ 58 (List._∷_ 58 (List._∷_ 110 (List._∷_ 117 (List._∷_ 109 (List._∷_ 98 (List._∷_ 101 (List._∷_
-      114 (List._∷_ 105 (List._∷_ 110 (List._∷_ 103 (List._∷_ 58 (List._∷_ 58 (List._∷_ 78 (List._∷_ 117 (List._∷_ 109 (List._∷_ 98 (List._∷_ 101 (List._∷_ 114 (List._∷_ 105
-      (List._∷_ 110 (List._∷_ 103 List.[])))))))))))))))))))))))))))) (Syntax.ttcons Syntax.tnil (Syntax.ttcons Syntax.tnil Syntax.ttnil))),
+  Rows.any-gone (Syntax.tyStruct (List._∷_ 104
+      (List._∷_ 101 (List._∷_ 97 (List._∷_ 100 (List._∷_ 101 (List._∷_ 114 (List._∷_ 58 (List._∷_ 58 (List._∷_ 114 (List._∷_ 101 (List._∷_ 97 (List._∷_ 100 (List._∷_ 105 (List._∷_
+      110 (List._∷_ 103 (List._∷_ 58 (List._∷_ 58 (List._∷_ 82 (List._∷_ 101 (List._∷_ 97 (List._∷_ 100 (List._∷_ 105 (List._∷_ 110 (List._∷_ 103 List.[]))))))))))))))))))))))))
+      (Syntax.tcons (Syntax.tyEnum (List._∷_ 104 (List._∷_ 101 (List._∷_ 97 (List._∷_ 100 (List._∷_ 101 (List._∷_ 114 (List._∷_ 58 (List._∷_ 58 (List._∷_ 110 (List._∷_ 117 (List._∷_
+      109 (List._∷_ 98 (List._∷_ 101 (List._∷_ 114 (List._∷_ 105 (List._∷_ 110 (List._∷_ 103 (List._∷_ 58 (List._∷_ 58 (List._∷_ 78 (List._∷_ 117 (List._∷_ 109 (List._∷_ 98 (List._∷_
+      101 (List._∷_ 114 (List._∷_ 105 (List._∷_ 110 (List._∷_ 103 List.[])))))))))))))))))))))))))))) (Syntax.ttcons Syntax.tnil (Syntax.ttcons Syntax.tnil Syntax.ttnil)))
+      (Syntax.tcons (Syntax.tyEnum (List._∷_ 104 (List._∷_ 101 (List._∷_ 97 (List._∷_ 100 (List._∷_ 101 (List._∷_ 114 (List._∷_ 58 (List._∷_ 58 (List._∷_ 101 (List._∷_ 100 (List._∷_
+      105 (List._∷_ 116 (List._∷_ 105 (List._∷_ 111 (List._∷_ 110 (List._∷_ 58 (List._∷_ 58 (List._∷_ 69 (List._∷_ 100 (List._∷_ 105 (List._∷_ 116 (List._∷_ 105 (List._∷_ 111
+      (List._∷_ 110 List.[])))))))))))))))))))))))) (Syntax.ttcons Syntax.tnil (Syntax.ttcons Syntax.tnil Syntax.ttnil))) Syntax.tnil))),
+) (List._∷_ (
+  3,
+  Mut.mslice
+      LentTilePartEntry.row (Syntax.tyRef (Syntax.named 1) Syntax.mut LentTilePartEntry.pointee) 1,
+) (List._∷_ (
+  4,
+  Mut.mslice (Referent.rtF (Referent.fInt Syntax.w8)) (Syntax.tyRef
+      (Syntax.named 2) Syntax.mut (Syntax.tyInt Syntax.w8)) 2,
+) (List._∷_ (5, Rows.whole (Declared.row MainHeader.the-type)) (List._∷_ (
+  6,
+  Rows.any-gone (Syntax.tyStruct (List._∷_ 104
+      (List._∷_ 101 (List._∷_ 97 (List._∷_ 100 (List._∷_ 101 (List._∷_ 114 (List._∷_ 58 (List._∷_ 58 (List._∷_ 112 (List._∷_ 97 (List._∷_ 114 (List._∷_ 115 (List._∷_ 101 (List._∷_ 58
+      (List._∷_ 58 (List._∷_ 77 (List._∷_ 97 (List._∷_ 105 (List._∷_ 110 (List._∷_ 72 (List._∷_ 101 (List._∷_ 97 (List._∷_ 100 (List._∷_ 101 (List._∷_ 114 (List._∷_ 73 (List._∷_ 110
+      (List._∷_ 102 (List._∷_ 111 List.[]))))))))))))))))))))))))))))) (Syntax.tcons (Syntax.tyStruct (List._∷_ 116 (List._∷_ 121 (List._∷_ 112 (List._∷_ 101 (List._∷_ 115 (List._∷_
+      58 (List._∷_ 58 (List._∷_ 67 (List._∷_ 111 (List._∷_ 100 (List._∷_ 101 (List._∷_ 115 (List._∷_ 116 (List._∷_ 114 (List._∷_ 101 (List._∷_ 97 (List._∷_ 109 (List._∷_ 79 (List._∷_
+      102 (List._∷_ 102 (List._∷_ 115 (List._∷_ 101 (List._∷_ 116 List.[]))))))))))))))))))))))) (Syntax.tcons (Syntax.tyInt Syntax.w64) Syntax.tnil)) (Syntax.tcons (Syntax.tyInt
+      Syntax.w64) (Syntax.tcons (Syntax.tyInt Syntax.w64) (Syntax.tcons (Syntax.tyInt Syntax.w64) Syntax.tnil))))),
+) (List._∷_ (
+  7,
+  Rows.whole (Declared'.row
+      CodestreamOffset.the-type),
+) (List._∷_ (8, Rows.whole (Declared.row Numbering.the-type)) (List._∷_ (9, Rows.any-gone (Syntax.tyInt Syntax.w64)) (List._∷_ (
+  10,
+  Rows.any-gone
+      (Syntax.tyInt Syntax.w64),
+) (List._∷_ (11, Rows.any-gone (Syntax.tyInt Syntax.w64)) (List._∷_ (12, Rows.any-gone (Syntax.tyInt Syntax.w64)) (List._∷_ (
+  13,
+  Rows.any-gone
+      Syntax.tyBool,
+) (List._∷_ (14, Rows.any-gone (Syntax.tyInt Syntax.w64)) (List._∷_ (15, Rows.any-gone (Syntax.tyInt Syntax.w64)) List.[])))))))))))))))
+
+abbrev pub t33 : List.List Row.Entry
+t33 = List._∷_ (
+  0,
+  Rows.any-gone (Syntax.tyEnum (List._∷_ 104 (List._∷_ 101 (List._∷_ 97 (List._∷_ 100 (List._∷_ 101 (List._∷_ 114 (List._∷_ 58 (List._∷_ 58 (List._∷_ 112 (List._∷_
+      97 (List._∷_ 114 (List._∷_ 115 (List._∷_ 101 (List._∷_ 58 (List._∷_ 58 (List._∷_ 77 (List._∷_ 97 (List._∷_ 105 (List._∷_ 110 (List._∷_ 72 (List._∷_ 101 (List._∷_ 97 (List._∷_
+      100 (List._∷_ 101 (List._∷_ 114 List.[]))))))))))))))))))))))))) (Syntax.ttcons (Syntax.tcons (Syntax.tyStruct (List._∷_ 104 (List._∷_ 101 (List._∷_ 97 (List._∷_ 100 (List._∷_
+      101 (List._∷_ 114 (List._∷_ 58 (List._∷_ 58 (List._∷_ 112 (List._∷_ 97 (List._∷_ 114 (List._∷_ 115 (List._∷_ 101 (List._∷_ 58 (List._∷_ 58 (List._∷_ 77 (List._∷_ 97 (List._∷_
+      105 (List._∷_ 110 (List._∷_ 72 (List._∷_ 101 (List._∷_ 97 (List._∷_ 100 (List._∷_ 101 (List._∷_ 114 (List._∷_ 73 (List._∷_ 110 (List._∷_ 102 (List._∷_ 111
+      List.[]))))))))))))))))))))))))))))) (Syntax.tcons (Syntax.tyStruct (List._∷_ 116 (List._∷_ 121 (List._∷_ 112 (List._∷_ 101 (List._∷_ 115 (List._∷_ 58 (List._∷_ 58 (List._∷_ 67
+      (List._∷_ 111 (List._∷_ 100 (List._∷_ 101 (List._∷_ 115 (List._∷_ 116 (List._∷_ 114 (List._∷_ 101 (List._∷_ 97 (List._∷_ 109 (List._∷_ 79 (List._∷_ 102 (List._∷_ 102 (List._∷_
+      115 (List._∷_ 101 (List._∷_ 116 List.[]))))))))))))))))))))))) (Syntax.tcons (Syntax.tyInt Syntax.w64) Syntax.tnil)) (Syntax.tcons (Syntax.tyInt Syntax.w64) (Syntax.tcons
+      (Syntax.tyInt Syntax.w64) (Syntax.tcons (Syntax.tyInt Syntax.w64) Syntax.tnil))))) Syntax.tnil) (Syntax.ttcons (Syntax.tcons (Syntax.tyStruct (List._∷_ 116 (List._∷_ 121
+      (List._∷_ 112 (List._∷_ 101 (List._∷_ 115 (List._∷_ 58 (List._∷_ 58 (List._∷_ 82 (List._∷_ 101 (List._∷_ 102 (List._∷_ 117 (List._∷_ 115 (List._∷_ 97 (List._∷_ 108
+      List.[])))))))))))))) (Syntax.tcons (Syntax.tyInt Syntax.w32) (Syntax.tcons (Syntax.tyInt Syntax.w64) Syntax.tnil))) Syntax.tnil) Syntax.ttnil))),
+) (List._∷_ (
+  1,
+  Rows.sslice
+      (Referent.rtF (Referent.fInt Syntax.w8)) (Syntax.tyRef (Syntax.named 0) Syntax.imm (Syntax.tyInt Syntax.w8)) 0,
+) (List._∷_ (
+  2,
+  Rows.any-gone (Syntax.tyStruct (List._∷_ 104
+      (List._∷_ 101 (List._∷_ 97 (List._∷_ 100 (List._∷_ 101 (List._∷_ 114 (List._∷_ 58 (List._∷_ 58 (List._∷_ 114 (List._∷_ 101 (List._∷_ 97 (List._∷_ 100 (List._∷_ 105 (List._∷_
+      110 (List._∷_ 103 (List._∷_ 58 (List._∷_ 58 (List._∷_ 82 (List._∷_ 101 (List._∷_ 97 (List._∷_ 100 (List._∷_ 105 (List._∷_ 110 (List._∷_ 103 List.[]))))))))))))))))))))))))
+      (Syntax.tcons (Syntax.tyEnum (List._∷_ 104 (List._∷_ 101 (List._∷_ 97 (List._∷_ 100 (List._∷_ 101 (List._∷_ 114 (List._∷_ 58 (List._∷_ 58 (List._∷_ 110 (List._∷_ 117 (List._∷_
+      109 (List._∷_ 98 (List._∷_ 101 (List._∷_ 114 (List._∷_ 105 (List._∷_ 110 (List._∷_ 103 (List._∷_ 58 (List._∷_ 58 (List._∷_ 78 (List._∷_ 117 (List._∷_ 109 (List._∷_ 98 (List._∷_
+      101 (List._∷_ 114 (List._∷_ 105 (List._∷_ 110 (List._∷_ 103 List.[])))))))))))))))))))))))))))) (Syntax.ttcons Syntax.tnil (Syntax.ttcons Syntax.tnil Syntax.ttnil)))
+      (Syntax.tcons (Syntax.tyEnum (List._∷_ 104 (List._∷_ 101 (List._∷_ 97 (List._∷_ 100 (List._∷_ 101 (List._∷_ 114 (List._∷_ 58 (List._∷_ 58 (List._∷_ 101 (List._∷_ 100 (List._∷_
+      105 (List._∷_ 116 (List._∷_ 105 (List._∷_ 111 (List._∷_ 110 (List._∷_ 58 (List._∷_ 58 (List._∷_ 69 (List._∷_ 100 (List._∷_ 105 (List._∷_ 116 (List._∷_ 105 (List._∷_ 111
+      (List._∷_ 110 List.[])))))))))))))))))))))))) (Syntax.ttcons Syntax.tnil (Syntax.ttcons Syntax.tnil Syntax.ttnil))) Syntax.tnil))),
 ) (List._∷_ (
   3,
   Relend.mslice-owed
@@ -2184,21 +2291,72 @@ t35 = List._∷_ (
   7,
   Rows.whole
       (Declared'.row CodestreamOffset.the-type),
-) (List._∷_ (8, Rows.any-gone (Syntax.tyInt Syntax.w64)) (List._∷_ (9, Rows.any-gone (Syntax.tyInt Syntax.w64)) (List._∷_ (
+) (List._∷_ (8, Rows.whole (Declared.row Numbering.the-type)) (List._∷_ (9, Rows.any-gone (Syntax.tyInt Syntax.w64)) (List._∷_ (
   10,
   Rows.any-gone (Syntax.tyInt Syntax.w64),
-) (List._∷_ (11, Rows.any-gone (Syntax.tyInt Syntax.w64)) (List._∷_ (12, Rows.any-gone Syntax.tyBool) (List._∷_ (
+) (List._∷_ (11, Rows.any-gone (Syntax.tyInt Syntax.w64)) (List._∷_ (12, Rows.any-gone (Syntax.tyInt Syntax.w64)) (List._∷_ (
   13,
+  Rows.any-gone Syntax.tyBool,
+) (List._∷_ (14, Rows.any-gone (Syntax.tyInt Syntax.w64)) (List._∷_ (15, Rows.any-gone (Syntax.tyInt Syntax.w64)) List.[])))))))))))))))
+
+abbrev pub t34 : List.List Row.Entry
+t34 = List._∷_ (16, Rows.any-gone (Syntax.tyRef Syntax.erased Syntax.mut (Syntax.tyInt Syntax.w8))) (List._∷_ (
+  17,
+  Rows.any-gone (Syntax.tyStruct (List._∷_ 38 (List._∷_ 91
+      (List._∷_ 93 List.[]))) (Syntax.tcons (Syntax.tyRef Syntax.erased Syntax.mut (Syntax.tyInt Syntax.w8)) (Syntax.tcons (Syntax.tyInt Syntax.w64) Syntax.tnil))),
+) (List._∷_ (
+  18,
+  Rows.any-gone Syntax.tyUnit,
+) (List._∷_ (19, Relend.msptr LentTilePartEntry.row (Syntax.tyRef Syntax.erased Syntax.mut LentTilePartEntry.pointee) 4) (List._∷_ (
+  20,
   Rows.any-gone
-      (Syntax.tyInt Syntax.w64),
-) (List._∷_ (14, Rows.any-gone (Syntax.tyInt Syntax.w64)) (List._∷_ (
-  15,
-  Rows.any-gone (Syntax.tyRef Syntax.erased Syntax.mut (Syntax.tyInt
-      Syntax.w8)),
-) List.[])))))))))))))))
+      (Syntax.tyStruct (List._∷_ 38 (List._∷_ 91 (List._∷_ 93 List.[]))) (Syntax.tcons (Syntax.tyRef Syntax.erased Syntax.mut LentTilePartEntry.pointee) (Syntax.tcons (Syntax.tyInt
+      Syntax.w64) Syntax.tnil))),
+) (List._∷_ (21, Rows.any-gone (Syntax.tyRef Syntax.erased Syntax.mut (Syntax.tyInt Syntax.w8))) (List._∷_ (
+  22,
+  Rows.any-gone (Syntax.tyStruct
+      (List._∷_ 38 (List._∷_ 91 (List._∷_ 93 List.[]))) (Syntax.tcons (Syntax.tyRef Syntax.erased Syntax.mut (Syntax.tyInt Syntax.w8)) (Syntax.tcons (Syntax.tyInt Syntax.w64)
+      Syntax.tnil))),
+) List.[]))))))
+
+abbrev pub t35 : List.List Row.Entry
+t35 = List._∷_ (16, Rows.any-gone (Syntax.tyRef Syntax.erased Syntax.mut (Syntax.tyInt Syntax.w8))) (List._∷_ (
+  17,
+  Rows.any-gone (Syntax.tyStruct (List._∷_ 38 (List._∷_ 91
+      (List._∷_ 93 List.[]))) (Syntax.tcons (Syntax.tyRef Syntax.erased Syntax.mut (Syntax.tyInt Syntax.w8)) (Syntax.tcons (Syntax.tyInt Syntax.w64) Syntax.tnil))),
+) (List._∷_ (
+  18,
+  Rows.any-gone Syntax.tyUnit,
+) (List._∷_ (19, Rows.any-gone (Syntax.tyRef Syntax.erased Syntax.mut LentTilePartEntry.pointee)) (List._∷_ (
+  20,
+  Mut.mslice LentTilePartEntry.row
+      (Syntax.tyRef Syntax.erased Syntax.mut LentTilePartEntry.pointee) 4,
+) (List._∷_ (21, Rows.any-gone (Syntax.tyRef Syntax.erased Syntax.mut (Syntax.tyInt Syntax.w8))) (List._∷_ (
+  22,
+  Rows.any-gone (Syntax.tyStruct (List._∷_ 38 (List._∷_ 91 (List._∷_ 93 List.[]))) (Syntax.tcons (Syntax.tyRef Syntax.erased Syntax.mut (Syntax.tyInt Syntax.w8))
+      (Syntax.tcons (Syntax.tyInt Syntax.w64) Syntax.tnil))),
+) List.[]))))))
 
 abbrev pub t36 : List.List Row.Entry
-t36 = List._∷_ (
+t36 = List._∷_ (16, Rows.any-gone (Syntax.tyRef Syntax.erased Syntax.mut (Syntax.tyInt Syntax.w8))) (List._∷_ (
+  17,
+  Rows.any-gone (Syntax.tyStruct (List._∷_ 38 (List._∷_ 91
+      (List._∷_ 93 List.[]))) (Syntax.tcons (Syntax.tyRef Syntax.erased Syntax.mut (Syntax.tyInt Syntax.w8)) (Syntax.tcons (Syntax.tyInt Syntax.w64) Syntax.tnil))),
+) (List._∷_ (
+  18,
+  Rows.sc-here Row.sUnit,
+) (List._∷_ (19, Rows.any-gone (Syntax.tyRef Syntax.erased Syntax.mut LentTilePartEntry.pointee)) (List._∷_ (
+  20,
+  Mut.msleft LentTilePartEntry.row
+      (Syntax.tyRef Syntax.erased Syntax.mut LentTilePartEntry.pointee),
+) (List._∷_ (21, Rows.any-gone (Syntax.tyRef Syntax.erased Syntax.mut (Syntax.tyInt Syntax.w8))) (List._∷_ (
+  22,
+  Rows.any-gone (Syntax.tyStruct (List._∷_ 38 (List._∷_ 91 (List._∷_ 93 List.[]))) (Syntax.tcons (Syntax.tyRef Syntax.erased Syntax.mut (Syntax.tyInt Syntax.w8)) (Syntax.tcons
+      (Syntax.tyInt Syntax.w64) Syntax.tnil))),
+) List.[]))))))
+
+abbrev pub t37 : List.List Row.Entry
+t37 = List._∷_ (
   0,
   Rows.any-gone (Syntax.tyEnum (List._∷_ 104 (List._∷_ 101 (List._∷_ 97 (List._∷_ 100 (List._∷_ 101 (List._∷_ 114 (List._∷_ 58 (List._∷_ 58 (List._∷_ 112 (List._∷_
       97 (List._∷_ 114 (List._∷_ 115 (List._∷_ 101 (List._∷_ 58 (List._∷_ 58 (List._∷_ 77 (List._∷_ 97 (List._∷_ 105 (List._∷_ 110 (List._∷_ 72 (List._∷_ 101 (List._∷_ 97 (List._∷_
@@ -2217,10 +2375,15 @@ t36 = List._∷_ (
       (Referent.rtF (Referent.fInt Syntax.w8)) (Syntax.tyRef (Syntax.named 0) Syntax.imm (Syntax.tyInt Syntax.w8)) 0,
 ) (List._∷_ (
   2,
-  Rows.any-gone (Syntax.tyEnum (List._∷_ 104
-      (List._∷_ 101 (List._∷_ 97 (List._∷_ 100 (List._∷_ 101 (List._∷_ 114 (List._∷_ 58 (List._∷_ 58 (List._∷_ 110 (List._∷_ 117 (List._∷_ 109 (List._∷_ 98 (List._∷_ 101 (List._∷_
-      114 (List._∷_ 105 (List._∷_ 110 (List._∷_ 103 (List._∷_ 58 (List._∷_ 58 (List._∷_ 78 (List._∷_ 117 (List._∷_ 109 (List._∷_ 98 (List._∷_ 101 (List._∷_ 114 (List._∷_ 105
-      (List._∷_ 110 (List._∷_ 103 List.[])))))))))))))))))))))))))))) (Syntax.ttcons Syntax.tnil (Syntax.ttcons Syntax.tnil Syntax.ttnil))),
+  Rows.any-gone (Syntax.tyStruct (List._∷_ 104
+      (List._∷_ 101 (List._∷_ 97 (List._∷_ 100 (List._∷_ 101 (List._∷_ 114 (List._∷_ 58 (List._∷_ 58 (List._∷_ 114 (List._∷_ 101 (List._∷_ 97 (List._∷_ 100 (List._∷_ 105 (List._∷_
+      110 (List._∷_ 103 (List._∷_ 58 (List._∷_ 58 (List._∷_ 82 (List._∷_ 101 (List._∷_ 97 (List._∷_ 100 (List._∷_ 105 (List._∷_ 110 (List._∷_ 103 List.[]))))))))))))))))))))))))
+      (Syntax.tcons (Syntax.tyEnum (List._∷_ 104 (List._∷_ 101 (List._∷_ 97 (List._∷_ 100 (List._∷_ 101 (List._∷_ 114 (List._∷_ 58 (List._∷_ 58 (List._∷_ 110 (List._∷_ 117 (List._∷_
+      109 (List._∷_ 98 (List._∷_ 101 (List._∷_ 114 (List._∷_ 105 (List._∷_ 110 (List._∷_ 103 (List._∷_ 58 (List._∷_ 58 (List._∷_ 78 (List._∷_ 117 (List._∷_ 109 (List._∷_ 98 (List._∷_
+      101 (List._∷_ 114 (List._∷_ 105 (List._∷_ 110 (List._∷_ 103 List.[])))))))))))))))))))))))))))) (Syntax.ttcons Syntax.tnil (Syntax.ttcons Syntax.tnil Syntax.ttnil)))
+      (Syntax.tcons (Syntax.tyEnum (List._∷_ 104 (List._∷_ 101 (List._∷_ 97 (List._∷_ 100 (List._∷_ 101 (List._∷_ 114 (List._∷_ 58 (List._∷_ 58 (List._∷_ 101 (List._∷_ 100 (List._∷_
+      105 (List._∷_ 116 (List._∷_ 105 (List._∷_ 111 (List._∷_ 110 (List._∷_ 58 (List._∷_ 58 (List._∷_ 69 (List._∷_ 100 (List._∷_ 105 (List._∷_ 116 (List._∷_ 105 (List._∷_ 111
+      (List._∷_ 110 List.[])))))))))))))))))))))))) (Syntax.ttcons Syntax.tnil (Syntax.ttcons Syntax.tnil Syntax.ttnil))) Syntax.tnil))),
 ) (List._∷_ (
   3,
   Relend.mslice-owed
@@ -2244,38 +2407,19 @@ t36 = List._∷_ (
       (Syntax.tyStruct (List._∷_ 116 (List._∷_ 121 (List._∷_ 112 (List._∷_ 101 (List._∷_ 115 (List._∷_ 58 (List._∷_ 58 (List._∷_ 67 (List._∷_ 111 (List._∷_ 100 (List._∷_ 101
       (List._∷_ 115 (List._∷_ 116 (List._∷_ 114 (List._∷_ 101 (List._∷_ 97 (List._∷_ 109 (List._∷_ 79 (List._∷_ 102 (List._∷_ 102 (List._∷_ 115 (List._∷_ 101 (List._∷_ 116
       List.[]))))))))))))))))))))))) (Syntax.tcons (Syntax.tyInt Syntax.w64) Syntax.tnil)),
-) (List._∷_ (8, Rows.any-gone (Syntax.tyInt Syntax.w64)) (List._∷_ (
+) (List._∷_ (8, Rows.whole (Declared.row Numbering.the-type)) (List._∷_ (
   9,
   Rows.any-gone
       (Syntax.tyInt Syntax.w64),
 ) (List._∷_ (10, Rows.any-gone (Syntax.tyInt Syntax.w64)) (List._∷_ (11, Rows.any-gone (Syntax.tyInt Syntax.w64)) (List._∷_ (
   12,
   Rows.any-gone
-      Syntax.tyBool,
-) (List._∷_ (13, Rows.any-gone (Syntax.tyInt Syntax.w64)) (List._∷_ (14, Rows.any-gone (Syntax.tyInt Syntax.w64)) (List._∷_ (
+      (Syntax.tyInt Syntax.w64),
+) (List._∷_ (13, Rows.any-gone Syntax.tyBool) (List._∷_ (14, Rows.any-gone (Syntax.tyInt Syntax.w64)) (List._∷_ (
   15,
-  Rows.any-gone (Syntax.tyRef
-      Syntax.erased Syntax.mut (Syntax.tyInt Syntax.w8)),
+  Rows.any-gone (Syntax.tyInt
+      Syntax.w64),
 ) List.[])))))))))))))))
-
-abbrev pub t37 : List.List Row.Entry
-t37 = List._∷_ (
-  16,
-  Rows.any-gone (Syntax.tyStruct (List._∷_ 38 (List._∷_ 91 (List._∷_ 93 List.[]))) (Syntax.tcons (Syntax.tyRef Syntax.erased Syntax.mut (Syntax.tyInt Syntax.w8))
-      (Syntax.tcons (Syntax.tyInt Syntax.w64) Syntax.tnil))),
-) (List._∷_ (17, Rows.any-gone Syntax.tyUnit) (List._∷_ (
-  18,
-  Rows.any-gone (Syntax.tyRef Syntax.erased Syntax.mut
-      LentTilePartEntry.pointee),
-) (List._∷_ (19, Mut.msleft LentTilePartEntry.row (Syntax.tyRef Syntax.erased Syntax.mut LentTilePartEntry.pointee)) (List._∷_ (
-  20,
-  Rows.any-gone
-      (Syntax.tyRef Syntax.erased Syntax.mut (Syntax.tyInt Syntax.w8)),
-) (List._∷_ (
-  21,
-  Rows.any-gone (Syntax.tyStruct (List._∷_ 38 (List._∷_ 91 (List._∷_ 93 List.[]))) (Syntax.tcons
-      (Syntax.tyRef Syntax.erased Syntax.mut (Syntax.tyInt Syntax.w8)) (Syntax.tcons (Syntax.tyInt Syntax.w64) Syntax.tnil))),
-) List.[])))))
 
 abbrev pub t38 : List.List Row.Entry
 t38 = List._∷_ (
@@ -2297,10 +2441,99 @@ t38 = List._∷_ (
       (Referent.rtF (Referent.fInt Syntax.w8)) (Syntax.tyRef (Syntax.named 0) Syntax.imm (Syntax.tyInt Syntax.w8)) 0,
 ) (List._∷_ (
   2,
-  Rows.any-gone (Syntax.tyEnum (List._∷_ 104
-      (List._∷_ 101 (List._∷_ 97 (List._∷_ 100 (List._∷_ 101 (List._∷_ 114 (List._∷_ 58 (List._∷_ 58 (List._∷_ 110 (List._∷_ 117 (List._∷_ 109 (List._∷_ 98 (List._∷_ 101 (List._∷_
-      114 (List._∷_ 105 (List._∷_ 110 (List._∷_ 103 (List._∷_ 58 (List._∷_ 58 (List._∷_ 78 (List._∷_ 117 (List._∷_ 109 (List._∷_ 98 (List._∷_ 101 (List._∷_ 114 (List._∷_ 105
-      (List._∷_ 110 (List._∷_ 103 List.[])))))))))))))))))))))))))))) (Syntax.ttcons Syntax.tnil (Syntax.ttcons Syntax.tnil Syntax.ttnil))),
+  Rows.any-gone (Syntax.tyStruct (List._∷_ 104
+      (List._∷_ 101 (List._∷_ 97 (List._∷_ 100 (List._∷_ 101 (List._∷_ 114 (List._∷_ 58 (List._∷_ 58 (List._∷_ 114 (List._∷_ 101 (List._∷_ 97 (List._∷_ 100 (List._∷_ 105 (List._∷_
+      110 (List._∷_ 103 (List._∷_ 58 (List._∷_ 58 (List._∷_ 82 (List._∷_ 101 (List._∷_ 97 (List._∷_ 100 (List._∷_ 105 (List._∷_ 110 (List._∷_ 103 List.[]))))))))))))))))))))))))
+      (Syntax.tcons (Syntax.tyEnum (List._∷_ 104 (List._∷_ 101 (List._∷_ 97 (List._∷_ 100 (List._∷_ 101 (List._∷_ 114 (List._∷_ 58 (List._∷_ 58 (List._∷_ 110 (List._∷_ 117 (List._∷_
+      109 (List._∷_ 98 (List._∷_ 101 (List._∷_ 114 (List._∷_ 105 (List._∷_ 110 (List._∷_ 103 (List._∷_ 58 (List._∷_ 58 (List._∷_ 78 (List._∷_ 117 (List._∷_ 109 (List._∷_ 98 (List._∷_
+      101 (List._∷_ 114 (List._∷_ 105 (List._∷_ 110 (List._∷_ 103 List.[])))))))))))))))))))))))))))) (Syntax.ttcons Syntax.tnil (Syntax.ttcons Syntax.tnil Syntax.ttnil)))
+      (Syntax.tcons (Syntax.tyEnum (List._∷_ 104 (List._∷_ 101 (List._∷_ 97 (List._∷_ 100 (List._∷_ 101 (List._∷_ 114 (List._∷_ 58 (List._∷_ 58 (List._∷_ 101 (List._∷_ 100 (List._∷_
+      105 (List._∷_ 116 (List._∷_ 105 (List._∷_ 111 (List._∷_ 110 (List._∷_ 58 (List._∷_ 58 (List._∷_ 69 (List._∷_ 100 (List._∷_ 105 (List._∷_ 116 (List._∷_ 105 (List._∷_ 111
+      (List._∷_ 110 List.[])))))))))))))))))))))))) (Syntax.ttcons Syntax.tnil (Syntax.ttcons Syntax.tnil Syntax.ttnil))) Syntax.tnil))),
+) (List._∷_ (
+  3,
+  Relend.mslice-owed
+      LentTilePartEntry.row (Syntax.tyRef (Syntax.named 1) Syntax.mut LentTilePartEntry.pointee) 1 4 Row.off,
+) (List._∷_ (
+  4,
+  Mut.mslice (Referent.rtF (Referent.fInt Syntax.w8))
+      (Syntax.tyRef (Syntax.named 2) Syntax.mut (Syntax.tyInt Syntax.w8)) 2,
+) (List._∷_ (5, Rows.whole (Declared.row MainHeader.the-type)) (List._∷_ (
+  6,
+  Rows.any-gone (Syntax.tyStruct
+      (List._∷_ 104 (List._∷_ 101 (List._∷_ 97 (List._∷_ 100 (List._∷_ 101 (List._∷_ 114 (List._∷_ 58 (List._∷_ 58 (List._∷_ 112 (List._∷_ 97 (List._∷_ 114 (List._∷_ 115 (List._∷_
+      101 (List._∷_ 58 (List._∷_ 58 (List._∷_ 77 (List._∷_ 97 (List._∷_ 105 (List._∷_ 110 (List._∷_ 72 (List._∷_ 101 (List._∷_ 97 (List._∷_ 100 (List._∷_ 101 (List._∷_ 114 (List._∷_
+      73 (List._∷_ 110 (List._∷_ 102 (List._∷_ 111 List.[]))))))))))))))))))))))))))))) (Syntax.tcons (Syntax.tyStruct (List._∷_ 116 (List._∷_ 121 (List._∷_ 112 (List._∷_ 101
+      (List._∷_ 115 (List._∷_ 58 (List._∷_ 58 (List._∷_ 67 (List._∷_ 111 (List._∷_ 100 (List._∷_ 101 (List._∷_ 115 (List._∷_ 116 (List._∷_ 114 (List._∷_ 101 (List._∷_ 97 (List._∷_
+      109 (List._∷_ 79 (List._∷_ 102 (List._∷_ 102 (List._∷_ 115 (List._∷_ 101 (List._∷_ 116 List.[]))))))))))))))))))))))) (Syntax.tcons (Syntax.tyInt Syntax.w64) Syntax.tnil))
+      (Syntax.tcons (Syntax.tyInt Syntax.w64) (Syntax.tcons (Syntax.tyInt Syntax.w64) (Syntax.tcons (Syntax.tyInt Syntax.w64) Syntax.tnil))))),
+) (List._∷_ (
+  7,
+  Rows.any-gone
+      (Syntax.tyStruct (List._∷_ 116 (List._∷_ 121 (List._∷_ 112 (List._∷_ 101 (List._∷_ 115 (List._∷_ 58 (List._∷_ 58 (List._∷_ 67 (List._∷_ 111 (List._∷_ 100 (List._∷_ 101
+      (List._∷_ 115 (List._∷_ 116 (List._∷_ 114 (List._∷_ 101 (List._∷_ 97 (List._∷_ 109 (List._∷_ 79 (List._∷_ 102 (List._∷_ 102 (List._∷_ 115 (List._∷_ 101 (List._∷_ 116
+      List.[]))))))))))))))))))))))) (Syntax.tcons (Syntax.tyInt Syntax.w64) Syntax.tnil)),
+) (List._∷_ (
+  8,
+  Rows.any-gone (Syntax.tyEnum (List._∷_ 104 (List._∷_ 101 (List._∷_ 97
+      (List._∷_ 100 (List._∷_ 101 (List._∷_ 114 (List._∷_ 58 (List._∷_ 58 (List._∷_ 110 (List._∷_ 117 (List._∷_ 109 (List._∷_ 98 (List._∷_ 101 (List._∷_ 114 (List._∷_ 105 (List._∷_
+      110 (List._∷_ 103 (List._∷_ 58 (List._∷_ 58 (List._∷_ 78 (List._∷_ 117 (List._∷_ 109 (List._∷_ 98 (List._∷_ 101 (List._∷_ 114 (List._∷_ 105 (List._∷_ 110 (List._∷_ 103
+      List.[])))))))))))))))))))))))))))) (Syntax.ttcons Syntax.tnil (Syntax.ttcons Syntax.tnil Syntax.ttnil))),
+) (List._∷_ (9, Rows.any-gone (Syntax.tyInt Syntax.w64)) (List._∷_ (
+  10,
+  Rows.any-gone (Syntax.tyInt Syntax.w64),
+) (List._∷_ (11, Rows.any-gone (Syntax.tyInt Syntax.w64)) (List._∷_ (12, Rows.any-gone (Syntax.tyInt Syntax.w64)) (List._∷_ (
+  13,
+  Rows.any-gone Syntax.tyBool,
+) (List._∷_ (14, Rows.any-gone (Syntax.tyInt Syntax.w64)) (List._∷_ (15, Rows.any-gone (Syntax.tyInt Syntax.w64)) List.[])))))))))))))))
+
+abbrev pub t39 : List.List Row.Entry
+t39 = List._∷_ (16, Rows.any-gone (Syntax.tyRef Syntax.erased Syntax.mut (Syntax.tyInt Syntax.w8))) (List._∷_ (
+  17,
+  Rows.any-gone (Syntax.tyStruct (List._∷_ 38 (List._∷_ 91
+      (List._∷_ 93 List.[]))) (Syntax.tcons (Syntax.tyRef Syntax.erased Syntax.mut (Syntax.tyInt Syntax.w8)) (Syntax.tcons (Syntax.tyInt Syntax.w64) Syntax.tnil))),
+) (List._∷_ (
+  18,
+  Rows.any-gone Syntax.tyUnit,
+) (List._∷_ (19, Rows.any-gone (Syntax.tyRef Syntax.erased Syntax.mut LentTilePartEntry.pointee)) (List._∷_ (
+  20,
+  Mut.msleft LentTilePartEntry.row
+      (Syntax.tyRef Syntax.erased Syntax.mut LentTilePartEntry.pointee),
+) (List._∷_ (21, Rows.any-gone (Syntax.tyRef Syntax.erased Syntax.mut (Syntax.tyInt Syntax.w8))) (List._∷_ (
+  22,
+  Rows.any-gone (Syntax.tyStruct (List._∷_ 38 (List._∷_ 91 (List._∷_ 93 List.[]))) (Syntax.tcons (Syntax.tyRef Syntax.erased Syntax.mut (Syntax.tyInt Syntax.w8)) (Syntax.tcons
+      (Syntax.tyInt Syntax.w64) Syntax.tnil))),
+) List.[]))))))
+
+abbrev pub t40 : List.List Row.Entry
+t40 = List._∷_ (
+  0,
+  Rows.any-gone (Syntax.tyEnum (List._∷_ 104 (List._∷_ 101 (List._∷_ 97 (List._∷_ 100 (List._∷_ 101 (List._∷_ 114 (List._∷_ 58 (List._∷_ 58 (List._∷_ 112 (List._∷_
+      97 (List._∷_ 114 (List._∷_ 115 (List._∷_ 101 (List._∷_ 58 (List._∷_ 58 (List._∷_ 77 (List._∷_ 97 (List._∷_ 105 (List._∷_ 110 (List._∷_ 72 (List._∷_ 101 (List._∷_ 97 (List._∷_
+      100 (List._∷_ 101 (List._∷_ 114 List.[]))))))))))))))))))))))))) (Syntax.ttcons (Syntax.tcons (Syntax.tyStruct (List._∷_ 104 (List._∷_ 101 (List._∷_ 97 (List._∷_ 100 (List._∷_
+      101 (List._∷_ 114 (List._∷_ 58 (List._∷_ 58 (List._∷_ 112 (List._∷_ 97 (List._∷_ 114 (List._∷_ 115 (List._∷_ 101 (List._∷_ 58 (List._∷_ 58 (List._∷_ 77 (List._∷_ 97 (List._∷_
+      105 (List._∷_ 110 (List._∷_ 72 (List._∷_ 101 (List._∷_ 97 (List._∷_ 100 (List._∷_ 101 (List._∷_ 114 (List._∷_ 73 (List._∷_ 110 (List._∷_ 102 (List._∷_ 111
+      List.[]))))))))))))))))))))))))))))) (Syntax.tcons (Syntax.tyStruct (List._∷_ 116 (List._∷_ 121 (List._∷_ 112 (List._∷_ 101 (List._∷_ 115 (List._∷_ 58 (List._∷_ 58 (List._∷_ 67
+      (List._∷_ 111 (List._∷_ 100 (List._∷_ 101 (List._∷_ 115 (List._∷_ 116 (List._∷_ 114 (List._∷_ 101 (List._∷_ 97 (List._∷_ 109 (List._∷_ 79 (List._∷_ 102 (List._∷_ 102 (List._∷_
+      115 (List._∷_ 101 (List._∷_ 116 List.[]))))))))))))))))))))))) (Syntax.tcons (Syntax.tyInt Syntax.w64) Syntax.tnil)) (Syntax.tcons (Syntax.tyInt Syntax.w64) (Syntax.tcons
+      (Syntax.tyInt Syntax.w64) (Syntax.tcons (Syntax.tyInt Syntax.w64) Syntax.tnil))))) Syntax.tnil) (Syntax.ttcons (Syntax.tcons (Syntax.tyStruct (List._∷_ 116 (List._∷_ 121
+      (List._∷_ 112 (List._∷_ 101 (List._∷_ 115 (List._∷_ 58 (List._∷_ 58 (List._∷_ 82 (List._∷_ 101 (List._∷_ 102 (List._∷_ 117 (List._∷_ 115 (List._∷_ 97 (List._∷_ 108
+      List.[])))))))))))))) (Syntax.tcons (Syntax.tyInt Syntax.w32) (Syntax.tcons (Syntax.tyInt Syntax.w64) Syntax.tnil))) Syntax.tnil) Syntax.ttnil))),
+) (List._∷_ (
+  1,
+  Rows.sslice
+      (Referent.rtF (Referent.fInt Syntax.w8)) (Syntax.tyRef (Syntax.named 0) Syntax.imm (Syntax.tyInt Syntax.w8)) 0,
+) (List._∷_ (
+  2,
+  Rows.any-gone (Syntax.tyStruct (List._∷_ 104
+      (List._∷_ 101 (List._∷_ 97 (List._∷_ 100 (List._∷_ 101 (List._∷_ 114 (List._∷_ 58 (List._∷_ 58 (List._∷_ 114 (List._∷_ 101 (List._∷_ 97 (List._∷_ 100 (List._∷_ 105 (List._∷_
+      110 (List._∷_ 103 (List._∷_ 58 (List._∷_ 58 (List._∷_ 82 (List._∷_ 101 (List._∷_ 97 (List._∷_ 100 (List._∷_ 105 (List._∷_ 110 (List._∷_ 103 List.[]))))))))))))))))))))))))
+      (Syntax.tcons (Syntax.tyEnum (List._∷_ 104 (List._∷_ 101 (List._∷_ 97 (List._∷_ 100 (List._∷_ 101 (List._∷_ 114 (List._∷_ 58 (List._∷_ 58 (List._∷_ 110 (List._∷_ 117 (List._∷_
+      109 (List._∷_ 98 (List._∷_ 101 (List._∷_ 114 (List._∷_ 105 (List._∷_ 110 (List._∷_ 103 (List._∷_ 58 (List._∷_ 58 (List._∷_ 78 (List._∷_ 117 (List._∷_ 109 (List._∷_ 98 (List._∷_
+      101 (List._∷_ 114 (List._∷_ 105 (List._∷_ 110 (List._∷_ 103 List.[])))))))))))))))))))))))))))) (Syntax.ttcons Syntax.tnil (Syntax.ttcons Syntax.tnil Syntax.ttnil)))
+      (Syntax.tcons (Syntax.tyEnum (List._∷_ 104 (List._∷_ 101 (List._∷_ 97 (List._∷_ 100 (List._∷_ 101 (List._∷_ 114 (List._∷_ 58 (List._∷_ 58 (List._∷_ 101 (List._∷_ 100 (List._∷_
+      105 (List._∷_ 116 (List._∷_ 105 (List._∷_ 111 (List._∷_ 110 (List._∷_ 58 (List._∷_ 58 (List._∷_ 69 (List._∷_ 100 (List._∷_ 105 (List._∷_ 116 (List._∷_ 105 (List._∷_ 111
+      (List._∷_ 110 List.[])))))))))))))))))))))))) (Syntax.ttcons Syntax.tnil (Syntax.ttcons Syntax.tnil Syntax.ttnil))) Syntax.tnil))),
 ) (List._∷_ (
   3,
   Mut.mslice
@@ -2323,99 +2556,95 @@ t38 = List._∷_ (
   Rows.any-gone (Syntax.tyStruct (List._∷_ 116 (List._∷_ 121 (List._∷_ 112 (List._∷_ 101 (List._∷_ 115 (List._∷_ 58 (List._∷_ 58 (List._∷_ 67 (List._∷_ 111 (List._∷_ 100
       (List._∷_ 101 (List._∷_ 115 (List._∷_ 116 (List._∷_ 114 (List._∷_ 101 (List._∷_ 97 (List._∷_ 109 (List._∷_ 79 (List._∷_ 102 (List._∷_ 102 (List._∷_ 115 (List._∷_ 101 (List._∷_
       116 List.[]))))))))))))))))))))))) (Syntax.tcons (Syntax.tyInt Syntax.w64) Syntax.tnil)),
-) (List._∷_ (8, Rows.any-gone (Syntax.tyInt Syntax.w64)) (List._∷_ (
-  9,
-  Rows.any-gone
-      (Syntax.tyInt Syntax.w64),
-) (List._∷_ (10, Rows.any-gone (Syntax.tyInt Syntax.w64)) (List._∷_ (11, Rows.any-gone (Syntax.tyInt Syntax.w64)) (List._∷_ (
-  12,
-  Rows.any-gone
-      Syntax.tyBool,
-) (List._∷_ (13, Rows.any-gone (Syntax.tyInt Syntax.w64)) (List._∷_ (14, Rows.any-gone (Syntax.tyInt Syntax.w64)) (List._∷_ (
-  15,
-  Rows.any-gone (Syntax.tyRef
-      Syntax.erased Syntax.mut (Syntax.tyInt Syntax.w8)),
-) List.[])))))))))))))))
-
-abbrev pub t39 : List.List Row.Entry
-t39 = List._∷_ (
-  16,
-  Rows.any-gone (Syntax.tyStruct (List._∷_ 38 (List._∷_ 91 (List._∷_ 93 List.[]))) (Syntax.tcons (Syntax.tyRef Syntax.erased Syntax.mut (Syntax.tyInt Syntax.w8))
-      (Syntax.tcons (Syntax.tyInt Syntax.w64) Syntax.tnil))),
-) (List._∷_ (17, Rows.any-gone Syntax.tyUnit) (List._∷_ (
-  18,
-  Rows.any-gone (Syntax.tyRef Syntax.erased Syntax.mut
-      LentTilePartEntry.pointee),
 ) (List._∷_ (
-  19,
-  Rows.any-gone (Syntax.tyStruct (List._∷_ 38 (List._∷_ 91 (List._∷_ 93 List.[]))) (Syntax.tcons (Syntax.tyRef Syntax.erased Syntax.mut
-      LentTilePartEntry.pointee) (Syntax.tcons (Syntax.tyInt Syntax.w64) Syntax.tnil))),
-) (List._∷_ (
-  20,
-  Relend.msptr (Referent.rtF (Referent.fInt Syntax.w8)) (Syntax.tyRef
-      Syntax.erased Syntax.mut (Syntax.tyInt Syntax.w8)) 5,
-) (List._∷_ (
-  21,
-  Rows.any-gone (Syntax.tyStruct (List._∷_ 38 (List._∷_ 91 (List._∷_ 93 List.[]))) (Syntax.tcons
-      (Syntax.tyRef Syntax.erased Syntax.mut (Syntax.tyInt Syntax.w8)) (Syntax.tcons (Syntax.tyInt Syntax.w64) Syntax.tnil))),
-) List.[])))))
-
-abbrev pub t40 : List.List Row.Entry
-t40 = List._∷_ (
-  16,
-  Rows.any-gone (Syntax.tyStruct (List._∷_ 38 (List._∷_ 91 (List._∷_ 93 List.[]))) (Syntax.tcons (Syntax.tyRef Syntax.erased Syntax.mut (Syntax.tyInt Syntax.w8))
-      (Syntax.tcons (Syntax.tyInt Syntax.w64) Syntax.tnil))),
-) (List._∷_ (17, Rows.any-gone Syntax.tyUnit) (List._∷_ (
-  18,
-  Rows.any-gone (Syntax.tyRef Syntax.erased Syntax.mut
-      LentTilePartEntry.pointee),
-) (List._∷_ (
-  19,
-  Rows.any-gone (Syntax.tyStruct (List._∷_ 38 (List._∷_ 91 (List._∷_ 93 List.[]))) (Syntax.tcons (Syntax.tyRef Syntax.erased Syntax.mut
-      LentTilePartEntry.pointee) (Syntax.tcons (Syntax.tyInt Syntax.w64) Syntax.tnil))),
-) (List._∷_ (
-  20,
-  Rows.any-gone (Syntax.tyRef Syntax.erased Syntax.mut (Syntax.tyInt
-      Syntax.w8)),
-) (List._∷_ (21, Mut.mslice (Referent.rtF (Referent.fInt Syntax.w8)) (Syntax.tyRef Syntax.erased Syntax.mut (Syntax.tyInt Syntax.w8)) 5) List.[])))))
+  8,
+  Rows.any-gone (Syntax.tyEnum (List._∷_ 104 (List._∷_ 101 (List._∷_ 97
+      (List._∷_ 100 (List._∷_ 101 (List._∷_ 114 (List._∷_ 58 (List._∷_ 58 (List._∷_ 110 (List._∷_ 117 (List._∷_ 109 (List._∷_ 98 (List._∷_ 101 (List._∷_ 114 (List._∷_ 105 (List._∷_
+      110 (List._∷_ 103 (List._∷_ 58 (List._∷_ 58 (List._∷_ 78 (List._∷_ 117 (List._∷_ 109 (List._∷_ 98 (List._∷_ 101 (List._∷_ 114 (List._∷_ 105 (List._∷_ 110 (List._∷_ 103
+      List.[])))))))))))))))))))))))))))) (Syntax.ttcons Syntax.tnil (Syntax.ttcons Syntax.tnil Syntax.ttnil))),
+) (List._∷_ (9, Rows.any-gone (Syntax.tyInt Syntax.w64)) (List._∷_ (
+  10,
+  Rows.any-gone (Syntax.tyInt Syntax.w64),
+) (List._∷_ (11, Rows.any-gone (Syntax.tyInt Syntax.w64)) (List._∷_ (12, Rows.any-gone (Syntax.tyInt Syntax.w64)) (List._∷_ (
+  13,
+  Rows.any-gone Syntax.tyBool,
+) (List._∷_ (14, Rows.any-gone (Syntax.tyInt Syntax.w64)) (List._∷_ (15, Rows.any-gone (Syntax.tyInt Syntax.w64)) List.[])))))))))))))))
 
 abbrev pub t41 : List.List Row.Entry
-t41 = List._∷_ (
-  16,
-  Rows.any-gone (Syntax.tyStruct (List._∷_ 38 (List._∷_ 91 (List._∷_ 93 List.[]))) (Syntax.tcons (Syntax.tyRef Syntax.erased Syntax.mut (Syntax.tyInt Syntax.w8))
-      (Syntax.tcons (Syntax.tyInt Syntax.w64) Syntax.tnil))),
-) (List._∷_ (17, Rows.sc-here Row.sUnit) (List._∷_ (
+t41 = List._∷_ (16, Rows.any-gone (Syntax.tyRef Syntax.erased Syntax.mut (Syntax.tyInt Syntax.w8))) (List._∷_ (
+  17,
+  Rows.any-gone (Syntax.tyStruct (List._∷_ 38 (List._∷_ 91
+      (List._∷_ 93 List.[]))) (Syntax.tcons (Syntax.tyRef Syntax.erased Syntax.mut (Syntax.tyInt Syntax.w8)) (Syntax.tcons (Syntax.tyInt Syntax.w64) Syntax.tnil))),
+) (List._∷_ (
   18,
-  Rows.any-gone (Syntax.tyRef Syntax.erased Syntax.mut
-      LentTilePartEntry.pointee),
-) (List._∷_ (
-  19,
-  Rows.any-gone (Syntax.tyStruct (List._∷_ 38 (List._∷_ 91 (List._∷_ 93 List.[]))) (Syntax.tcons (Syntax.tyRef Syntax.erased Syntax.mut
-      LentTilePartEntry.pointee) (Syntax.tcons (Syntax.tyInt Syntax.w64) Syntax.tnil))),
-) (List._∷_ (
+  Rows.any-gone Syntax.tyUnit,
+) (List._∷_ (19, Rows.any-gone (Syntax.tyRef Syntax.erased Syntax.mut LentTilePartEntry.pointee)) (List._∷_ (
   20,
-  Rows.any-gone (Syntax.tyRef Syntax.erased Syntax.mut (Syntax.tyInt
-      Syntax.w8)),
-) (List._∷_ (21, Mut.msleft (Referent.rtF (Referent.fInt Syntax.w8)) (Syntax.tyRef Syntax.erased Syntax.mut (Syntax.tyInt Syntax.w8))) List.[])))))
+  Rows.any-gone (Syntax.tyStruct
+      (List._∷_ 38 (List._∷_ 91 (List._∷_ 93 List.[]))) (Syntax.tcons (Syntax.tyRef Syntax.erased Syntax.mut LentTilePartEntry.pointee) (Syntax.tcons (Syntax.tyInt Syntax.w64)
+      Syntax.tnil))),
+) (List._∷_ (21, Relend.msptr (Referent.rtF (Referent.fInt Syntax.w8)) (Syntax.tyRef Syntax.erased Syntax.mut (Syntax.tyInt Syntax.w8)) 5) (List._∷_ (
+  22,
+  Rows.any-gone (Syntax.tyStruct (List._∷_ 38 (List._∷_ 91 (List._∷_ 93 List.[]))) (Syntax.tcons (Syntax.tyRef Syntax.erased Syntax.mut (Syntax.tyInt Syntax.w8)) (Syntax.tcons
+      (Syntax.tyInt Syntax.w64) Syntax.tnil))),
+) List.[]))))))
 
 abbrev pub t42 : List.List Row.Entry
-t42 = List._∷_ (
-  16,
-  Rows.any-gone (Syntax.tyStruct (List._∷_ 38 (List._∷_ 91 (List._∷_ 93 List.[]))) (Syntax.tcons (Syntax.tyRef Syntax.erased Syntax.mut (Syntax.tyInt Syntax.w8))
-      (Syntax.tcons (Syntax.tyInt Syntax.w64) Syntax.tnil))),
-) (List._∷_ (17, Rows.any-gone Syntax.tyUnit) (List._∷_ (
+t42 = List._∷_ (16, Rows.any-gone (Syntax.tyRef Syntax.erased Syntax.mut (Syntax.tyInt Syntax.w8))) (List._∷_ (
+  17,
+  Rows.any-gone (Syntax.tyStruct (List._∷_ 38 (List._∷_ 91
+      (List._∷_ 93 List.[]))) (Syntax.tcons (Syntax.tyRef Syntax.erased Syntax.mut (Syntax.tyInt Syntax.w8)) (Syntax.tcons (Syntax.tyInt Syntax.w64) Syntax.tnil))),
+) (List._∷_ (
   18,
-  Rows.any-gone (Syntax.tyRef Syntax.erased Syntax.mut
-      LentTilePartEntry.pointee),
-) (List._∷_ (
-  19,
-  Rows.any-gone (Syntax.tyStruct (List._∷_ 38 (List._∷_ 91 (List._∷_ 93 List.[]))) (Syntax.tcons (Syntax.tyRef Syntax.erased Syntax.mut
-      LentTilePartEntry.pointee) (Syntax.tcons (Syntax.tyInt Syntax.w64) Syntax.tnil))),
-) (List._∷_ (
+  Rows.any-gone Syntax.tyUnit,
+) (List._∷_ (19, Rows.any-gone (Syntax.tyRef Syntax.erased Syntax.mut LentTilePartEntry.pointee)) (List._∷_ (
   20,
-  Rows.any-gone (Syntax.tyRef Syntax.erased Syntax.mut (Syntax.tyInt
-      Syntax.w8)),
-) (List._∷_ (21, Mut.msleft (Referent.rtF (Referent.fInt Syntax.w8)) (Syntax.tyRef Syntax.erased Syntax.mut (Syntax.tyInt Syntax.w8))) List.[])))))
+  Rows.any-gone (Syntax.tyStruct
+      (List._∷_ 38 (List._∷_ 91 (List._∷_ 93 List.[]))) (Syntax.tcons (Syntax.tyRef Syntax.erased Syntax.mut LentTilePartEntry.pointee) (Syntax.tcons (Syntax.tyInt Syntax.w64)
+      Syntax.tnil))),
+) (List._∷_ (21, Rows.any-gone (Syntax.tyRef Syntax.erased Syntax.mut (Syntax.tyInt Syntax.w8))) (List._∷_ (
+  22,
+  Mut.mslice (Referent.rtF (Referent.fInt
+      Syntax.w8)) (Syntax.tyRef Syntax.erased Syntax.mut (Syntax.tyInt Syntax.w8)) 5,
+) List.[]))))))
+
+abbrev pub t43 : List.List Row.Entry
+t43 = List._∷_ (16, Rows.any-gone (Syntax.tyRef Syntax.erased Syntax.mut (Syntax.tyInt Syntax.w8))) (List._∷_ (
+  17,
+  Rows.any-gone (Syntax.tyStruct (List._∷_ 38 (List._∷_ 91
+      (List._∷_ 93 List.[]))) (Syntax.tcons (Syntax.tyRef Syntax.erased Syntax.mut (Syntax.tyInt Syntax.w8)) (Syntax.tcons (Syntax.tyInt Syntax.w64) Syntax.tnil))),
+) (List._∷_ (
+  18,
+  Rows.sc-here Row.sUnit,
+) (List._∷_ (19, Rows.any-gone (Syntax.tyRef Syntax.erased Syntax.mut LentTilePartEntry.pointee)) (List._∷_ (
+  20,
+  Rows.any-gone (Syntax.tyStruct (List._∷_
+      38 (List._∷_ 91 (List._∷_ 93 List.[]))) (Syntax.tcons (Syntax.tyRef Syntax.erased Syntax.mut LentTilePartEntry.pointee) (Syntax.tcons (Syntax.tyInt Syntax.w64) Syntax.tnil))),
+)
+    (List._∷_ (21, Rows.any-gone (Syntax.tyRef Syntax.erased Syntax.mut (Syntax.tyInt Syntax.w8))) (List._∷_ (
+      22,
+      Mut.msleft (Referent.rtF (Referent.fInt Syntax.w8)) (Syntax.tyRef
+          Syntax.erased Syntax.mut (Syntax.tyInt Syntax.w8)),
+    ) List.[]))))))
+
+abbrev pub t44 : List.List Row.Entry
+t44 = List._∷_ (16, Rows.any-gone (Syntax.tyRef Syntax.erased Syntax.mut (Syntax.tyInt Syntax.w8))) (List._∷_ (
+  17,
+  Rows.any-gone (Syntax.tyStruct (List._∷_ 38 (List._∷_ 91
+      (List._∷_ 93 List.[]))) (Syntax.tcons (Syntax.tyRef Syntax.erased Syntax.mut (Syntax.tyInt Syntax.w8)) (Syntax.tcons (Syntax.tyInt Syntax.w64) Syntax.tnil))),
+) (List._∷_ (
+  18,
+  Rows.any-gone Syntax.tyUnit,
+) (List._∷_ (19, Rows.any-gone (Syntax.tyRef Syntax.erased Syntax.mut LentTilePartEntry.pointee)) (List._∷_ (
+  20,
+  Rows.any-gone (Syntax.tyStruct
+      (List._∷_ 38 (List._∷_ 91 (List._∷_ 93 List.[]))) (Syntax.tcons (Syntax.tyRef Syntax.erased Syntax.mut LentTilePartEntry.pointee) (Syntax.tcons (Syntax.tyInt Syntax.w64)
+      Syntax.tnil))),
+) (List._∷_ (21, Rows.any-gone (Syntax.tyRef Syntax.erased Syntax.mut (Syntax.tyInt Syntax.w8))) (List._∷_ (
+  22,
+  Mut.msleft (Referent.rtF (Referent.fInt
+      Syntax.w8)) (Syntax.tyRef Syntax.erased Syntax.mut (Syntax.tyInt Syntax.w8)),
+) List.[]))))))
 
 abbrev pub T0 : Row.Cx
 T0 = record { locals = List._++_ t0 t1; slots = List.[] }
@@ -2514,16 +2743,16 @@ abbrev pub T31 : Row.Cx
 T31 = record { locals = List._++_ t24 t1; slots = List.[] }
 
 abbrev pub T33 : Row.Cx
-T33 = record { locals = List._++_ t25 t1; slots = List.[] }
+T33 = record { locals = List._++_ t25 t26; slots = List.[] }
 
 abbrev pub T34 : Row.Cx
-T34 = record { locals = List._++_ t26 t27; slots = List.[] }
+T34 = record { locals = List._++_ t25 t27; slots = List.[] }
 
 abbrev pub T35 : Row.Cx
 T35 = record { locals = List._++_ t28 t29; slots = List.[] }
 
 abbrev pub T36 : Row.Cx
-T36 = record { locals = List._++_ t26 t29; slots = List.[] }
+T36 = record { locals = List._++_ t25 t29; slots = List.[] }
 
 abbrev pub T37 : Row.Cx
 T37 = record { locals = List._++_ t30 t29; slots = List.[] }
@@ -2543,50 +2772,56 @@ T43 = record { locals = List._++_ t2 t1; slots = List.[] }
 abbrev pub T44 : Row.Cx
 T44 = record { locals = List._++_ t19 t1; slots = List.[] }
 
-abbrev pub T46 : Row.Cx
-T46 = record { locals = List._++_ t31 t32; slots = List.[] }
+abbrev pub T45 : Row.Cx
+T45 = record { locals = List._++_ t31 t1; slots = List.[] }
 
-abbrev pub T47 : Row.Cx
-T47 = record { locals = List._++_ t31 t33; slots = List.[] }
+abbrev pub T46 : Row.Cx
+T46 = record { locals = List._++_ t32 t1; slots = List.[] }
 
 abbrev pub T48 : Row.Cx
-T48 = record { locals = List._++_ t31 t34; slots = List.[] }
+T48 = record { locals = List._++_ t33 t34; slots = List.[] }
 
 abbrev pub T49 : Row.Cx
-T49 = record { locals = List._++_ t35 t34; slots = List.[] }
+T49 = record { locals = List._++_ t33 t35; slots = List.[] }
 
 abbrev pub T50 : Row.Cx
-T50 = record { locals = List._++_ t36 t34; slots = List.[] }
+T50 = record { locals = List._++_ t33 t36; slots = List.[] }
 
 abbrev pub T51 : Row.Cx
-T51 = record { locals = List._++_ t36 t37; slots = List.[] }
+T51 = record { locals = List._++_ t37 t36; slots = List.[] }
+
+abbrev pub T52 : Row.Cx
+T52 = record { locals = List._++_ t38 t36; slots = List.[] }
 
 abbrev pub T53 : Row.Cx
-T53 = record { locals = List._++_ t15 t1; slots = List.[] }
+T53 = record { locals = List._++_ t38 t39; slots = List.[] }
 
-abbrev pub T56 : Row.Cx
-T56 = record { locals = List._++_ t38 t39; slots = List.[] }
-
-abbrev pub T57 : Row.Cx
-T57 = record { locals = List._++_ t38 t40; slots = List.[] }
+abbrev pub T55 : Row.Cx
+T55 = record { locals = List._++_ t15 t1; slots = List.[] }
 
 abbrev pub T58 : Row.Cx
-T58 = record { locals = List._++_ t38 t41; slots = List.[] }
+T58 = record { locals = List._++_ t40 t41; slots = List.[] }
 
 abbrev pub T59 : Row.Cx
-T59 = record { locals = List._++_ t38 t42; slots = List.[] }
+T59 = record { locals = List._++_ t40 t42; slots = List.[] }
+
+abbrev pub T60 : Row.Cx
+T60 = record { locals = List._++_ t40 t43; slots = List.[] }
 
 abbrev pub T61 : Row.Cx
-T61 = record { locals = List._++_ t15 t1; slots = List.[] }
+T61 = record { locals = List._++_ t40 t44; slots = List.[] }
 
-abbrev pub T62 : Row.Cx
-T62 = record { locals = List._++_ t15 t1; slots = List.[] }
+abbrev pub T63 : Row.Cx
+T63 = record { locals = List._++_ t15 t1; slots = List.[] }
 
 abbrev pub T64 : Row.Cx
-T64 = record { locals = List._++_ t16 t1; slots = List.[] }
+T64 = record { locals = List._++_ t15 t1; slots = List.[] }
 
-abbrev pub T65 : Row.Cx
-T65 = record { locals = List._++_ t2 t1; slots = List.[] }
+abbrev pub T66 : Row.Cx
+T66 = record { locals = List._++_ t16 t1; slots = List.[] }
+
+abbrev pub T67 : Row.Cx
+T67 = record { locals = List._++_ t2 t1; slots = List.[] }
 
 abbrev pub O0 : Typed.Outs
 O0 = record { next = Option.none; exits = List.[]; returns = Option.some T1 }
@@ -2605,24 +2840,24 @@ module _ (claims· : Claims) where
   s1 = λ bs. Know.k-sl-known (Referent.fInt Syntax.w8) T2 4 2 (Syntax.tyRef (Syntax.named 2) Syntax.mut (Syntax.tyInt Syntax.w8)) Row.off 0 λ x. x
 
   abbrev s2 : (bs : List.List Nat.ℕ) → Typed.Mo T3 → Typed.Mo T4
-  s2 = λ bs. Scalar.n-use T3 (Scalar.oFld 3 (List._∷_ (Syntax.field 1) List.[]) (Syntax.tyInt Syntax.w64) 8 Shared.lenV) 8 (Rows.sc-here (Row.sInt Syntax.w64)) (Row.sInt Syntax.w64
+  s2 = λ bs. Scalar.n-use T3 (Scalar.oFld 3 (List._∷_ (Syntax.field 1) List.[]) (Syntax.tyInt Syntax.w64) 8 Shared.lenV) 9 (Rows.sc-here (Row.sInt Syntax.w64)) (Row.sInt Syntax.w64
       .of)
 
   abbrev s3 : (bs : List.List Nat.ℕ) → Typed.Mo T4 → Typed.Mo T5
-  s3 = λ bs. Scalar.n-use T4 (Scalar.oAt 8 (Syntax.tyInt Syntax.w64) (Row.valS (Row.sInt Syntax.w64))) 9 (Rows.sc-here (Row.sInt Syntax.w64)) (Row.sInt Syntax.w64 .of)
+  s3 = λ bs. Scalar.n-use T4 (Scalar.oAt 9 (Syntax.tyInt Syntax.w64) (Row.valS (Row.sInt Syntax.w64))) 10 (Rows.sc-here (Row.sInt Syntax.w64)) (Row.sInt Syntax.w64 .of)
 
   abbrev s4 : (bs : List.List Nat.ℕ) → Typed.Mo T5 → Typed.Mo T6
-  s4 = λ bs. Scalar.n-room T5 8 (Syntax.tyInt Syntax.w64)
+  s4 = λ bs. Scalar.n-room T5 9 (Syntax.tyInt Syntax.w64)
 
   abbrev s5 : (bs : List.List Nat.ℕ) → Typed.Mo T6 → Typed.Mo T7
-  s5 = λ bs. Scalar.n-use T6 (Scalar.oFld 4 (List._∷_ (Syntax.field 1) List.[]) (Syntax.tyInt Syntax.w64) 8 Shared.lenV) 10 (Rows.sc-here (Row.sInt Syntax.w64)) (Row.sInt
+  s5 = λ bs. Scalar.n-use T6 (Scalar.oFld 4 (List._∷_ (Syntax.field 1) List.[]) (Syntax.tyInt Syntax.w64) 8 Shared.lenV) 11 (Rows.sc-here (Row.sInt Syntax.w64)) (Row.sInt
       Syntax.w64 .of)
 
   abbrev s6 : (bs : List.List Nat.ℕ) → Typed.Mo T7 → Typed.Mo T8
-  s6 = λ bs. Scalar.n-use T7 (Scalar.oAt 10 (Syntax.tyInt Syntax.w64) (Row.valS (Row.sInt Syntax.w64))) 11 (Rows.sc-here (Row.sInt Syntax.w64)) (Row.sInt Syntax.w64 .of)
+  s6 = λ bs. Scalar.n-use T7 (Scalar.oAt 11 (Syntax.tyInt Syntax.w64) (Row.valS (Row.sInt Syntax.w64))) 12 (Rows.sc-here (Row.sInt Syntax.w64)) (Row.sInt Syntax.w64 .of)
 
   abbrev s7 : (bs : List.List Nat.ℕ) → Typed.Mo T8 → Typed.Mo T9
-  s7 = λ bs. Scalar.n-room T8 10 (Syntax.tyInt Syntax.w64)
+  s7 = λ bs. Scalar.n-room T8 11 (Syntax.tyInt Syntax.w64)
 
   abbrev s8 : (bs : List.List Nat.ℕ) → Typed.Both T9 T10
   s8 = λ bs. Call.callB ps·0 r·0 (claims· .0) (claims· .1) T9 (
@@ -2634,7 +2869,7 @@ module _ (claims· : Claims) where
         d = 0;
         at = λ x. x;
       },
-      (Num.vAt 9 λ x. x, (Num.vAt 11 λ x. x, tt)),
+      (Num.vAt 10 λ x. x, (Num.vAt 12 λ x. x, tt)),
     ),
   ) 5 (List._∷_ 0 List.[]) (Syntax.tyEnum (List._∷_ 104 (List._∷_ 101 (List._∷_ 97
       (List._∷_ 100 (List._∷_ 101 (List._∷_ 114 (List._∷_ 58 (List._∷_ 58 (List._∷_ 112 (List._∷_ 97 (List._∷_ 114 (List._∷_ 115 (List._∷_ 101 (List._∷_ 58 (List._∷_ 58 (List._∷_
@@ -2650,10 +2885,10 @@ module _ (claims· : Claims) where
       (Syntax.tyInt Syntax.w64) Syntax.tnil))) Syntax.tnil) Syntax.ttnil)))
 
   abbrev s9 : (bs : List.List Nat.ℕ) → Typed.Mo T10 → Typed.Mo T12
-  s9 = λ bs. Scalar.n-room T10 9 (Syntax.tyInt Syntax.w64)
+  s9 = λ bs. Scalar.n-room T10 10 (Syntax.tyInt Syntax.w64)
 
   abbrev s10 : (bs : List.List Nat.ℕ) → Typed.Mo T12 → Typed.Mo T13
-  s10 = λ bs. Scalar.n-room T12 11 (Syntax.tyInt Syntax.w64)
+  s10 = λ bs. Scalar.n-room T12 12 (Syntax.tyInt Syntax.w64)
 
   abbrev s11 : (bs : List.List Nat.ℕ) → Typed.Both T13 T14
   s11 = λ bs. Known.k-enum-known MainHeader.enum 0 T13 5 λ x. x
@@ -2671,10 +2906,15 @@ module _ (claims· : Claims) where
   s15 = λ bs. Known.k-enum-told MainHeader.enum 1 T13 5 λ x. x
 
   abbrev s16 : (bs : List.List Nat.ℕ) → Typed.Mo T18 → Typed.Mo T19
-  s16 = λ bs. Scalar.n-room T18 2 (Syntax.tyEnum (List._∷_ 104 (List._∷_ 101 (List._∷_ 97 (List._∷_ 100 (List._∷_ 101 (List._∷_ 114 (List._∷_ 58 (List._∷_ 58 (List._∷_ 110
-      (List._∷_ 117 (List._∷_ 109 (List._∷_ 98 (List._∷_ 101 (List._∷_ 114 (List._∷_ 105 (List._∷_ 110 (List._∷_ 103 (List._∷_ 58 (List._∷_ 58 (List._∷_ 78 (List._∷_ 117 (List._∷_
-      109 (List._∷_ 98 (List._∷_ 101 (List._∷_ 114 (List._∷_ 105 (List._∷_ 110 (List._∷_ 103 List.[])))))))))))))))))))))))))))) (Syntax.ttcons Syntax.tnil (Syntax.ttcons
-      Syntax.tnil Syntax.ttnil)))
+  s16 = λ bs. Scalar.n-room T18 2 (Syntax.tyStruct (List._∷_ 104 (List._∷_ 101 (List._∷_ 97 (List._∷_ 100 (List._∷_ 101 (List._∷_ 114 (List._∷_ 58 (List._∷_ 58 (List._∷_ 114
+      (List._∷_ 101 (List._∷_ 97 (List._∷_ 100 (List._∷_ 105 (List._∷_ 110 (List._∷_ 103 (List._∷_ 58 (List._∷_ 58 (List._∷_ 82 (List._∷_ 101 (List._∷_ 97 (List._∷_ 100 (List._∷_
+      105 (List._∷_ 110 (List._∷_ 103 List.[])))))))))))))))))))))))) (Syntax.tcons (Syntax.tyEnum (List._∷_ 104 (List._∷_ 101 (List._∷_ 97 (List._∷_ 100 (List._∷_ 101 (List._∷_
+      114 (List._∷_ 58 (List._∷_ 58 (List._∷_ 110 (List._∷_ 117 (List._∷_ 109 (List._∷_ 98 (List._∷_ 101 (List._∷_ 114 (List._∷_ 105 (List._∷_ 110 (List._∷_ 103 (List._∷_ 58
+      (List._∷_ 58 (List._∷_ 78 (List._∷_ 117 (List._∷_ 109 (List._∷_ 98 (List._∷_ 101 (List._∷_ 114 (List._∷_ 105 (List._∷_ 110 (List._∷_ 103 List.[]))))))))))))))))))))))))))))
+      (Syntax.ttcons Syntax.tnil (Syntax.ttcons Syntax.tnil Syntax.ttnil))) (Syntax.tcons (Syntax.tyEnum (List._∷_ 104 (List._∷_ 101 (List._∷_ 97 (List._∷_ 100 (List._∷_ 101
+      (List._∷_ 114 (List._∷_ 58 (List._∷_ 58 (List._∷_ 101 (List._∷_ 100 (List._∷_ 105 (List._∷_ 116 (List._∷_ 105 (List._∷_ 111 (List._∷_ 110 (List._∷_ 58 (List._∷_ 58 (List._∷_
+      69 (List._∷_ 100 (List._∷_ 105 (List._∷_ 116 (List._∷_ 105 (List._∷_ 111 (List._∷_ 110 List.[])))))))))))))))))))))))) (Syntax.ttcons Syntax.tnil (Syntax.ttcons Syntax.tnil
+      Syntax.ttnil))) Syntax.tnil)))
 
   abbrev s17 : (bs : List.List Nat.ℕ) → Typed.Mo T19 → Typed.Mo T20
   s17 = λ bs. LocalCopy.n-val-copy T19 5 0 (Declared.row MainHeader.the-type) (Rows.whole (Declared.row MainHeader.the-type)) (Rows.whole (Declared.row MainHeader.the-type)) (λ x.
@@ -2709,11 +2949,11 @@ module _ (claims· : Claims) where
   s20 = λ bs. Know'.k-struct-known MainHeaderInfo.the-type Laws''.the-laws T22 6 λ x. x
 
   abbrev s21 : (bs : List.List Nat.ℕ) → Typed.Gives T23 T24
-  s21 = λ bs. Know'.k-struct-known CodestreamOffset.the-type Laws'3.the-laws T23 7 λ x. x
+  s21 = λ bs. Know'.k-struct-known CodestreamOffset.the-type Laws'4.the-laws T23 7 λ x. x
 
   abbrev s22 : (bs : List.List Nat.ℕ) → Typed.Asks T24 T25
   s22 = λ bs. Scalar.k-op2 T24 Syntax.eq (Scalar.oFld 6 (List._∷_ (Syntax.field 1) List.[]) (Syntax.tyInt Syntax.w64) 8 (Reads.fieldV MainHeaderInfo.the-type Laws''.the-laws 1))
-      (Scalar.oFld 7 (List._∷_ (Syntax.field 0) List.[]) (Syntax.tyInt Syntax.w64) 0 (Reads.fieldV CodestreamOffset.the-type Laws'3.the-laws 0)) 12 (Rows.sc-here Row.sBool)
+      (Scalar.oFld 7 (List._∷_ (Syntax.field 0) List.[]) (Syntax.tyInt Syntax.w64) 0 (Reads.fieldV CodestreamOffset.the-type Laws'4.the-laws 0)) 13 (Rows.sc-here Row.sBool)
       (Row.sBool .of)
 
   abbrev s23 : (bs : List.List Nat.ℕ) → Typed.Mo T25 → Typed.Mo T27
@@ -2726,16 +2966,21 @@ module _ (claims· : Claims) where
       Syntax.tnil)))))
 
   abbrev s24 : (bs : List.List Nat.ℕ) → Typed.Mo T27 → Typed.Mo T28
-  s24 = λ bs. Scalar.n-room T27 2 (Syntax.tyEnum (List._∷_ 104 (List._∷_ 101 (List._∷_ 97 (List._∷_ 100 (List._∷_ 101 (List._∷_ 114 (List._∷_ 58 (List._∷_ 58 (List._∷_ 110
-      (List._∷_ 117 (List._∷_ 109 (List._∷_ 98 (List._∷_ 101 (List._∷_ 114 (List._∷_ 105 (List._∷_ 110 (List._∷_ 103 (List._∷_ 58 (List._∷_ 58 (List._∷_ 78 (List._∷_ 117 (List._∷_
-      109 (List._∷_ 98 (List._∷_ 101 (List._∷_ 114 (List._∷_ 105 (List._∷_ 110 (List._∷_ 103 List.[])))))))))))))))))))))))))))) (Syntax.ttcons Syntax.tnil (Syntax.ttcons
-      Syntax.tnil Syntax.ttnil)))
+  s24 = λ bs. Scalar.n-room T27 2 (Syntax.tyStruct (List._∷_ 104 (List._∷_ 101 (List._∷_ 97 (List._∷_ 100 (List._∷_ 101 (List._∷_ 114 (List._∷_ 58 (List._∷_ 58 (List._∷_ 114
+      (List._∷_ 101 (List._∷_ 97 (List._∷_ 100 (List._∷_ 105 (List._∷_ 110 (List._∷_ 103 (List._∷_ 58 (List._∷_ 58 (List._∷_ 82 (List._∷_ 101 (List._∷_ 97 (List._∷_ 100 (List._∷_
+      105 (List._∷_ 110 (List._∷_ 103 List.[])))))))))))))))))))))))) (Syntax.tcons (Syntax.tyEnum (List._∷_ 104 (List._∷_ 101 (List._∷_ 97 (List._∷_ 100 (List._∷_ 101 (List._∷_
+      114 (List._∷_ 58 (List._∷_ 58 (List._∷_ 110 (List._∷_ 117 (List._∷_ 109 (List._∷_ 98 (List._∷_ 101 (List._∷_ 114 (List._∷_ 105 (List._∷_ 110 (List._∷_ 103 (List._∷_ 58
+      (List._∷_ 58 (List._∷_ 78 (List._∷_ 117 (List._∷_ 109 (List._∷_ 98 (List._∷_ 101 (List._∷_ 114 (List._∷_ 105 (List._∷_ 110 (List._∷_ 103 List.[]))))))))))))))))))))))))))))
+      (Syntax.ttcons Syntax.tnil (Syntax.ttcons Syntax.tnil Syntax.ttnil))) (Syntax.tcons (Syntax.tyEnum (List._∷_ 104 (List._∷_ 101 (List._∷_ 97 (List._∷_ 100 (List._∷_ 101
+      (List._∷_ 114 (List._∷_ 58 (List._∷_ 58 (List._∷_ 101 (List._∷_ 100 (List._∷_ 105 (List._∷_ 116 (List._∷_ 105 (List._∷_ 111 (List._∷_ 110 (List._∷_ 58 (List._∷_ 58 (List._∷_
+      69 (List._∷_ 100 (List._∷_ 105 (List._∷_ 116 (List._∷_ 105 (List._∷_ 111 (List._∷_ 110 List.[])))))))))))))))))))))))) (Syntax.ttcons Syntax.tnil (Syntax.ttcons Syntax.tnil
+      Syntax.ttnil))) Syntax.tnil)))
 
   abbrev s25 : (bs : List.List Nat.ℕ) → Typed.Mo T28 → Typed.Mo T29
-  s25 = λ bs. Scalar.n-room T28 12 Syntax.tyBool
+  s25 = λ bs. Scalar.n-room T28 13 Syntax.tyBool
 
   abbrev s26 : (bs : List.List Nat.ℕ) → Typed.Both T29 T30
-  s26 = λ bs. Call.callB ps·1 r·1 (claims· .2) (claims· .3) T29 (record { pos = 7; st = List.[]; d = 0; at = λ x. x }, tt) 14 List.[] (Syntax.tyInt Syntax.w64)
+  s26 = λ bs. Call.callB ps·1 r·1 (claims· .2) (claims· .3) T29 (record { pos = 7; st = List.[]; d = 0; at = λ x. x }, tt) 15 List.[] (Syntax.tyInt Syntax.w64)
 
   abbrev s27 : (bs : List.List Nat.ℕ) → Typed.Mo T30 → Typed.Mo T31
   s27 = λ bs. Scalar.n-room T30 7 (Syntax.tyStruct (List._∷_ 116 (List._∷_ 121 (List._∷_ 112 (List._∷_ 101 (List._∷_ 115 (List._∷_ 58 (List._∷_ 58 (List._∷_ 67 (List._∷_ 111
@@ -2743,29 +2988,29 @@ module _ (claims· : Claims) where
       (List._∷_ 101 (List._∷_ 116 List.[]))))))))))))))))))))))) (Syntax.tcons (Syntax.tyInt Syntax.w64) Syntax.tnil))
 
   abbrev s29 : (bs : List.List Nat.ℕ) → Typed.Gives T31 T33
-  s29 = λ bs. Relend.k-sl-relend (Referent.rtF (Referent.fInt Syntax.w8)) T31 4 15 2 3 (Syntax.tyRef (Syntax.named 2) Syntax.mut (Syntax.tyInt Syntax.w8)) (Syntax.tyRef
+  s29 = λ bs. Relend.k-sl-relend (Referent.rtF (Referent.fInt Syntax.w8)) T31 4 16 2 3 (Syntax.tyRef (Syntax.named 2) Syntax.mut (Syntax.tyInt Syntax.w8)) (Syntax.tyRef
       Syntax.erased Syntax.mut (Syntax.tyInt Syntax.w8)) Row.off λ x. x
 
   abbrev s30 : (bs : List.List Nat.ℕ) → Typed.Asks T33 T34
-  s30 = λ bs. Relend.k-sl-aggregate (Referent.rtF (Referent.fInt Syntax.w8)) (Relend.asMut (Referent.rtF (Referent.fInt Syntax.w8))) T33 15 16 3 (Syntax.tyRef Syntax.erased
+  s30 = λ bs. Relend.k-sl-aggregate (Referent.rtF (Referent.fInt Syntax.w8)) (Relend.asMut (Referent.rtF (Referent.fInt Syntax.w8))) T33 16 17 3 (Syntax.tyRef Syntax.erased
       Syntax.mut (Syntax.tyInt Syntax.w8)) (Syntax.tyRef Syntax.erased Syntax.mut (Syntax.tyInt Syntax.w8)) (λ x. x) (Scalar.oFld 4 (List._∷_ (Syntax.field 1) List.[])
       (Syntax.tyInt Syntax.w64) 8 λ v. Shared.lenV (v .0))
 
   abbrev s31 : (bs : List.List Nat.ℕ) → Typed.Both T34 T35
   s31 = λ bs. Call.callB ps·2 r·2 (claims· .4) (claims· .5) T34 (
     record { pos = 1; ty = Syntax.tyRef (Syntax.named 0) Syntax.imm (Syntax.tyInt Syntax.w8); ref = λ x. x },
-    (Num.vLit 0, (Num.vAt 14 λ x. x, (record { pos = 16; ty = Syntax.tyRef Syntax.erased Syntax.mut (Syntax.tyInt Syntax.w8); ref = λ x. x }, (Num.vLit 0, tt)))),
-  ) 13 (List._∷_ 0
+    (Num.vLit 0, (Num.vAt 15 λ x. x, (record { pos = 17; ty = Syntax.tyRef Syntax.erased Syntax.mut (Syntax.tyInt Syntax.w8); ref = λ x. x }, (Num.vLit 0, tt)))),
+  ) 14 (List._∷_ 0
       (List._∷_ 3 List.[])) (Syntax.tyInt Syntax.w64)
 
   abbrev s32 : (bs : List.List Nat.ℕ) → Typed.Mo T35 → Typed.Mo T36
-  s32 = λ bs. Scalar.n-room T35 13 (Syntax.tyInt Syntax.w64)
+  s32 = λ bs. Scalar.n-room T35 14 (Syntax.tyInt Syntax.w64)
 
   abbrev s33 : (bs : List.List Nat.ℕ) → Typed.Mo T36 → Typed.Mo T37
-  s33 = λ bs. Scalar.n-room T36 14 (Syntax.tyInt Syntax.w64)
+  s33 = λ bs. Scalar.n-room T36 15 (Syntax.tyInt Syntax.w64)
 
   abbrev s35 : (bs : List.List Nat.ℕ) → Typed.Both T37 T39
-  s35 = λ bs. Relend.k-back-sl (Referent.rtF (Referent.fInt Syntax.w8)) T37 16 4 2 3 (Syntax.tyRef (Syntax.named 2) Syntax.mut (Syntax.tyInt Syntax.w8)) (Syntax.tyRef Syntax.erased
+  s35 = λ bs. Relend.k-back-sl (Referent.rtF (Referent.fInt Syntax.w8)) T37 17 4 2 3 (Syntax.tyRef (Syntax.named 2) Syntax.mut (Syntax.tyInt Syntax.w8)) (Syntax.tyRef Syntax.erased
       Syntax.mut (Syntax.tyInt Syntax.w8)) Row.off (λ x. x) λ x. x
 
   abbrev s36 : (bs : List.List Nat.ℕ) → Typed.Gives T39 T40
@@ -2789,28 +3034,42 @@ module _ (claims· : Claims) where
       108 List.[])))))))))))))) (Syntax.tcons (Syntax.tyInt Syntax.w32) (Syntax.tcons (Syntax.tyInt Syntax.w64) Syntax.tnil))) Syntax.tnil) Syntax.ttnil)))
 
   abbrev s40 : (bs : List.List Nat.ℕ) → Typed.Mo T27 → Typed.Mo T44
-  s40 = λ bs. Scalar.n-room T27 12 Syntax.tyBool
+  s40 = λ bs. Scalar.n-room T27 13 Syntax.tyBool
 
-  abbrev s42 : (bs : List.List Nat.ℕ) → Typed.Gives T26 T46
-  s42 = λ bs. Relend.k-sl-relend LentTilePartEntry.row T26 3 18 1 4 (Syntax.tyRef (Syntax.named 1) Syntax.mut LentTilePartEntry.pointee) (Syntax.tyRef Syntax.erased Syntax.mut
+  abbrev s41 : (bs : List.List Nat.ℕ) → Typed.Mo T26 → Typed.Mo T45
+  s41 = λ bs. Make.n-make (Declared.row Numbering.the-type) T26 8 λ m. Reading.struct .as-values (m .1 .1 .0) .0
+
+  abbrev s42 : (bs : List.List Nat.ℕ) → Typed.Mo T45 → Typed.Mo T46
+  s42 = λ bs. Scalar.n-room T45 2 (Syntax.tyStruct (List._∷_ 104 (List._∷_ 101 (List._∷_ 97 (List._∷_ 100 (List._∷_ 101 (List._∷_ 114 (List._∷_ 58 (List._∷_ 58 (List._∷_ 114
+      (List._∷_ 101 (List._∷_ 97 (List._∷_ 100 (List._∷_ 105 (List._∷_ 110 (List._∷_ 103 (List._∷_ 58 (List._∷_ 58 (List._∷_ 82 (List._∷_ 101 (List._∷_ 97 (List._∷_ 100 (List._∷_
+      105 (List._∷_ 110 (List._∷_ 103 List.[])))))))))))))))))))))))) (Syntax.tcons (Syntax.tyEnum (List._∷_ 104 (List._∷_ 101 (List._∷_ 97 (List._∷_ 100 (List._∷_ 101 (List._∷_
+      114 (List._∷_ 58 (List._∷_ 58 (List._∷_ 110 (List._∷_ 117 (List._∷_ 109 (List._∷_ 98 (List._∷_ 101 (List._∷_ 114 (List._∷_ 105 (List._∷_ 110 (List._∷_ 103 (List._∷_ 58
+      (List._∷_ 58 (List._∷_ 78 (List._∷_ 117 (List._∷_ 109 (List._∷_ 98 (List._∷_ 101 (List._∷_ 114 (List._∷_ 105 (List._∷_ 110 (List._∷_ 103 List.[]))))))))))))))))))))))))))))
+      (Syntax.ttcons Syntax.tnil (Syntax.ttcons Syntax.tnil Syntax.ttnil))) (Syntax.tcons (Syntax.tyEnum (List._∷_ 104 (List._∷_ 101 (List._∷_ 97 (List._∷_ 100 (List._∷_ 101
+      (List._∷_ 114 (List._∷_ 58 (List._∷_ 58 (List._∷_ 101 (List._∷_ 100 (List._∷_ 105 (List._∷_ 116 (List._∷_ 105 (List._∷_ 111 (List._∷_ 110 (List._∷_ 58 (List._∷_ 58 (List._∷_
+      69 (List._∷_ 100 (List._∷_ 105 (List._∷_ 116 (List._∷_ 105 (List._∷_ 111 (List._∷_ 110 List.[])))))))))))))))))))))))) (Syntax.ttcons Syntax.tnil (Syntax.ttcons Syntax.tnil
+      Syntax.ttnil))) Syntax.tnil)))
+
+  abbrev s44 : (bs : List.List Nat.ℕ) → Typed.Gives T46 T48
+  s44 = λ bs. Relend.k-sl-relend LentTilePartEntry.row T46 3 19 1 4 (Syntax.tyRef (Syntax.named 1) Syntax.mut LentTilePartEntry.pointee) (Syntax.tyRef Syntax.erased Syntax.mut
       LentTilePartEntry.pointee) Row.off λ x. x
 
-  abbrev s43 : (bs : List.List Nat.ℕ) → Typed.Asks T46 T47
-  s43 = λ bs. Relend.k-sl-aggregate LentTilePartEntry.row (Relend.asMut LentTilePartEntry.row) T46 18 19 4 (Syntax.tyRef Syntax.erased Syntax.mut LentTilePartEntry.pointee)
+  abbrev s45 : (bs : List.List Nat.ℕ) → Typed.Asks T48 T49
+  s45 = λ bs. Relend.k-sl-aggregate LentTilePartEntry.row (Relend.asMut LentTilePartEntry.row) T48 19 20 4 (Syntax.tyRef Syntax.erased Syntax.mut LentTilePartEntry.pointee)
       (Syntax.tyRef Syntax.erased Syntax.mut LentTilePartEntry.pointee) (λ x. x) (Scalar.oFld 3 (List._∷_ (Syntax.field 1) List.[]) (Syntax.tyInt Syntax.w64) 8 λ v. Shared.lenV (v
       .0))
 
-  abbrev s44 : (bs : List.List Nat.ℕ) → Typed.Both T47 T48
-  s44 = λ bs. Call.callB ps·3 r·3 (claims· .6) (claims· .7) T47 (
+  abbrev s46 : (bs : List.List Nat.ℕ) → Typed.Both T49 T50
+  s46 = λ bs. Call.callB ps·3 r·3 (claims· .6) (claims· .7) T49 (
     record { pos = 1; ty = Syntax.tyRef (Syntax.named 0) Syntax.imm (Syntax.tyInt Syntax.w8); ref = λ x. x },
     (
       record
-          { pos = 2; st = List.[]; d = 0; at = λ x. x },
+          { pos = 8; st = List.[]; d = 0; at = λ x. x },
       (
         record { pos = 7; st = List.[]; d = 0; at = λ x. x },
         (
           record {
-            pos = 19;
+            pos = 20;
             ty = Syntax.tyRef Syntax.erased Syntax.mut
                 LentTilePartEntry.pointee;
             ref = λ x. x;
@@ -2819,61 +3078,61 @@ module _ (claims· : Claims) where
         ),
       ),
     ),
-  ) 17 (List._∷_ 0 (List._∷_ 4 List.[])) Syntax.tyUnit
+  ) 18 (List._∷_ 0 (List._∷_ 4 List.[])) Syntax.tyUnit
 
-  abbrev s45 : (bs : List.List Nat.ℕ) → Typed.Mo T48 → Typed.Mo T49
-  s45 = λ bs. Scalar.n-room T48 2 (Syntax.tyEnum (List._∷_ 104 (List._∷_ 101 (List._∷_ 97 (List._∷_ 100 (List._∷_ 101 (List._∷_ 114 (List._∷_ 58 (List._∷_ 58 (List._∷_ 110
+  abbrev s47 : (bs : List.List Nat.ℕ) → Typed.Mo T50 → Typed.Mo T51
+  s47 = λ bs. Scalar.n-room T50 7 (Syntax.tyStruct (List._∷_ 116 (List._∷_ 121 (List._∷_ 112 (List._∷_ 101 (List._∷_ 115 (List._∷_ 58 (List._∷_ 58 (List._∷_ 67 (List._∷_ 111
+      (List._∷_ 100 (List._∷_ 101 (List._∷_ 115 (List._∷_ 116 (List._∷_ 114 (List._∷_ 101 (List._∷_ 97 (List._∷_ 109 (List._∷_ 79 (List._∷_ 102 (List._∷_ 102 (List._∷_ 115
+      (List._∷_ 101 (List._∷_ 116 List.[]))))))))))))))))))))))) (Syntax.tcons (Syntax.tyInt Syntax.w64) Syntax.tnil))
+
+  abbrev s48 : (bs : List.List Nat.ℕ) → Typed.Mo T51 → Typed.Mo T52
+  s48 = λ bs. Scalar.n-room T51 8 (Syntax.tyEnum (List._∷_ 104 (List._∷_ 101 (List._∷_ 97 (List._∷_ 100 (List._∷_ 101 (List._∷_ 114 (List._∷_ 58 (List._∷_ 58 (List._∷_ 110
       (List._∷_ 117 (List._∷_ 109 (List._∷_ 98 (List._∷_ 101 (List._∷_ 114 (List._∷_ 105 (List._∷_ 110 (List._∷_ 103 (List._∷_ 58 (List._∷_ 58 (List._∷_ 78 (List._∷_ 117 (List._∷_
       109 (List._∷_ 98 (List._∷_ 101 (List._∷_ 114 (List._∷_ 105 (List._∷_ 110 (List._∷_ 103 List.[])))))))))))))))))))))))))))) (Syntax.ttcons Syntax.tnil (Syntax.ttcons
       Syntax.tnil Syntax.ttnil)))
 
-  abbrev s46 : (bs : List.List Nat.ℕ) → Typed.Mo T49 → Typed.Mo T50
-  s46 = λ bs. Scalar.n-room T49 7 (Syntax.tyStruct (List._∷_ 116 (List._∷_ 121 (List._∷_ 112 (List._∷_ 101 (List._∷_ 115 (List._∷_ 58 (List._∷_ 58 (List._∷_ 67 (List._∷_ 111
-      (List._∷_ 100 (List._∷_ 101 (List._∷_ 115 (List._∷_ 116 (List._∷_ 114 (List._∷_ 101 (List._∷_ 97 (List._∷_ 109 (List._∷_ 79 (List._∷_ 102 (List._∷_ 102 (List._∷_ 115
-      (List._∷_ 101 (List._∷_ 116 List.[]))))))))))))))))))))))) (Syntax.tcons (Syntax.tyInt Syntax.w64) Syntax.tnil))
+  abbrev s49 : (bs : List.List Nat.ℕ) → Typed.Mo T52 → Typed.Mo T53
+  s49 = λ bs. Scalar.n-room T52 18 Syntax.tyUnit
 
-  abbrev s47 : (bs : List.List Nat.ℕ) → Typed.Mo T50 → Typed.Mo T51
-  s47 = λ bs. Scalar.n-room T50 17 Syntax.tyUnit
-
-  abbrev s49 : (bs : List.List Nat.ℕ) → Typed.Both T51 T53
-  s49 = λ bs. Relend.k-back-sl LentTilePartEntry.row T51 19 3 1 4 (Syntax.tyRef (Syntax.named 1) Syntax.mut LentTilePartEntry.pointee) (Syntax.tyRef Syntax.erased Syntax.mut
+  abbrev s51 : (bs : List.List Nat.ℕ) → Typed.Both T53 T55
+  s51 = λ bs. Relend.k-back-sl LentTilePartEntry.row T53 20 3 1 4 (Syntax.tyRef (Syntax.named 1) Syntax.mut LentTilePartEntry.pointee) (Syntax.tyRef Syntax.erased Syntax.mut
       LentTilePartEntry.pointee) Row.off (λ x. x) λ x. x
 
-  abbrev s52 : (bs : List.List Nat.ℕ) → Typed.Gives T53 T56
-  s52 = λ bs. Relend.k-sl-relend (Referent.rtF (Referent.fInt Syntax.w8)) T53 4 20 2 5 (Syntax.tyRef (Syntax.named 2) Syntax.mut (Syntax.tyInt Syntax.w8)) (Syntax.tyRef
+  abbrev s54 : (bs : List.List Nat.ℕ) → Typed.Gives T55 T58
+  s54 = λ bs. Relend.k-sl-relend (Referent.rtF (Referent.fInt Syntax.w8)) T55 4 21 2 5 (Syntax.tyRef (Syntax.named 2) Syntax.mut (Syntax.tyInt Syntax.w8)) (Syntax.tyRef
       Syntax.erased Syntax.mut (Syntax.tyInt Syntax.w8)) Row.off λ x. x
 
-  abbrev s53 : (bs : List.List Nat.ℕ) → Typed.Asks T56 T57
-  s53 = λ bs. Relend.k-sl-aggregate (Referent.rtF (Referent.fInt Syntax.w8)) (Relend.asMut (Referent.rtF (Referent.fInt Syntax.w8))) T56 20 21 5 (Syntax.tyRef Syntax.erased
+  abbrev s55 : (bs : List.List Nat.ℕ) → Typed.Asks T58 T59
+  s55 = λ bs. Relend.k-sl-aggregate (Referent.rtF (Referent.fInt Syntax.w8)) (Relend.asMut (Referent.rtF (Referent.fInt Syntax.w8))) T58 21 22 5 (Syntax.tyRef Syntax.erased
       Syntax.mut (Syntax.tyInt Syntax.w8)) (Syntax.tyRef Syntax.erased Syntax.mut (Syntax.tyInt Syntax.w8)) (λ x. x) (Scalar.oFld 4 (List._∷_ (Syntax.field 1) List.[])
       (Syntax.tyInt Syntax.w64) 8 λ v. Shared.lenV (v .0))
 
-  abbrev s54 : (bs : List.List Nat.ℕ) → Typed.Both T57 T58
-  s54 = λ bs. Call.callB ps·4 r·4 (claims· .8) (claims· .9) T57 (
+  abbrev s56 : (bs : List.List Nat.ℕ) → Typed.Both T59 T60
+  s56 = λ bs. Call.callB ps·4 r·4 (claims· .8) (claims· .9) T59 (
     record { pos = 1; ty = Syntax.tyRef (Syntax.named 0) Syntax.imm (Syntax.tyInt Syntax.w8); ref = λ x. x },
     (
       record
-          { pos = 21; ty = Syntax.tyRef Syntax.erased Syntax.mut (Syntax.tyInt Syntax.w8); ref = λ x. x },
+          { pos = 22; ty = Syntax.tyRef Syntax.erased Syntax.mut (Syntax.tyInt Syntax.w8); ref = λ x. x },
       tt,
     ),
-  ) 17 (List._∷_ 0 (List._∷_ 5 List.[])) Syntax.tyUnit
+  ) 18 (List._∷_ 0 (List._∷_ 5 List.[])) Syntax.tyUnit
 
-  abbrev s55 : (bs : List.List Nat.ℕ) → Typed.Mo T58 → Typed.Mo T59
-  s55 = λ bs. Scalar.n-room T58 17 Syntax.tyUnit
+  abbrev s57 : (bs : List.List Nat.ℕ) → Typed.Mo T60 → Typed.Mo T61
+  s57 = λ bs. Scalar.n-room T60 18 Syntax.tyUnit
 
-  abbrev s57 : (bs : List.List Nat.ℕ) → Typed.Both T59 T61
-  s57 = λ bs. Relend.k-back-sl (Referent.rtF (Referent.fInt Syntax.w8)) T59 21 4 2 5 (Syntax.tyRef (Syntax.named 2) Syntax.mut (Syntax.tyInt Syntax.w8)) (Syntax.tyRef Syntax.erased
+  abbrev s59 : (bs : List.List Nat.ℕ) → Typed.Both T61 T63
+  s59 = λ bs. Relend.k-back-sl (Referent.rtF (Referent.fInt Syntax.w8)) T61 22 4 2 5 (Syntax.tyRef (Syntax.named 2) Syntax.mut (Syntax.tyInt Syntax.w8)) (Syntax.tyRef Syntax.erased
       Syntax.mut (Syntax.tyInt Syntax.w8)) Row.off (λ x. x) λ x. x
 
-  abbrev s58 : (bs : List.List Nat.ℕ) → Typed.Gives T61 T62
-  s58 = λ bs. Know.k-sl-known (Referent.fInt Syntax.w8) T61 4 2 (Syntax.tyRef (Syntax.named 2) Syntax.mut (Syntax.tyInt Syntax.w8)) Row.off 0 λ x. x
+  abbrev s60 : (bs : List.List Nat.ℕ) → Typed.Gives T63 T64
+  s60 = λ bs. Know.k-sl-known (Referent.fInt Syntax.w8) T63 4 2 (Syntax.tyRef (Syntax.named 2) Syntax.mut (Syntax.tyInt Syntax.w8)) Row.off 0 λ x. x
 
-  abbrev s60 : (bs : List.List Nat.ℕ) → Typed.Mo T62 → Typed.Mo T64
-  s60 = λ bs. LocalCopy.n-val-copy T62 5 0 (Declared.row MainHeader.the-type) (Rows.whole (Declared.row MainHeader.the-type)) (Rows.whole (Declared.row MainHeader.the-type)) (λ x.
+  abbrev s62 : (bs : List.List Nat.ℕ) → Typed.Mo T64 → Typed.Mo T66
+  s62 = λ bs. LocalCopy.n-val-copy T64 5 0 (Declared.row MainHeader.the-type) (Rows.whole (Declared.row MainHeader.the-type)) (Rows.whole (Declared.row MainHeader.the-type)) (λ x.
       x) (λ x. x) λ x. x
 
-  abbrev s61 : (bs : List.List Nat.ℕ) → Typed.Mo T64 → Typed.Mo T65
-  s61 = λ bs. Scalar.n-room T64 5 (Syntax.tyEnum (List._∷_ 104 (List._∷_ 101 (List._∷_ 97 (List._∷_ 100 (List._∷_ 101 (List._∷_ 114 (List._∷_ 58 (List._∷_ 58 (List._∷_ 112
+  abbrev s63 : (bs : List.List Nat.ℕ) → Typed.Mo T66 → Typed.Mo T67
+  s63 = λ bs. Scalar.n-room T66 5 (Syntax.tyEnum (List._∷_ 104 (List._∷_ 101 (List._∷_ 97 (List._∷_ 100 (List._∷_ 101 (List._∷_ 114 (List._∷_ 58 (List._∷_ 58 (List._∷_ 112
       (List._∷_ 97 (List._∷_ 114 (List._∷_ 115 (List._∷_ 101 (List._∷_ 58 (List._∷_ 58 (List._∷_ 77 (List._∷_ 97 (List._∷_ 105 (List._∷_ 110 (List._∷_ 72 (List._∷_ 101 (List._∷_ 97
       (List._∷_ 100 (List._∷_ 101 (List._∷_ 114 List.[]))))))))))))))))))))))))) (Syntax.ttcons (Syntax.tcons (Syntax.tyStruct (List._∷_ 104 (List._∷_ 101 (List._∷_ 97 (List._∷_
       100 (List._∷_ 101 (List._∷_ 114 (List._∷_ 58 (List._∷_ 58 (List._∷_ 112 (List._∷_ 97 (List._∷_ 114 (List._∷_ 115 (List._∷_ 101 (List._∷_ 58 (List._∷_ 58 (List._∷_ 77
@@ -2987,124 +3246,130 @@ module _ (claims· : Claims) where
       at29 = λ bs. λ Ψ. Typed.pass T27 T44 (s40 bs) (at28 bs Ψ)
 
       abbrev at30 : (bs : List.List Nat.ℕ) → Typed.TF T27 O2
-      at30 = λ bs. Scalar.Φcond T27 O2 12 (λ x. x) (at27 bs) (at29 bs)
+      at30 = λ bs. Scalar.Φcond T27 O2 13 (λ x. x) (at27 bs) (at29 bs)
 
       abbrev at31 : (bs : List.List Nat.ℕ) → Typed.TF T25 O2
       at31 = λ bs. λ Ψ. Typed.pass T25 T27 (s23 bs) (at30 bs Ψ)
 
-      abbrev at32 : (bs : List.List Nat.ℕ) → Typed.TF T65 O0
+      abbrev at32 : (bs : List.List Nat.ℕ) → Typed.TF T67 O0
       at32 = λ bs. Typed.atRet O0
 
-      abbrev at33 : (bs : List.List Nat.ℕ) → Typed.TF T64 O0
-      at33 = λ bs. λ Ψ. Typed.pass T64 T65 (s61 bs) (at32 bs Ψ)
+      abbrev at33 : (bs : List.List Nat.ℕ) → Typed.TF T66 O0
+      at33 = λ bs. λ Ψ. Typed.pass T66 T67 (s63 bs) (at32 bs Ψ)
 
-      abbrev at34 : (bs : List.List Nat.ℕ) → Typed.TF T62 O0
-      at34 = λ bs. λ Ψ. Typed.pass T62 T64 (s60 bs) (at33 bs Ψ)
+      abbrev at34 : (bs : List.List Nat.ℕ) → Typed.TF T64 O0
+      at34 = λ bs. λ Ψ. Typed.pass T64 T66 (s62 bs) (at33 bs Ψ)
 
-      abbrev at35 : (bs : List.List Nat.ℕ) → Typed.TF T62 O0
+      abbrev at35 : (bs : List.List Nat.ℕ) → Typed.TF T64 O0
       at35 = λ bs. λ Ψ. at34 bs Ψ
 
-      abbrev at36 : (bs : List.List Nat.ℕ) → Typed.TF T61 O0
-      at36 = λ bs. λ Ψ. Typed.give (s58 bs) (at35 bs Ψ)
+      abbrev at36 : (bs : List.List Nat.ℕ) → Typed.TF T63 O0
+      at36 = λ bs. λ Ψ. Typed.give (s60 bs) (at35 bs Ψ)
 
-      abbrev at37 : (bs : List.List Nat.ℕ) → Typed.TF T59 O0
-      at37 = λ bs. λ Ψ. Typed.both (s57 bs) (at36 bs Ψ)
+      abbrev at37 : (bs : List.List Nat.ℕ) → Typed.TF T61 O0
+      at37 = λ bs. λ Ψ. Typed.both (s59 bs) (at36 bs Ψ)
 
-      abbrev at38 : (bs : List.List Nat.ℕ) → Typed.TF T59 O0
+      abbrev at38 : (bs : List.List Nat.ℕ) → Typed.TF T61 O0
       at38 = λ bs. λ Ψ. at37 bs Ψ
 
-      abbrev at39 : (bs : List.List Nat.ℕ) → Typed.TF T58 O0
-      at39 = λ bs. λ Ψ. Typed.pass T58 T59 (s55 bs) (at38 bs Ψ)
+      abbrev at39 : (bs : List.List Nat.ℕ) → Typed.TF T60 O0
+      at39 = λ bs. λ Ψ. Typed.pass T60 T61 (s57 bs) (at38 bs Ψ)
 
-      abbrev at40 : (bs : List.List Nat.ℕ) → Typed.TF T57 O0
-      at40 = λ bs. λ Ψ. Typed.both (s54 bs) (at39 bs Ψ)
+      abbrev at40 : (bs : List.List Nat.ℕ) → Typed.TF T59 O0
+      at40 = λ bs. λ Ψ. Typed.both (s56 bs) (at39 bs Ψ)
 
-      abbrev at41 : (bs : List.List Nat.ℕ) → Typed.TF T56 O0
-      at41 = λ bs. λ Ψ. Typed.ask (s53 bs) (at40 bs Ψ)
+      abbrev at41 : (bs : List.List Nat.ℕ) → Typed.TF T58 O0
+      at41 = λ bs. λ Ψ. Typed.ask (s55 bs) (at40 bs Ψ)
 
-      abbrev at42 : (bs : List.List Nat.ℕ) → Typed.TF T53 O0
-      at42 = λ bs. λ Ψ. Typed.give (s52 bs) (at41 bs Ψ)
+      abbrev at42 : (bs : List.List Nat.ℕ) → Typed.TF T55 O0
+      at42 = λ bs. λ Ψ. Typed.give (s54 bs) (at41 bs Ψ)
 
-      abbrev at43 : (bs : List.List Nat.ℕ) → Typed.TF T53 O0
+      abbrev at43 : (bs : List.List Nat.ℕ) → Typed.TF T55 O0
       at43 = λ bs. λ Ψ. at42 bs Ψ
 
-      abbrev at44 : (bs : List.List Nat.ℕ) → Typed.TF T53 O0
+      abbrev at44 : (bs : List.List Nat.ℕ) → Typed.TF T55 O0
       at44 = λ bs. λ Ψ. at43 bs Ψ
 
-      abbrev at45 : (bs : List.List Nat.ℕ) → Typed.TF T51 O0
-      at45 = λ bs. λ Ψ. Typed.both (s49 bs) (at44 bs Ψ)
+      abbrev at45 : (bs : List.List Nat.ℕ) → Typed.TF T53 O0
+      at45 = λ bs. λ Ψ. Typed.both (s51 bs) (at44 bs Ψ)
 
-      abbrev at46 : (bs : List.List Nat.ℕ) → Typed.TF T51 O0
+      abbrev at46 : (bs : List.List Nat.ℕ) → Typed.TF T53 O0
       at46 = λ bs. λ Ψ. at45 bs Ψ
 
-      abbrev at47 : (bs : List.List Nat.ℕ) → Typed.TF T50 O0
-      at47 = λ bs. λ Ψ. Typed.pass T50 T51 (s47 bs) (at46 bs Ψ)
+      abbrev at47 : (bs : List.List Nat.ℕ) → Typed.TF T52 O0
+      at47 = λ bs. λ Ψ. Typed.pass T52 T53 (s49 bs) (at46 bs Ψ)
 
-      abbrev at48 : (bs : List.List Nat.ℕ) → Typed.TF T49 O0
-      at48 = λ bs. λ Ψ. Typed.pass T49 T50 (s46 bs) (at47 bs Ψ)
+      abbrev at48 : (bs : List.List Nat.ℕ) → Typed.TF T51 O0
+      at48 = λ bs. λ Ψ. Typed.pass T51 T52 (s48 bs) (at47 bs Ψ)
 
-      abbrev at49 : (bs : List.List Nat.ℕ) → Typed.TF T48 O0
-      at49 = λ bs. λ Ψ. Typed.pass T48 T49 (s45 bs) (at48 bs Ψ)
+      abbrev at49 : (bs : List.List Nat.ℕ) → Typed.TF T50 O0
+      at49 = λ bs. λ Ψ. Typed.pass T50 T51 (s47 bs) (at48 bs Ψ)
 
-      abbrev at50 : (bs : List.List Nat.ℕ) → Typed.TF T47 O0
-      at50 = λ bs. λ Ψ. Typed.both (s44 bs) (at49 bs Ψ)
+      abbrev at50 : (bs : List.List Nat.ℕ) → Typed.TF T49 O0
+      at50 = λ bs. λ Ψ. Typed.both (s46 bs) (at49 bs Ψ)
 
-      abbrev at51 : (bs : List.List Nat.ℕ) → Typed.TF T46 O0
-      at51 = λ bs. λ Ψ. Typed.ask (s43 bs) (at50 bs Ψ)
+      abbrev at51 : (bs : List.List Nat.ℕ) → Typed.TF T48 O0
+      at51 = λ bs. λ Ψ. Typed.ask (s45 bs) (at50 bs Ψ)
 
-      abbrev at52 : (bs : List.List Nat.ℕ) → Typed.TF T26 O0
-      at52 = λ bs. λ Ψ. Typed.give (s42 bs) (at51 bs Ψ)
+      abbrev at52 : (bs : List.List Nat.ℕ) → Typed.TF T46 O0
+      at52 = λ bs. λ Ψ. Typed.give (s44 bs) (at51 bs Ψ)
 
-      abbrev at53 : (bs : List.List Nat.ℕ) → Typed.TF T26 O0
+      abbrev at53 : (bs : List.List Nat.ℕ) → Typed.TF T46 O0
       at53 = λ bs. λ Ψ. at52 bs Ψ
 
-      abbrev at54 : (bs : List.List Nat.ℕ) → Typed.TF T25 O0
-      at54 = λ bs. λ Ψ. at31 bs (Typed.wantNext T26 O0 (at53 bs Ψ) Ψ)
+      abbrev at54 : (bs : List.List Nat.ℕ) → Typed.TF T45 O0
+      at54 = λ bs. λ Ψ. Typed.pass T45 T46 (s42 bs) (at53 bs Ψ)
 
-      abbrev at55 : (bs : List.List Nat.ℕ) → Typed.TF T24 O0
-      at55 = λ bs. λ Ψ. Typed.ask (s22 bs) (at54 bs Ψ)
+      abbrev at55 : (bs : List.List Nat.ℕ) → Typed.TF T26 O0
+      at55 = λ bs. λ Ψ. Typed.pass T26 T45 (s41 bs) (at54 bs Ψ)
 
-      abbrev at56 : (bs : List.List Nat.ℕ) → Typed.TF T23 O0
-      at56 = λ bs. λ Ψ. Typed.give (s21 bs) (at55 bs Ψ)
+      abbrev at56 : (bs : List.List Nat.ℕ) → Typed.TF T25 O0
+      at56 = λ bs. λ Ψ. at31 bs (Typed.wantNext T26 O0 (at55 bs Ψ) Ψ)
 
-      abbrev at57 : (bs : List.List Nat.ℕ) → Typed.TF T22 O0
-      at57 = λ bs. λ Ψ. Typed.give (s20 bs) (at56 bs Ψ)
+      abbrev at57 : (bs : List.List Nat.ℕ) → Typed.TF T24 O0
+      at57 = λ bs. λ Ψ. Typed.ask (s22 bs) (at56 bs Ψ)
 
-      abbrev at58 : (bs : List.List Nat.ℕ) → Typed.TF T11 O0
-      at58 = λ bs. λ Ψ. Typed.both (s19 bs) (at57 bs Ψ)
+      abbrev at58 : (bs : List.List Nat.ℕ) → Typed.TF T23 O0
+      at58 = λ bs. λ Ψ. Typed.give (s21 bs) (at57 bs Ψ)
 
-      abbrev at59 : (bs : List.List Nat.ℕ) → Typed.TF T10 O0
-      at59 = λ bs. λ Ψ. at10 bs (Typed.wantNext T11 O0 (at58 bs Ψ) Ψ)
+      abbrev at59 : (bs : List.List Nat.ℕ) → Typed.TF T22 O0
+      at59 = λ bs. λ Ψ. Typed.give (s20 bs) (at58 bs Ψ)
 
-      abbrev at60 : (bs : List.List Nat.ℕ) → Typed.TF T9 O0
-      at60 = λ bs. λ Ψ. Typed.both (s8 bs) (at59 bs Ψ)
+      abbrev at60 : (bs : List.List Nat.ℕ) → Typed.TF T11 O0
+      at60 = λ bs. λ Ψ. Typed.both (s19 bs) (at59 bs Ψ)
 
-      abbrev at61 : (bs : List.List Nat.ℕ) → Typed.TF T8 O0
-      at61 = λ bs. λ Ψ. Typed.pass T8 T9 (s7 bs) (at60 bs Ψ)
+      abbrev at61 : (bs : List.List Nat.ℕ) → Typed.TF T10 O0
+      at61 = λ bs. λ Ψ. at10 bs (Typed.wantNext T11 O0 (at60 bs Ψ) Ψ)
 
-      abbrev at62 : (bs : List.List Nat.ℕ) → Typed.TF T7 O0
-      at62 = λ bs. λ Ψ. Typed.pass T7 T8 (s6 bs) (at61 bs Ψ)
+      abbrev at62 : (bs : List.List Nat.ℕ) → Typed.TF T9 O0
+      at62 = λ bs. λ Ψ. Typed.both (s8 bs) (at61 bs Ψ)
 
-      abbrev at63 : (bs : List.List Nat.ℕ) → Typed.TF T6 O0
-      at63 = λ bs. λ Ψ. Typed.pass T6 T7 (s5 bs) (at62 bs Ψ)
+      abbrev at63 : (bs : List.List Nat.ℕ) → Typed.TF T8 O0
+      at63 = λ bs. λ Ψ. Typed.pass T8 T9 (s7 bs) (at62 bs Ψ)
 
-      abbrev at64 : (bs : List.List Nat.ℕ) → Typed.TF T5 O0
-      at64 = λ bs. λ Ψ. Typed.pass T5 T6 (s4 bs) (at63 bs Ψ)
+      abbrev at64 : (bs : List.List Nat.ℕ) → Typed.TF T7 O0
+      at64 = λ bs. λ Ψ. Typed.pass T7 T8 (s6 bs) (at63 bs Ψ)
 
-      abbrev at65 : (bs : List.List Nat.ℕ) → Typed.TF T4 O0
-      at65 = λ bs. λ Ψ. Typed.pass T4 T5 (s3 bs) (at64 bs Ψ)
+      abbrev at65 : (bs : List.List Nat.ℕ) → Typed.TF T6 O0
+      at65 = λ bs. λ Ψ. Typed.pass T6 T7 (s5 bs) (at64 bs Ψ)
 
-      abbrev at66 : (bs : List.List Nat.ℕ) → Typed.TF T3 O0
-      at66 = λ bs. λ Ψ. Typed.pass T3 T4 (s2 bs) (at65 bs Ψ)
+      abbrev at66 : (bs : List.List Nat.ℕ) → Typed.TF T5 O0
+      at66 = λ bs. λ Ψ. Typed.pass T5 T6 (s4 bs) (at65 bs Ψ)
 
-      abbrev at67 : (bs : List.List Nat.ℕ) → Typed.TF T2 O0
-      at67 = λ bs. λ Ψ. Typed.give (s1 bs) (at66 bs Ψ)
+      abbrev at67 : (bs : List.List Nat.ℕ) → Typed.TF T4 O0
+      at67 = λ bs. λ Ψ. Typed.pass T4 T5 (s3 bs) (at66 bs Ψ)
 
-      abbrev at68 : (bs : List.List Nat.ℕ) → Typed.TF T0 O0
-      at68 = λ bs. λ Ψ. Typed.give (s0 bs) (at67 bs Ψ)
+      abbrev at68 : (bs : List.List Nat.ℕ) → Typed.TF T3 O0
+      at68 = λ bs. λ Ψ. Typed.pass T3 T4 (s2 bs) (at67 bs Ψ)
+
+      abbrev at69 : (bs : List.List Nat.ℕ) → Typed.TF T2 O0
+      at69 = λ bs. λ Ψ. Typed.give (s1 bs) (at68 bs Ψ)
+
+      abbrev at70 : (bs : List.List Nat.ℕ) → Typed.TF T0 O0
+      at70 = λ bs. λ Ψ. Typed.give (s0 bs) (at69 bs Ψ)
 
       abbrev pub Φ : (bs : List.List Nat.ℕ) → Typed.TF T0 O0
-      Φ = λ bs. at68 bs
+      Φ = λ bs. at70 bs
 
       module _ {M : Type 1} (𝓤 : URA.URA M) (H : Wp.Heap 𝓤) (A : Atoms.Atoms 𝓤) (W : Kit.Given 𝓤 H A) (𝓣 : Wp.Tables 𝓤 H) where
         abbrev Knowns : Type 1
@@ -3134,109 +3399,50 @@ module _ (claims· : Claims) where
               (Syntax.tyInt Syntax.w8)) 0,
         ) (List._∷_ (
           2,
-          Rows.any-gone (Syntax.tyEnum (List._∷_ 104 (List._∷_ 101 (List._∷_ 97 (List._∷_ 100 (List._∷_ 101 (List._∷_ 114 (List._∷_ 58
-              (List._∷_ 58 (List._∷_ 110 (List._∷_ 117 (List._∷_ 109 (List._∷_ 98 (List._∷_ 101 (List._∷_ 114 (List._∷_ 105 (List._∷_ 110 (List._∷_ 103 (List._∷_ 58 (List._∷_ 58
-              (List._∷_ 78 (List._∷_ 117 (List._∷_ 109 (List._∷_ 98 (List._∷_ 101 (List._∷_ 114 (List._∷_ 105 (List._∷_ 110 (List._∷_ 103 List.[]))))))))))))))))))))))))))))
-              (Syntax.ttcons Syntax.tnil (Syntax.ttcons Syntax.tnil Syntax.ttnil))),
+          Rows.any-gone (Syntax.tyStruct (List._∷_ 104 (List._∷_ 101 (List._∷_ 97 (List._∷_ 100 (List._∷_ 101 (List._∷_ 114 (List._∷_
+              58 (List._∷_ 58 (List._∷_ 114 (List._∷_ 101 (List._∷_ 97 (List._∷_ 100 (List._∷_ 105 (List._∷_ 110 (List._∷_ 103 (List._∷_ 58 (List._∷_ 58 (List._∷_ 82 (List._∷_ 101
+              (List._∷_ 97 (List._∷_ 100 (List._∷_ 105 (List._∷_ 110 (List._∷_ 103 List.[])))))))))))))))))))))))) (Syntax.tcons (Syntax.tyEnum (List._∷_ 104 (List._∷_ 101 (List._∷_
+              97 (List._∷_ 100 (List._∷_ 101 (List._∷_ 114 (List._∷_ 58 (List._∷_ 58 (List._∷_ 110 (List._∷_ 117 (List._∷_ 109 (List._∷_ 98 (List._∷_ 101 (List._∷_ 114 (List._∷_ 105
+              (List._∷_ 110 (List._∷_ 103 (List._∷_ 58 (List._∷_ 58 (List._∷_ 78 (List._∷_ 117 (List._∷_ 109 (List._∷_ 98 (List._∷_ 101 (List._∷_ 114 (List._∷_ 105 (List._∷_ 110
+              (List._∷_ 103 List.[])))))))))))))))))))))))))))) (Syntax.ttcons Syntax.tnil (Syntax.ttcons Syntax.tnil Syntax.ttnil))) (Syntax.tcons (Syntax.tyEnum (List._∷_ 104
+              (List._∷_ 101 (List._∷_ 97 (List._∷_ 100 (List._∷_ 101 (List._∷_ 114 (List._∷_ 58 (List._∷_ 58 (List._∷_ 101 (List._∷_ 100 (List._∷_ 105 (List._∷_ 116 (List._∷_ 105
+              (List._∷_ 111 (List._∷_ 110 (List._∷_ 58 (List._∷_ 58 (List._∷_ 69 (List._∷_ 100 (List._∷_ 105 (List._∷_ 116 (List._∷_ 105 (List._∷_ 111 (List._∷_ 110
+              List.[])))))))))))))))))))))))) (Syntax.ttcons Syntax.tnil (Syntax.ttcons Syntax.tnil Syntax.ttnil))) Syntax.tnil))),
         ) (List._∷_ (
           3,
-          Mut.mslice LentTilePartEntry.row (Syntax.tyRef (Syntax.named 1) Syntax.mut
-              LentTilePartEntry.pointee) 1,
+          Mut.mslice LentTilePartEntry.row
+              (Syntax.tyRef (Syntax.named 1) Syntax.mut LentTilePartEntry.pointee) 1,
         ) (List._∷_ (
           4,
-          Relend.mslice-owed (Referent.rtF (Referent.fInt Syntax.w8)) (Syntax.tyRef (Syntax.named 2) Syntax.mut (Syntax.tyInt
-              Syntax.w8)) 2 3 (Row.lease (κs .1 .1 .0) (qs .1 .1 .0)),
-        ) (List._∷_ (5, Rows.whole (Declared.row MainHeader.the-type)) (List._∷_ (
-          6,
-          Rows.any-gone (Syntax.tyStruct
-              (List._∷_ 104 (List._∷_ 101 (List._∷_ 97 (List._∷_ 100 (List._∷_ 101 (List._∷_ 114 (List._∷_ 58 (List._∷_ 58 (List._∷_ 112 (List._∷_ 97 (List._∷_ 114 (List._∷_ 115
-              (List._∷_ 101 (List._∷_ 58 (List._∷_ 58 (List._∷_ 77 (List._∷_ 97 (List._∷_ 105 (List._∷_ 110 (List._∷_ 72 (List._∷_ 101 (List._∷_ 97 (List._∷_ 100 (List._∷_ 101
-              (List._∷_ 114 (List._∷_ 73 (List._∷_ 110 (List._∷_ 102 (List._∷_ 111 List.[]))))))))))))))))))))))))))))) (Syntax.tcons (Syntax.tyStruct (List._∷_ 116 (List._∷_ 121
-              (List._∷_ 112 (List._∷_ 101 (List._∷_ 115 (List._∷_ 58 (List._∷_ 58 (List._∷_ 67 (List._∷_ 111 (List._∷_ 100 (List._∷_ 101 (List._∷_ 115 (List._∷_ 116 (List._∷_ 114
-              (List._∷_ 101 (List._∷_ 97 (List._∷_ 109 (List._∷_ 79 (List._∷_ 102 (List._∷_ 102 (List._∷_ 115 (List._∷_ 101 (List._∷_ 116 List.[]))))))))))))))))))))))) (Syntax.tcons
-              (Syntax.tyInt Syntax.w64) Syntax.tnil)) (Syntax.tcons (Syntax.tyInt Syntax.w64) (Syntax.tcons (Syntax.tyInt Syntax.w64) (Syntax.tcons (Syntax.tyInt Syntax.w64)
-              Syntax.tnil))))),
-        ) (List._∷_ (
-          7,
-          Rows.any-gone (Syntax.tyStruct (List._∷_ 116 (List._∷_ 121 (List._∷_ 112 (List._∷_ 101 (List._∷_ 115 (List._∷_ 58 (List._∷_ 58 (List._∷_
-              67 (List._∷_ 111 (List._∷_ 100 (List._∷_ 101 (List._∷_ 115 (List._∷_ 116 (List._∷_ 114 (List._∷_ 101 (List._∷_ 97 (List._∷_ 109 (List._∷_ 79 (List._∷_ 102 (List._∷_ 102
-              (List._∷_ 115 (List._∷_ 101 (List._∷_ 116 List.[]))))))))))))))))))))))) (Syntax.tcons (Syntax.tyInt Syntax.w64) Syntax.tnil)),
-        ) (List._∷_ (
-          8,
-          Rows.any-gone
-              (Syntax.tyInt Syntax.w64),
-        ) (List._∷_ (9, Rows.any-gone (Syntax.tyInt Syntax.w64)) (List._∷_ (10, Rows.any-gone (Syntax.tyInt Syntax.w64)) (List._∷_ (
-          11,
-          Rows.any-gone
-              (Syntax.tyInt Syntax.w64),
-        ) (List._∷_ (12, Rows.any-gone Syntax.tyBool) (List._∷_ (13, Rows.any-gone (Syntax.tyInt Syntax.w64)) (List._∷_ (
-          14,
-          Rows.sc-here (Row.sInt
-              Syntax.w64),
-        ) (List._∷_ (15, Relend.msptr (Referent.rtF (Referent.fInt Syntax.w8)) (Syntax.tyRef Syntax.erased Syntax.mut (Syntax.tyInt Syntax.w8)) 3)
-            List.[])))))))))))))))
-
-        abbrev g26 : List.List Row.Entry
-        g26 = List._∷_ (
-          0,
-          Rows.any-gone (Syntax.tyEnum (List._∷_ 104 (List._∷_ 101 (List._∷_ 97 (List._∷_ 100 (List._∷_ 101 (List._∷_ 114 (List._∷_ 58 (List._∷_ 58 (List._∷_ 112
-              (List._∷_ 97 (List._∷_ 114 (List._∷_ 115 (List._∷_ 101 (List._∷_ 58 (List._∷_ 58 (List._∷_ 77 (List._∷_ 97 (List._∷_ 105 (List._∷_ 110 (List._∷_ 72 (List._∷_ 101
-              (List._∷_ 97 (List._∷_ 100 (List._∷_ 101 (List._∷_ 114 List.[]))))))))))))))))))))))))) (Syntax.ttcons (Syntax.tcons (Syntax.tyStruct (List._∷_ 104 (List._∷_ 101
-              (List._∷_ 97 (List._∷_ 100 (List._∷_ 101 (List._∷_ 114 (List._∷_ 58 (List._∷_ 58 (List._∷_ 112 (List._∷_ 97 (List._∷_ 114 (List._∷_ 115 (List._∷_ 101 (List._∷_ 58
-              (List._∷_ 58 (List._∷_ 77 (List._∷_ 97 (List._∷_ 105 (List._∷_ 110 (List._∷_ 72 (List._∷_ 101 (List._∷_ 97 (List._∷_ 100 (List._∷_ 101 (List._∷_ 114 (List._∷_ 73
-              (List._∷_ 110 (List._∷_ 102 (List._∷_ 111 List.[]))))))))))))))))))))))))))))) (Syntax.tcons (Syntax.tyStruct (List._∷_ 116 (List._∷_ 121 (List._∷_ 112 (List._∷_ 101
-              (List._∷_ 115 (List._∷_ 58 (List._∷_ 58 (List._∷_ 67 (List._∷_ 111 (List._∷_ 100 (List._∷_ 101 (List._∷_ 115 (List._∷_ 116 (List._∷_ 114 (List._∷_ 101 (List._∷_ 97
-              (List._∷_ 109 (List._∷_ 79 (List._∷_ 102 (List._∷_ 102 (List._∷_ 115 (List._∷_ 101 (List._∷_ 116 List.[]))))))))))))))))))))))) (Syntax.tcons (Syntax.tyInt Syntax.w64)
-              Syntax.tnil)) (Syntax.tcons (Syntax.tyInt Syntax.w64) (Syntax.tcons (Syntax.tyInt Syntax.w64) (Syntax.tcons (Syntax.tyInt Syntax.w64) Syntax.tnil))))) Syntax.tnil)
-              (Syntax.ttcons (Syntax.tcons (Syntax.tyStruct (List._∷_ 116 (List._∷_ 121 (List._∷_ 112 (List._∷_ 101 (List._∷_ 115 (List._∷_ 58 (List._∷_ 58 (List._∷_ 82 (List._∷_ 101
-              (List._∷_ 102 (List._∷_ 117 (List._∷_ 115 (List._∷_ 97 (List._∷_ 108 List.[])))))))))))))) (Syntax.tcons (Syntax.tyInt Syntax.w32) (Syntax.tcons (Syntax.tyInt
-              Syntax.w64) Syntax.tnil))) Syntax.tnil) Syntax.ttnil))),
-        ) (List._∷_ (
-          1,
-          Rows.sslice (Referent.rtF (Referent.fInt Syntax.w8)) (Syntax.tyRef (Syntax.named 0) Syntax.imm
-              (Syntax.tyInt Syntax.w8)) 0,
-        ) (List._∷_ (
-          2,
-          Rows.any-gone (Syntax.tyEnum (List._∷_ 104 (List._∷_ 101 (List._∷_ 97 (List._∷_ 100 (List._∷_ 101 (List._∷_ 114 (List._∷_ 58
-              (List._∷_ 58 (List._∷_ 110 (List._∷_ 117 (List._∷_ 109 (List._∷_ 98 (List._∷_ 101 (List._∷_ 114 (List._∷_ 105 (List._∷_ 110 (List._∷_ 103 (List._∷_ 58 (List._∷_ 58
-              (List._∷_ 78 (List._∷_ 117 (List._∷_ 109 (List._∷_ 98 (List._∷_ 101 (List._∷_ 114 (List._∷_ 105 (List._∷_ 110 (List._∷_ 103 List.[]))))))))))))))))))))))))))))
-              (Syntax.ttcons Syntax.tnil (Syntax.ttcons Syntax.tnil Syntax.ttnil))),
-        ) (List._∷_ (
-          3,
-          Mut.mslice LentTilePartEntry.row (Syntax.tyRef (Syntax.named 1) Syntax.mut
-              LentTilePartEntry.pointee) 1,
-        ) (List._∷_ (
-          4,
-          Relend.mslice-owed (Referent.rtF (Referent.fInt Syntax.w8)) (Syntax.tyRef (Syntax.named 2) Syntax.mut (Syntax.tyInt
-              Syntax.w8)) 2 3 (Row.lease (κs .1 .1 .0) (qs .1 .1 .0)),
-        ) (List._∷_ (5, Rows.whole (Declared.row MainHeader.the-type)) (List._∷_ (
-          6,
-          Rows.any-gone (Syntax.tyStruct
-              (List._∷_ 104 (List._∷_ 101 (List._∷_ 97 (List._∷_ 100 (List._∷_ 101 (List._∷_ 114 (List._∷_ 58 (List._∷_ 58 (List._∷_ 112 (List._∷_ 97 (List._∷_ 114 (List._∷_ 115
-              (List._∷_ 101 (List._∷_ 58 (List._∷_ 58 (List._∷_ 77 (List._∷_ 97 (List._∷_ 105 (List._∷_ 110 (List._∷_ 72 (List._∷_ 101 (List._∷_ 97 (List._∷_ 100 (List._∷_ 101
-              (List._∷_ 114 (List._∷_ 73 (List._∷_ 110 (List._∷_ 102 (List._∷_ 111 List.[]))))))))))))))))))))))))))))) (Syntax.tcons (Syntax.tyStruct (List._∷_ 116 (List._∷_ 121
-              (List._∷_ 112 (List._∷_ 101 (List._∷_ 115 (List._∷_ 58 (List._∷_ 58 (List._∷_ 67 (List._∷_ 111 (List._∷_ 100 (List._∷_ 101 (List._∷_ 115 (List._∷_ 116 (List._∷_ 114
-              (List._∷_ 101 (List._∷_ 97 (List._∷_ 109 (List._∷_ 79 (List._∷_ 102 (List._∷_ 102 (List._∷_ 115 (List._∷_ 101 (List._∷_ 116 List.[]))))))))))))))))))))))) (Syntax.tcons
-              (Syntax.tyInt Syntax.w64) Syntax.tnil)) (Syntax.tcons (Syntax.tyInt Syntax.w64) (Syntax.tcons (Syntax.tyInt Syntax.w64) (Syntax.tcons (Syntax.tyInt Syntax.w64)
-              Syntax.tnil))))),
-        ) (List._∷_ (
-          7,
-          Rows.any-gone (Syntax.tyStruct (List._∷_ 116 (List._∷_ 121 (List._∷_ 112 (List._∷_ 101 (List._∷_ 115 (List._∷_ 58 (List._∷_ 58 (List._∷_
-              67 (List._∷_ 111 (List._∷_ 100 (List._∷_ 101 (List._∷_ 115 (List._∷_ 116 (List._∷_ 114 (List._∷_ 101 (List._∷_ 97 (List._∷_ 109 (List._∷_ 79 (List._∷_ 102 (List._∷_ 102
-              (List._∷_ 115 (List._∷_ 101 (List._∷_ 116 List.[]))))))))))))))))))))))) (Syntax.tcons (Syntax.tyInt Syntax.w64) Syntax.tnil)),
-        ) (List._∷_ (
-          8,
-          Rows.any-gone
-              (Syntax.tyInt Syntax.w64),
-        ) (List._∷_ (9, Rows.any-gone (Syntax.tyInt Syntax.w64)) (List._∷_ (10, Rows.any-gone (Syntax.tyInt Syntax.w64)) (List._∷_ (
-          11,
-          Rows.any-gone
-              (Syntax.tyInt Syntax.w64),
-        ) (List._∷_ (12, Rows.any-gone Syntax.tyBool) (List._∷_ (13, Rows.any-gone (Syntax.tyInt Syntax.w64)) (List._∷_ (
-          14,
-          Rows.sc-here (Row.sInt
-              Syntax.w64),
-        ) (List._∷_ (15, Rows.any-gone (Syntax.tyRef Syntax.erased Syntax.mut (Syntax.tyInt Syntax.w8))) List.[])))))))))))))))
+          Relend.mslice-owed (Referent.rtF (Referent.fInt Syntax.w8)) (Syntax.tyRef
+              (Syntax.named 2) Syntax.mut (Syntax.tyInt Syntax.w8)) 2 3 (Row.lease (κs .1 .1 .0) (qs .1 .1 .0)),
+        ) (List._∷_ (5, Rows.whole (Declared.row MainHeader.the-type))
+            (List._∷_ (
+              6,
+              Rows.any-gone (Syntax.tyStruct (List._∷_ 104 (List._∷_ 101 (List._∷_ 97 (List._∷_ 100 (List._∷_ 101 (List._∷_ 114 (List._∷_ 58 (List._∷_ 58 (List._∷_ 112
+                  (List._∷_ 97 (List._∷_ 114 (List._∷_ 115 (List._∷_ 101 (List._∷_ 58 (List._∷_ 58 (List._∷_ 77 (List._∷_ 97 (List._∷_ 105 (List._∷_ 110 (List._∷_ 72 (List._∷_ 101
+                  (List._∷_ 97 (List._∷_ 100 (List._∷_ 101 (List._∷_ 114 (List._∷_ 73 (List._∷_ 110 (List._∷_ 102 (List._∷_ 111 List.[]))))))))))))))))))))))))))))) (Syntax.tcons
+                  (Syntax.tyStruct (List._∷_ 116 (List._∷_ 121 (List._∷_ 112 (List._∷_ 101 (List._∷_ 115 (List._∷_ 58 (List._∷_ 58 (List._∷_ 67 (List._∷_ 111 (List._∷_ 100 (List._∷_ 101
+                  (List._∷_ 115 (List._∷_ 116 (List._∷_ 114 (List._∷_ 101 (List._∷_ 97 (List._∷_ 109 (List._∷_ 79 (List._∷_ 102 (List._∷_ 102 (List._∷_ 115 (List._∷_ 101 (List._∷_ 116
+                  List.[]))))))))))))))))))))))) (Syntax.tcons (Syntax.tyInt Syntax.w64) Syntax.tnil)) (Syntax.tcons (Syntax.tyInt Syntax.w64) (Syntax.tcons (Syntax.tyInt Syntax.w64)
+                  (Syntax.tcons (Syntax.tyInt Syntax.w64) Syntax.tnil))))),
+            ) (List._∷_ (
+              7,
+              Rows.any-gone (Syntax.tyStruct (List._∷_ 116 (List._∷_ 121 (List._∷_ 112 (List._∷_ 101 (List._∷_
+                  115 (List._∷_ 58 (List._∷_ 58 (List._∷_ 67 (List._∷_ 111 (List._∷_ 100 (List._∷_ 101 (List._∷_ 115 (List._∷_ 116 (List._∷_ 114 (List._∷_ 101 (List._∷_ 97 (List._∷_ 109
+                  (List._∷_ 79 (List._∷_ 102 (List._∷_ 102 (List._∷_ 115 (List._∷_ 101 (List._∷_ 116 List.[]))))))))))))))))))))))) (Syntax.tcons (Syntax.tyInt Syntax.w64) Syntax.tnil)),
+            )
+            (List._∷_ (
+              8,
+              Rows.any-gone (Syntax.tyEnum (List._∷_ 104 (List._∷_ 101 (List._∷_ 97 (List._∷_ 100 (List._∷_ 101 (List._∷_ 114 (List._∷_ 58 (List._∷_ 58 (List._∷_ 110
+                  (List._∷_ 117 (List._∷_ 109 (List._∷_ 98 (List._∷_ 101 (List._∷_ 114 (List._∷_ 105 (List._∷_ 110 (List._∷_ 103 (List._∷_ 58 (List._∷_ 58 (List._∷_ 78 (List._∷_ 117
+                  (List._∷_ 109 (List._∷_ 98 (List._∷_ 101 (List._∷_ 114 (List._∷_ 105 (List._∷_ 110 (List._∷_ 103 List.[])))))))))))))))))))))))))))) (Syntax.ttcons Syntax.tnil
+                  (Syntax.ttcons Syntax.tnil Syntax.ttnil))),
+            ) (List._∷_ (9, Rows.any-gone (Syntax.tyInt Syntax.w64)) (List._∷_ (10, Rows.any-gone (Syntax.tyInt Syntax.w64)) (List._∷_
+            (11, Rows.any-gone (Syntax.tyInt Syntax.w64)) (List._∷_ (12, Rows.any-gone (Syntax.tyInt Syntax.w64)) (List._∷_ (13, Rows.any-gone Syntax.tyBool) (List._∷_ (
+              14,
+              Rows.any-gone (Syntax.tyInt Syntax.w64),
+            ) (List._∷_ (15, Rows.sc-here (Row.sInt Syntax.w64)) List.[])))))))))))))))
 
         abbrev g28 : List.List Row.Entry
         g28 = List._∷_ (
@@ -3259,46 +3465,50 @@ module _ (claims· : Claims) where
               (Syntax.tyInt Syntax.w8)) 0,
         ) (List._∷_ (
           2,
-          Rows.any-gone (Syntax.tyEnum (List._∷_ 104 (List._∷_ 101 (List._∷_ 97 (List._∷_ 100 (List._∷_ 101 (List._∷_ 114 (List._∷_ 58
-              (List._∷_ 58 (List._∷_ 110 (List._∷_ 117 (List._∷_ 109 (List._∷_ 98 (List._∷_ 101 (List._∷_ 114 (List._∷_ 105 (List._∷_ 110 (List._∷_ 103 (List._∷_ 58 (List._∷_ 58
-              (List._∷_ 78 (List._∷_ 117 (List._∷_ 109 (List._∷_ 98 (List._∷_ 101 (List._∷_ 114 (List._∷_ 105 (List._∷_ 110 (List._∷_ 103 List.[]))))))))))))))))))))))))))))
-              (Syntax.ttcons Syntax.tnil (Syntax.ttcons Syntax.tnil Syntax.ttnil))),
+          Rows.any-gone (Syntax.tyStruct (List._∷_ 104 (List._∷_ 101 (List._∷_ 97 (List._∷_ 100 (List._∷_ 101 (List._∷_ 114 (List._∷_
+              58 (List._∷_ 58 (List._∷_ 114 (List._∷_ 101 (List._∷_ 97 (List._∷_ 100 (List._∷_ 105 (List._∷_ 110 (List._∷_ 103 (List._∷_ 58 (List._∷_ 58 (List._∷_ 82 (List._∷_ 101
+              (List._∷_ 97 (List._∷_ 100 (List._∷_ 105 (List._∷_ 110 (List._∷_ 103 List.[])))))))))))))))))))))))) (Syntax.tcons (Syntax.tyEnum (List._∷_ 104 (List._∷_ 101 (List._∷_
+              97 (List._∷_ 100 (List._∷_ 101 (List._∷_ 114 (List._∷_ 58 (List._∷_ 58 (List._∷_ 110 (List._∷_ 117 (List._∷_ 109 (List._∷_ 98 (List._∷_ 101 (List._∷_ 114 (List._∷_ 105
+              (List._∷_ 110 (List._∷_ 103 (List._∷_ 58 (List._∷_ 58 (List._∷_ 78 (List._∷_ 117 (List._∷_ 109 (List._∷_ 98 (List._∷_ 101 (List._∷_ 114 (List._∷_ 105 (List._∷_ 110
+              (List._∷_ 103 List.[])))))))))))))))))))))))))))) (Syntax.ttcons Syntax.tnil (Syntax.ttcons Syntax.tnil Syntax.ttnil))) (Syntax.tcons (Syntax.tyEnum (List._∷_ 104
+              (List._∷_ 101 (List._∷_ 97 (List._∷_ 100 (List._∷_ 101 (List._∷_ 114 (List._∷_ 58 (List._∷_ 58 (List._∷_ 101 (List._∷_ 100 (List._∷_ 105 (List._∷_ 116 (List._∷_ 105
+              (List._∷_ 111 (List._∷_ 110 (List._∷_ 58 (List._∷_ 58 (List._∷_ 69 (List._∷_ 100 (List._∷_ 105 (List._∷_ 116 (List._∷_ 105 (List._∷_ 111 (List._∷_ 110
+              List.[])))))))))))))))))))))))) (Syntax.ttcons Syntax.tnil (Syntax.ttcons Syntax.tnil Syntax.ttnil))) Syntax.tnil))),
         ) (List._∷_ (
           3,
-          Mut.mslice LentTilePartEntry.row (Syntax.tyRef (Syntax.named 1) Syntax.mut
-              LentTilePartEntry.pointee) 1,
+          Mut.mslice LentTilePartEntry.row
+              (Syntax.tyRef (Syntax.named 1) Syntax.mut LentTilePartEntry.pointee) 1,
         ) (List._∷_ (
           4,
-          Relend.mslice-owed (Referent.rtF (Referent.fInt Syntax.w8)) (Syntax.tyRef (Syntax.named 2) Syntax.mut (Syntax.tyInt
-              Syntax.w8)) 2 3 (Row.lease (κs .1 .1 .0) (qs .1 .1 .0)),
-        ) (List._∷_ (5, Rows.whole (Declared.row MainHeader.the-type)) (List._∷_ (
-          6,
-          Rows.any-gone (Syntax.tyStruct
-              (List._∷_ 104 (List._∷_ 101 (List._∷_ 97 (List._∷_ 100 (List._∷_ 101 (List._∷_ 114 (List._∷_ 58 (List._∷_ 58 (List._∷_ 112 (List._∷_ 97 (List._∷_ 114 (List._∷_ 115
-              (List._∷_ 101 (List._∷_ 58 (List._∷_ 58 (List._∷_ 77 (List._∷_ 97 (List._∷_ 105 (List._∷_ 110 (List._∷_ 72 (List._∷_ 101 (List._∷_ 97 (List._∷_ 100 (List._∷_ 101
-              (List._∷_ 114 (List._∷_ 73 (List._∷_ 110 (List._∷_ 102 (List._∷_ 111 List.[]))))))))))))))))))))))))))))) (Syntax.tcons (Syntax.tyStruct (List._∷_ 116 (List._∷_ 121
-              (List._∷_ 112 (List._∷_ 101 (List._∷_ 115 (List._∷_ 58 (List._∷_ 58 (List._∷_ 67 (List._∷_ 111 (List._∷_ 100 (List._∷_ 101 (List._∷_ 115 (List._∷_ 116 (List._∷_ 114
-              (List._∷_ 101 (List._∷_ 97 (List._∷_ 109 (List._∷_ 79 (List._∷_ 102 (List._∷_ 102 (List._∷_ 115 (List._∷_ 101 (List._∷_ 116 List.[]))))))))))))))))))))))) (Syntax.tcons
-              (Syntax.tyInt Syntax.w64) Syntax.tnil)) (Syntax.tcons (Syntax.tyInt Syntax.w64) (Syntax.tcons (Syntax.tyInt Syntax.w64) (Syntax.tcons (Syntax.tyInt Syntax.w64)
-              Syntax.tnil))))),
-        ) (List._∷_ (
-          7,
-          Rows.any-gone (Syntax.tyStruct (List._∷_ 116 (List._∷_ 121 (List._∷_ 112 (List._∷_ 101 (List._∷_ 115 (List._∷_ 58 (List._∷_ 58 (List._∷_
-              67 (List._∷_ 111 (List._∷_ 100 (List._∷_ 101 (List._∷_ 115 (List._∷_ 116 (List._∷_ 114 (List._∷_ 101 (List._∷_ 97 (List._∷_ 109 (List._∷_ 79 (List._∷_ 102 (List._∷_ 102
-              (List._∷_ 115 (List._∷_ 101 (List._∷_ 116 List.[]))))))))))))))))))))))) (Syntax.tcons (Syntax.tyInt Syntax.w64) Syntax.tnil)),
-        ) (List._∷_ (
-          8,
-          Rows.any-gone
-              (Syntax.tyInt Syntax.w64),
-        ) (List._∷_ (9, Rows.any-gone (Syntax.tyInt Syntax.w64)) (List._∷_ (10, Rows.any-gone (Syntax.tyInt Syntax.w64)) (List._∷_ (
-          11,
-          Rows.any-gone
-              (Syntax.tyInt Syntax.w64),
-        ) (List._∷_ (12, Rows.any-gone Syntax.tyBool) (List._∷_ (13, Rows.sc-here (Row.sInt Syntax.w64)) (List._∷_ (
-          14,
-          Rows.sc-here (Row.sInt
-              Syntax.w64),
-        ) (List._∷_ (15, Rows.any-gone (Syntax.tyRef Syntax.erased Syntax.mut (Syntax.tyInt Syntax.w8))) List.[])))))))))))))))
+          Relend.mslice-owed (Referent.rtF (Referent.fInt Syntax.w8)) (Syntax.tyRef
+              (Syntax.named 2) Syntax.mut (Syntax.tyInt Syntax.w8)) 2 3 (Row.lease (κs .1 .1 .0) (qs .1 .1 .0)),
+        ) (List._∷_ (5, Rows.whole (Declared.row MainHeader.the-type))
+            (List._∷_ (
+              6,
+              Rows.any-gone (Syntax.tyStruct (List._∷_ 104 (List._∷_ 101 (List._∷_ 97 (List._∷_ 100 (List._∷_ 101 (List._∷_ 114 (List._∷_ 58 (List._∷_ 58 (List._∷_ 112
+                  (List._∷_ 97 (List._∷_ 114 (List._∷_ 115 (List._∷_ 101 (List._∷_ 58 (List._∷_ 58 (List._∷_ 77 (List._∷_ 97 (List._∷_ 105 (List._∷_ 110 (List._∷_ 72 (List._∷_ 101
+                  (List._∷_ 97 (List._∷_ 100 (List._∷_ 101 (List._∷_ 114 (List._∷_ 73 (List._∷_ 110 (List._∷_ 102 (List._∷_ 111 List.[]))))))))))))))))))))))))))))) (Syntax.tcons
+                  (Syntax.tyStruct (List._∷_ 116 (List._∷_ 121 (List._∷_ 112 (List._∷_ 101 (List._∷_ 115 (List._∷_ 58 (List._∷_ 58 (List._∷_ 67 (List._∷_ 111 (List._∷_ 100 (List._∷_ 101
+                  (List._∷_ 115 (List._∷_ 116 (List._∷_ 114 (List._∷_ 101 (List._∷_ 97 (List._∷_ 109 (List._∷_ 79 (List._∷_ 102 (List._∷_ 102 (List._∷_ 115 (List._∷_ 101 (List._∷_ 116
+                  List.[]))))))))))))))))))))))) (Syntax.tcons (Syntax.tyInt Syntax.w64) Syntax.tnil)) (Syntax.tcons (Syntax.tyInt Syntax.w64) (Syntax.tcons (Syntax.tyInt Syntax.w64)
+                  (Syntax.tcons (Syntax.tyInt Syntax.w64) Syntax.tnil))))),
+            ) (List._∷_ (
+              7,
+              Rows.any-gone (Syntax.tyStruct (List._∷_ 116 (List._∷_ 121 (List._∷_ 112 (List._∷_ 101 (List._∷_
+                  115 (List._∷_ 58 (List._∷_ 58 (List._∷_ 67 (List._∷_ 111 (List._∷_ 100 (List._∷_ 101 (List._∷_ 115 (List._∷_ 116 (List._∷_ 114 (List._∷_ 101 (List._∷_ 97 (List._∷_ 109
+                  (List._∷_ 79 (List._∷_ 102 (List._∷_ 102 (List._∷_ 115 (List._∷_ 101 (List._∷_ 116 List.[]))))))))))))))))))))))) (Syntax.tcons (Syntax.tyInt Syntax.w64) Syntax.tnil)),
+            )
+            (List._∷_ (
+              8,
+              Rows.any-gone (Syntax.tyEnum (List._∷_ 104 (List._∷_ 101 (List._∷_ 97 (List._∷_ 100 (List._∷_ 101 (List._∷_ 114 (List._∷_ 58 (List._∷_ 58 (List._∷_ 110
+                  (List._∷_ 117 (List._∷_ 109 (List._∷_ 98 (List._∷_ 101 (List._∷_ 114 (List._∷_ 105 (List._∷_ 110 (List._∷_ 103 (List._∷_ 58 (List._∷_ 58 (List._∷_ 78 (List._∷_ 117
+                  (List._∷_ 109 (List._∷_ 98 (List._∷_ 101 (List._∷_ 114 (List._∷_ 105 (List._∷_ 110 (List._∷_ 103 List.[])))))))))))))))))))))))))))) (Syntax.ttcons Syntax.tnil
+                  (Syntax.ttcons Syntax.tnil Syntax.ttnil))),
+            ) (List._∷_ (9, Rows.any-gone (Syntax.tyInt Syntax.w64)) (List._∷_ (10, Rows.any-gone (Syntax.tyInt Syntax.w64)) (List._∷_
+            (11, Rows.any-gone (Syntax.tyInt Syntax.w64)) (List._∷_ (12, Rows.any-gone (Syntax.tyInt Syntax.w64)) (List._∷_ (13, Rows.any-gone Syntax.tyBool) (List._∷_ (
+              14,
+              Rows.sc-here (Row.sInt Syntax.w64),
+            ) (List._∷_ (15, Rows.sc-here (Row.sInt Syntax.w64)) List.[])))))))))))))))
 
         abbrev g30 : List.List Row.Entry
         g30 = List._∷_ (
@@ -3321,97 +3531,114 @@ module _ (claims· : Claims) where
               (Syntax.tyInt Syntax.w8)) 0,
         ) (List._∷_ (
           2,
-          Rows.any-gone (Syntax.tyEnum (List._∷_ 104 (List._∷_ 101 (List._∷_ 97 (List._∷_ 100 (List._∷_ 101 (List._∷_ 114 (List._∷_ 58
-              (List._∷_ 58 (List._∷_ 110 (List._∷_ 117 (List._∷_ 109 (List._∷_ 98 (List._∷_ 101 (List._∷_ 114 (List._∷_ 105 (List._∷_ 110 (List._∷_ 103 (List._∷_ 58 (List._∷_ 58
-              (List._∷_ 78 (List._∷_ 117 (List._∷_ 109 (List._∷_ 98 (List._∷_ 101 (List._∷_ 114 (List._∷_ 105 (List._∷_ 110 (List._∷_ 103 List.[]))))))))))))))))))))))))))))
-              (Syntax.ttcons Syntax.tnil (Syntax.ttcons Syntax.tnil Syntax.ttnil))),
+          Rows.any-gone (Syntax.tyStruct (List._∷_ 104 (List._∷_ 101 (List._∷_ 97 (List._∷_ 100 (List._∷_ 101 (List._∷_ 114 (List._∷_
+              58 (List._∷_ 58 (List._∷_ 114 (List._∷_ 101 (List._∷_ 97 (List._∷_ 100 (List._∷_ 105 (List._∷_ 110 (List._∷_ 103 (List._∷_ 58 (List._∷_ 58 (List._∷_ 82 (List._∷_ 101
+              (List._∷_ 97 (List._∷_ 100 (List._∷_ 105 (List._∷_ 110 (List._∷_ 103 List.[])))))))))))))))))))))))) (Syntax.tcons (Syntax.tyEnum (List._∷_ 104 (List._∷_ 101 (List._∷_
+              97 (List._∷_ 100 (List._∷_ 101 (List._∷_ 114 (List._∷_ 58 (List._∷_ 58 (List._∷_ 110 (List._∷_ 117 (List._∷_ 109 (List._∷_ 98 (List._∷_ 101 (List._∷_ 114 (List._∷_ 105
+              (List._∷_ 110 (List._∷_ 103 (List._∷_ 58 (List._∷_ 58 (List._∷_ 78 (List._∷_ 117 (List._∷_ 109 (List._∷_ 98 (List._∷_ 101 (List._∷_ 114 (List._∷_ 105 (List._∷_ 110
+              (List._∷_ 103 List.[])))))))))))))))))))))))))))) (Syntax.ttcons Syntax.tnil (Syntax.ttcons Syntax.tnil Syntax.ttnil))) (Syntax.tcons (Syntax.tyEnum (List._∷_ 104
+              (List._∷_ 101 (List._∷_ 97 (List._∷_ 100 (List._∷_ 101 (List._∷_ 114 (List._∷_ 58 (List._∷_ 58 (List._∷_ 101 (List._∷_ 100 (List._∷_ 105 (List._∷_ 116 (List._∷_ 105
+              (List._∷_ 111 (List._∷_ 110 (List._∷_ 58 (List._∷_ 58 (List._∷_ 69 (List._∷_ 100 (List._∷_ 105 (List._∷_ 116 (List._∷_ 105 (List._∷_ 111 (List._∷_ 110
+              List.[])))))))))))))))))))))))) (Syntax.ttcons Syntax.tnil (Syntax.ttcons Syntax.tnil Syntax.ttnil))) Syntax.tnil))),
         ) (List._∷_ (
           3,
-          Mut.mslice LentTilePartEntry.row (Syntax.tyRef (Syntax.named 1) Syntax.mut
-              LentTilePartEntry.pointee) 1,
+          Mut.mslice LentTilePartEntry.row
+              (Syntax.tyRef (Syntax.named 1) Syntax.mut LentTilePartEntry.pointee) 1,
         ) (List._∷_ (
           4,
-          Relend.mslice-owed (Referent.rtF (Referent.fInt Syntax.w8)) (Syntax.tyRef (Syntax.named 2) Syntax.mut (Syntax.tyInt
-              Syntax.w8)) 2 3 (Row.lease (κs .1 .1 .0) (qs .1 .1 .0)),
+          Relend.mslice-owed (Referent.rtF (Referent.fInt Syntax.w8)) (Syntax.tyRef
+              (Syntax.named 2) Syntax.mut (Syntax.tyInt Syntax.w8)) 2 3 (Row.lease (κs .1 .1 .0) (qs .1 .1 .0)),
+        ) (List._∷_ (5, Rows.whole (Declared.row MainHeader.the-type))
+            (List._∷_ (
+              6,
+              Rows.any-gone (Syntax.tyStruct (List._∷_ 104 (List._∷_ 101 (List._∷_ 97 (List._∷_ 100 (List._∷_ 101 (List._∷_ 114 (List._∷_ 58 (List._∷_ 58 (List._∷_ 112
+                  (List._∷_ 97 (List._∷_ 114 (List._∷_ 115 (List._∷_ 101 (List._∷_ 58 (List._∷_ 58 (List._∷_ 77 (List._∷_ 97 (List._∷_ 105 (List._∷_ 110 (List._∷_ 72 (List._∷_ 101
+                  (List._∷_ 97 (List._∷_ 100 (List._∷_ 101 (List._∷_ 114 (List._∷_ 73 (List._∷_ 110 (List._∷_ 102 (List._∷_ 111 List.[]))))))))))))))))))))))))))))) (Syntax.tcons
+                  (Syntax.tyStruct (List._∷_ 116 (List._∷_ 121 (List._∷_ 112 (List._∷_ 101 (List._∷_ 115 (List._∷_ 58 (List._∷_ 58 (List._∷_ 67 (List._∷_ 111 (List._∷_ 100 (List._∷_ 101
+                  (List._∷_ 115 (List._∷_ 116 (List._∷_ 114 (List._∷_ 101 (List._∷_ 97 (List._∷_ 109 (List._∷_ 79 (List._∷_ 102 (List._∷_ 102 (List._∷_ 115 (List._∷_ 101 (List._∷_ 116
+                  List.[]))))))))))))))))))))))) (Syntax.tcons (Syntax.tyInt Syntax.w64) Syntax.tnil)) (Syntax.tcons (Syntax.tyInt Syntax.w64) (Syntax.tcons (Syntax.tyInt Syntax.w64)
+                  (Syntax.tcons (Syntax.tyInt Syntax.w64) Syntax.tnil))))),
+            ) (List._∷_ (
+              7,
+              Rows.any-gone (Syntax.tyStruct (List._∷_ 116 (List._∷_ 121 (List._∷_ 112 (List._∷_ 101 (List._∷_
+                  115 (List._∷_ 58 (List._∷_ 58 (List._∷_ 67 (List._∷_ 111 (List._∷_ 100 (List._∷_ 101 (List._∷_ 115 (List._∷_ 116 (List._∷_ 114 (List._∷_ 101 (List._∷_ 97 (List._∷_ 109
+                  (List._∷_ 79 (List._∷_ 102 (List._∷_ 102 (List._∷_ 115 (List._∷_ 101 (List._∷_ 116 List.[]))))))))))))))))))))))) (Syntax.tcons (Syntax.tyInt Syntax.w64) Syntax.tnil)),
+            )
+            (List._∷_ (
+              8,
+              Rows.any-gone (Syntax.tyEnum (List._∷_ 104 (List._∷_ 101 (List._∷_ 97 (List._∷_ 100 (List._∷_ 101 (List._∷_ 114 (List._∷_ 58 (List._∷_ 58 (List._∷_ 110
+                  (List._∷_ 117 (List._∷_ 109 (List._∷_ 98 (List._∷_ 101 (List._∷_ 114 (List._∷_ 105 (List._∷_ 110 (List._∷_ 103 (List._∷_ 58 (List._∷_ 58 (List._∷_ 78 (List._∷_ 117
+                  (List._∷_ 109 (List._∷_ 98 (List._∷_ 101 (List._∷_ 114 (List._∷_ 105 (List._∷_ 110 (List._∷_ 103 List.[])))))))))))))))))))))))))))) (Syntax.ttcons Syntax.tnil
+                  (Syntax.ttcons Syntax.tnil Syntax.ttnil))),
+            ) (List._∷_ (9, Rows.any-gone (Syntax.tyInt Syntax.w64)) (List._∷_ (10, Rows.any-gone (Syntax.tyInt Syntax.w64)) (List._∷_
+            (11, Rows.any-gone (Syntax.tyInt Syntax.w64)) (List._∷_ (12, Rows.any-gone (Syntax.tyInt Syntax.w64)) (List._∷_ (13, Rows.any-gone Syntax.tyBool) (List._∷_ (
+              14,
+              Rows.any-gone (Syntax.tyInt Syntax.w64),
+            ) (List._∷_ (15, Rows.any-gone (Syntax.tyInt Syntax.w64)) List.[])))))))))))))))
+
+        abbrev g33 : List.List Row.Entry
+        g33 = List._∷_ (
+          0,
+          Rows.any-gone (Syntax.tyEnum (List._∷_ 104 (List._∷_ 101 (List._∷_ 97 (List._∷_ 100 (List._∷_ 101 (List._∷_ 114 (List._∷_ 58 (List._∷_ 58 (List._∷_ 112
+              (List._∷_ 97 (List._∷_ 114 (List._∷_ 115 (List._∷_ 101 (List._∷_ 58 (List._∷_ 58 (List._∷_ 77 (List._∷_ 97 (List._∷_ 105 (List._∷_ 110 (List._∷_ 72 (List._∷_ 101
+              (List._∷_ 97 (List._∷_ 100 (List._∷_ 101 (List._∷_ 114 List.[]))))))))))))))))))))))))) (Syntax.ttcons (Syntax.tcons (Syntax.tyStruct (List._∷_ 104 (List._∷_ 101
+              (List._∷_ 97 (List._∷_ 100 (List._∷_ 101 (List._∷_ 114 (List._∷_ 58 (List._∷_ 58 (List._∷_ 112 (List._∷_ 97 (List._∷_ 114 (List._∷_ 115 (List._∷_ 101 (List._∷_ 58
+              (List._∷_ 58 (List._∷_ 77 (List._∷_ 97 (List._∷_ 105 (List._∷_ 110 (List._∷_ 72 (List._∷_ 101 (List._∷_ 97 (List._∷_ 100 (List._∷_ 101 (List._∷_ 114 (List._∷_ 73
+              (List._∷_ 110 (List._∷_ 102 (List._∷_ 111 List.[]))))))))))))))))))))))))))))) (Syntax.tcons (Syntax.tyStruct (List._∷_ 116 (List._∷_ 121 (List._∷_ 112 (List._∷_ 101
+              (List._∷_ 115 (List._∷_ 58 (List._∷_ 58 (List._∷_ 67 (List._∷_ 111 (List._∷_ 100 (List._∷_ 101 (List._∷_ 115 (List._∷_ 116 (List._∷_ 114 (List._∷_ 101 (List._∷_ 97
+              (List._∷_ 109 (List._∷_ 79 (List._∷_ 102 (List._∷_ 102 (List._∷_ 115 (List._∷_ 101 (List._∷_ 116 List.[]))))))))))))))))))))))) (Syntax.tcons (Syntax.tyInt Syntax.w64)
+              Syntax.tnil)) (Syntax.tcons (Syntax.tyInt Syntax.w64) (Syntax.tcons (Syntax.tyInt Syntax.w64) (Syntax.tcons (Syntax.tyInt Syntax.w64) Syntax.tnil))))) Syntax.tnil)
+              (Syntax.ttcons (Syntax.tcons (Syntax.tyStruct (List._∷_ 116 (List._∷_ 121 (List._∷_ 112 (List._∷_ 101 (List._∷_ 115 (List._∷_ 58 (List._∷_ 58 (List._∷_ 82 (List._∷_ 101
+              (List._∷_ 102 (List._∷_ 117 (List._∷_ 115 (List._∷_ 97 (List._∷_ 108 List.[])))))))))))))) (Syntax.tcons (Syntax.tyInt Syntax.w32) (Syntax.tcons (Syntax.tyInt
+              Syntax.w64) Syntax.tnil))) Syntax.tnil) Syntax.ttnil))),
+        ) (List._∷_ (
+          1,
+          Rows.sslice (Referent.rtF (Referent.fInt Syntax.w8)) (Syntax.tyRef (Syntax.named 0) Syntax.imm
+              (Syntax.tyInt Syntax.w8)) 0,
+        ) (List._∷_ (
+          2,
+          Rows.any-gone (Syntax.tyStruct (List._∷_ 104 (List._∷_ 101 (List._∷_ 97 (List._∷_ 100 (List._∷_ 101 (List._∷_ 114 (List._∷_
+              58 (List._∷_ 58 (List._∷_ 114 (List._∷_ 101 (List._∷_ 97 (List._∷_ 100 (List._∷_ 105 (List._∷_ 110 (List._∷_ 103 (List._∷_ 58 (List._∷_ 58 (List._∷_ 82 (List._∷_ 101
+              (List._∷_ 97 (List._∷_ 100 (List._∷_ 105 (List._∷_ 110 (List._∷_ 103 List.[])))))))))))))))))))))))) (Syntax.tcons (Syntax.tyEnum (List._∷_ 104 (List._∷_ 101 (List._∷_
+              97 (List._∷_ 100 (List._∷_ 101 (List._∷_ 114 (List._∷_ 58 (List._∷_ 58 (List._∷_ 110 (List._∷_ 117 (List._∷_ 109 (List._∷_ 98 (List._∷_ 101 (List._∷_ 114 (List._∷_ 105
+              (List._∷_ 110 (List._∷_ 103 (List._∷_ 58 (List._∷_ 58 (List._∷_ 78 (List._∷_ 117 (List._∷_ 109 (List._∷_ 98 (List._∷_ 101 (List._∷_ 114 (List._∷_ 105 (List._∷_ 110
+              (List._∷_ 103 List.[])))))))))))))))))))))))))))) (Syntax.ttcons Syntax.tnil (Syntax.ttcons Syntax.tnil Syntax.ttnil))) (Syntax.tcons (Syntax.tyEnum (List._∷_ 104
+              (List._∷_ 101 (List._∷_ 97 (List._∷_ 100 (List._∷_ 101 (List._∷_ 114 (List._∷_ 58 (List._∷_ 58 (List._∷_ 101 (List._∷_ 100 (List._∷_ 105 (List._∷_ 116 (List._∷_ 105
+              (List._∷_ 111 (List._∷_ 110 (List._∷_ 58 (List._∷_ 58 (List._∷_ 69 (List._∷_ 100 (List._∷_ 105 (List._∷_ 116 (List._∷_ 105 (List._∷_ 111 (List._∷_ 110
+              List.[])))))))))))))))))))))))) (Syntax.ttcons Syntax.tnil (Syntax.ttcons Syntax.tnil Syntax.ttnil))) Syntax.tnil))),
+        ) (List._∷_ (
+          3,
+          Relend.mslice-owed
+              LentTilePartEntry.row (Syntax.tyRef (Syntax.named 1) Syntax.mut LentTilePartEntry.pointee) 1 4 (Row.lease (κs .1 .0) (qs .1 .0)),
+        ) (List._∷_ (
+          4,
+          Mut.mslice (Referent.rtF
+              (Referent.fInt Syntax.w8)) (Syntax.tyRef (Syntax.named 2) Syntax.mut (Syntax.tyInt Syntax.w8)) 2,
         ) (List._∷_ (5, Rows.whole (Declared.row MainHeader.the-type)) (List._∷_ (
           6,
-          Rows.any-gone (Syntax.tyStruct
-              (List._∷_ 104 (List._∷_ 101 (List._∷_ 97 (List._∷_ 100 (List._∷_ 101 (List._∷_ 114 (List._∷_ 58 (List._∷_ 58 (List._∷_ 112 (List._∷_ 97 (List._∷_ 114 (List._∷_ 115
-              (List._∷_ 101 (List._∷_ 58 (List._∷_ 58 (List._∷_ 77 (List._∷_ 97 (List._∷_ 105 (List._∷_ 110 (List._∷_ 72 (List._∷_ 101 (List._∷_ 97 (List._∷_ 100 (List._∷_ 101
-              (List._∷_ 114 (List._∷_ 73 (List._∷_ 110 (List._∷_ 102 (List._∷_ 111 List.[]))))))))))))))))))))))))))))) (Syntax.tcons (Syntax.tyStruct (List._∷_ 116 (List._∷_ 121
-              (List._∷_ 112 (List._∷_ 101 (List._∷_ 115 (List._∷_ 58 (List._∷_ 58 (List._∷_ 67 (List._∷_ 111 (List._∷_ 100 (List._∷_ 101 (List._∷_ 115 (List._∷_ 116 (List._∷_ 114
-              (List._∷_ 101 (List._∷_ 97 (List._∷_ 109 (List._∷_ 79 (List._∷_ 102 (List._∷_ 102 (List._∷_ 115 (List._∷_ 101 (List._∷_ 116 List.[]))))))))))))))))))))))) (Syntax.tcons
-              (Syntax.tyInt Syntax.w64) Syntax.tnil)) (Syntax.tcons (Syntax.tyInt Syntax.w64) (Syntax.tcons (Syntax.tyInt Syntax.w64) (Syntax.tcons (Syntax.tyInt Syntax.w64)
-              Syntax.tnil))))),
-        ) (List._∷_ (
-          7,
-          Rows.any-gone (Syntax.tyStruct (List._∷_ 116 (List._∷_ 121 (List._∷_ 112 (List._∷_ 101 (List._∷_ 115 (List._∷_ 58 (List._∷_ 58 (List._∷_
-              67 (List._∷_ 111 (List._∷_ 100 (List._∷_ 101 (List._∷_ 115 (List._∷_ 116 (List._∷_ 114 (List._∷_ 101 (List._∷_ 97 (List._∷_ 109 (List._∷_ 79 (List._∷_ 102 (List._∷_ 102
-              (List._∷_ 115 (List._∷_ 101 (List._∷_ 116 List.[]))))))))))))))))))))))) (Syntax.tcons (Syntax.tyInt Syntax.w64) Syntax.tnil)),
-        ) (List._∷_ (
+          Rows.any-gone (Syntax.tyStruct (List._∷_ 104 (List._∷_ 101 (List._∷_ 97 (List._∷_ 100 (List._∷_ 101 (List._∷_ 114 (List._∷_ 58 (List._∷_ 58 (List._∷_ 112 (List._∷_
+              97 (List._∷_ 114 (List._∷_ 115 (List._∷_ 101 (List._∷_ 58 (List._∷_ 58 (List._∷_ 77 (List._∷_ 97 (List._∷_ 105 (List._∷_ 110 (List._∷_ 72 (List._∷_ 101 (List._∷_ 97
+              (List._∷_ 100 (List._∷_ 101 (List._∷_ 114 (List._∷_ 73 (List._∷_ 110 (List._∷_ 102 (List._∷_ 111 List.[]))))))))))))))))))))))))))))) (Syntax.tcons (Syntax.tyStruct
+              (List._∷_ 116 (List._∷_ 121 (List._∷_ 112 (List._∷_ 101 (List._∷_ 115 (List._∷_ 58 (List._∷_ 58 (List._∷_ 67 (List._∷_ 111 (List._∷_ 100 (List._∷_ 101 (List._∷_ 115
+              (List._∷_ 116 (List._∷_ 114 (List._∷_ 101 (List._∷_ 97 (List._∷_ 109 (List._∷_ 79 (List._∷_ 102 (List._∷_ 102 (List._∷_ 115 (List._∷_ 101 (List._∷_ 116
+              List.[]))))))))))))))))))))))) (Syntax.tcons (Syntax.tyInt Syntax.w64) Syntax.tnil)) (Syntax.tcons (Syntax.tyInt Syntax.w64) (Syntax.tcons (Syntax.tyInt Syntax.w64)
+              (Syntax.tcons (Syntax.tyInt Syntax.w64) Syntax.tnil))))),
+        ) (List._∷_ (7, Rows.whole (Declared'.row CodestreamOffset.the-type)) (List._∷_ (
           8,
-          Rows.any-gone
-              (Syntax.tyInt Syntax.w64),
+          Rows.whole (Declared.row
+              Numbering.the-type),
         ) (List._∷_ (9, Rows.any-gone (Syntax.tyInt Syntax.w64)) (List._∷_ (10, Rows.any-gone (Syntax.tyInt Syntax.w64)) (List._∷_ (
           11,
           Rows.any-gone
               (Syntax.tyInt Syntax.w64),
-        ) (List._∷_ (12, Rows.any-gone Syntax.tyBool) (List._∷_ (13, Rows.any-gone (Syntax.tyInt Syntax.w64)) (List._∷_ (
+        ) (List._∷_ (12, Rows.any-gone (Syntax.tyInt Syntax.w64)) (List._∷_ (13, Rows.any-gone Syntax.tyBool) (List._∷_ (
           14,
           Rows.any-gone
               (Syntax.tyInt Syntax.w64),
-        ) (List._∷_ (15, Rows.any-gone (Syntax.tyRef Syntax.erased Syntax.mut (Syntax.tyInt Syntax.w8))) List.[])))))))))))))))
+        ) (List._∷_ (15, Rows.any-gone (Syntax.tyInt Syntax.w64)) List.[])))))))))))))))
 
-        abbrev g31 : List.List Row.Entry
-        g31 = List._∷_ (
-          0,
-          Rows.any-gone (Syntax.tyEnum (List._∷_ 104 (List._∷_ 101 (List._∷_ 97 (List._∷_ 100 (List._∷_ 101 (List._∷_ 114 (List._∷_ 58 (List._∷_ 58 (List._∷_ 112
-              (List._∷_ 97 (List._∷_ 114 (List._∷_ 115 (List._∷_ 101 (List._∷_ 58 (List._∷_ 58 (List._∷_ 77 (List._∷_ 97 (List._∷_ 105 (List._∷_ 110 (List._∷_ 72 (List._∷_ 101
-              (List._∷_ 97 (List._∷_ 100 (List._∷_ 101 (List._∷_ 114 List.[]))))))))))))))))))))))))) (Syntax.ttcons (Syntax.tcons (Syntax.tyStruct (List._∷_ 104 (List._∷_ 101
-              (List._∷_ 97 (List._∷_ 100 (List._∷_ 101 (List._∷_ 114 (List._∷_ 58 (List._∷_ 58 (List._∷_ 112 (List._∷_ 97 (List._∷_ 114 (List._∷_ 115 (List._∷_ 101 (List._∷_ 58
-              (List._∷_ 58 (List._∷_ 77 (List._∷_ 97 (List._∷_ 105 (List._∷_ 110 (List._∷_ 72 (List._∷_ 101 (List._∷_ 97 (List._∷_ 100 (List._∷_ 101 (List._∷_ 114 (List._∷_ 73
-              (List._∷_ 110 (List._∷_ 102 (List._∷_ 111 List.[]))))))))))))))))))))))))))))) (Syntax.tcons (Syntax.tyStruct (List._∷_ 116 (List._∷_ 121 (List._∷_ 112 (List._∷_ 101
-              (List._∷_ 115 (List._∷_ 58 (List._∷_ 58 (List._∷_ 67 (List._∷_ 111 (List._∷_ 100 (List._∷_ 101 (List._∷_ 115 (List._∷_ 116 (List._∷_ 114 (List._∷_ 101 (List._∷_ 97
-              (List._∷_ 109 (List._∷_ 79 (List._∷_ 102 (List._∷_ 102 (List._∷_ 115 (List._∷_ 101 (List._∷_ 116 List.[]))))))))))))))))))))))) (Syntax.tcons (Syntax.tyInt Syntax.w64)
-              Syntax.tnil)) (Syntax.tcons (Syntax.tyInt Syntax.w64) (Syntax.tcons (Syntax.tyInt Syntax.w64) (Syntax.tcons (Syntax.tyInt Syntax.w64) Syntax.tnil))))) Syntax.tnil)
-              (Syntax.ttcons (Syntax.tcons (Syntax.tyStruct (List._∷_ 116 (List._∷_ 121 (List._∷_ 112 (List._∷_ 101 (List._∷_ 115 (List._∷_ 58 (List._∷_ 58 (List._∷_ 82 (List._∷_ 101
-              (List._∷_ 102 (List._∷_ 117 (List._∷_ 115 (List._∷_ 97 (List._∷_ 108 List.[])))))))))))))) (Syntax.tcons (Syntax.tyInt Syntax.w32) (Syntax.tcons (Syntax.tyInt
-              Syntax.w64) Syntax.tnil))) Syntax.tnil) Syntax.ttnil))),
-        ) (List._∷_ (
-          1,
-          Rows.sslice (Referent.rtF (Referent.fInt Syntax.w8)) (Syntax.tyRef (Syntax.named 0) Syntax.imm
-              (Syntax.tyInt Syntax.w8)) 0,
-        ) (List._∷_ (2, Rows.whole (Declared.row Numbering.the-type)) (List._∷_ (
-          3,
-          Relend.mslice-owed LentTilePartEntry.row (Syntax.tyRef
-              (Syntax.named 1) Syntax.mut LentTilePartEntry.pointee) 1 4 (Row.lease (κs .1 .0) (qs .1 .0)),
-        ) (List._∷_ (
-          4,
-          Mut.mslice (Referent.rtF (Referent.fInt Syntax.w8))
-              (Syntax.tyRef (Syntax.named 2) Syntax.mut (Syntax.tyInt Syntax.w8)) 2,
-        ) (List._∷_ (5, Rows.whole (Declared.row MainHeader.the-type)) (List._∷_ (
-          6,
-          Rows.any-gone
-              (Syntax.tyStruct (List._∷_ 104 (List._∷_ 101 (List._∷_ 97 (List._∷_ 100 (List._∷_ 101 (List._∷_ 114 (List._∷_ 58 (List._∷_ 58 (List._∷_ 112 (List._∷_ 97 (List._∷_ 114
-              (List._∷_ 115 (List._∷_ 101 (List._∷_ 58 (List._∷_ 58 (List._∷_ 77 (List._∷_ 97 (List._∷_ 105 (List._∷_ 110 (List._∷_ 72 (List._∷_ 101 (List._∷_ 97 (List._∷_ 100
-              (List._∷_ 101 (List._∷_ 114 (List._∷_ 73 (List._∷_ 110 (List._∷_ 102 (List._∷_ 111 List.[]))))))))))))))))))))))))))))) (Syntax.tcons (Syntax.tyStruct (List._∷_ 116
-              (List._∷_ 121 (List._∷_ 112 (List._∷_ 101 (List._∷_ 115 (List._∷_ 58 (List._∷_ 58 (List._∷_ 67 (List._∷_ 111 (List._∷_ 100 (List._∷_ 101 (List._∷_ 115 (List._∷_ 116
-              (List._∷_ 114 (List._∷_ 101 (List._∷_ 97 (List._∷_ 109 (List._∷_ 79 (List._∷_ 102 (List._∷_ 102 (List._∷_ 115 (List._∷_ 101 (List._∷_ 116 List.[])))))))))))))))))))))))
-              (Syntax.tcons (Syntax.tyInt Syntax.w64) Syntax.tnil)) (Syntax.tcons (Syntax.tyInt Syntax.w64) (Syntax.tcons (Syntax.tyInt Syntax.w64) (Syntax.tcons (Syntax.tyInt
-              Syntax.w64) Syntax.tnil))))),
-        ) (List._∷_ (7, Rows.whole (Declared'.row CodestreamOffset.the-type)) (List._∷_ (8, Rows.any-gone (Syntax.tyInt Syntax.w64)) (List._∷_ (
-          9,
-          Rows.any-gone (Syntax.tyInt Syntax.w64),
-        ) (List._∷_ (10, Rows.any-gone (Syntax.tyInt Syntax.w64)) (List._∷_ (11, Rows.any-gone (Syntax.tyInt Syntax.w64)) (List._∷_ (
-          12,
-          Rows.any-gone Syntax.tyBool,
-        ) (List._∷_ (13, Rows.any-gone (Syntax.tyInt Syntax.w64)) (List._∷_ (14, Rows.any-gone (Syntax.tyInt Syntax.w64)) (List._∷_ (
-          15,
-          Rows.any-gone (Syntax.tyRef Syntax.erased Syntax.mut (Syntax.tyInt Syntax.w8)),
-        ) List.[])))))))))))))))
-
-        abbrev g35 : List.List Row.Entry
-        g35 = List._∷_ (
+        abbrev g37 : List.List Row.Entry
+        g37 = List._∷_ (
           0,
           Rows.any-gone (Syntax.tyEnum (List._∷_ 104 (List._∷_ 101 (List._∷_ 97 (List._∷_ 100 (List._∷_ 101 (List._∷_ 114 (List._∷_ 58 (List._∷_ 58 (List._∷_ 112
               (List._∷_ 97 (List._∷_ 114 (List._∷_ 115 (List._∷_ 101 (List._∷_ 58 (List._∷_ 58 (List._∷_ 77 (List._∷_ 97 (List._∷_ 105 (List._∷_ 110 (List._∷_ 72 (List._∷_ 101
@@ -3431,91 +3658,44 @@ module _ (claims· : Claims) where
               (Syntax.tyInt Syntax.w8)) 0,
         ) (List._∷_ (
           2,
-          Rows.any-gone (Syntax.tyEnum (List._∷_ 104 (List._∷_ 101 (List._∷_ 97 (List._∷_ 100 (List._∷_ 101 (List._∷_ 114 (List._∷_ 58
-              (List._∷_ 58 (List._∷_ 110 (List._∷_ 117 (List._∷_ 109 (List._∷_ 98 (List._∷_ 101 (List._∷_ 114 (List._∷_ 105 (List._∷_ 110 (List._∷_ 103 (List._∷_ 58 (List._∷_ 58
-              (List._∷_ 78 (List._∷_ 117 (List._∷_ 109 (List._∷_ 98 (List._∷_ 101 (List._∷_ 114 (List._∷_ 105 (List._∷_ 110 (List._∷_ 103 List.[]))))))))))))))))))))))))))))
-              (Syntax.ttcons Syntax.tnil (Syntax.ttcons Syntax.tnil Syntax.ttnil))),
+          Rows.any-gone (Syntax.tyStruct (List._∷_ 104 (List._∷_ 101 (List._∷_ 97 (List._∷_ 100 (List._∷_ 101 (List._∷_ 114 (List._∷_
+              58 (List._∷_ 58 (List._∷_ 114 (List._∷_ 101 (List._∷_ 97 (List._∷_ 100 (List._∷_ 105 (List._∷_ 110 (List._∷_ 103 (List._∷_ 58 (List._∷_ 58 (List._∷_ 82 (List._∷_ 101
+              (List._∷_ 97 (List._∷_ 100 (List._∷_ 105 (List._∷_ 110 (List._∷_ 103 List.[])))))))))))))))))))))))) (Syntax.tcons (Syntax.tyEnum (List._∷_ 104 (List._∷_ 101 (List._∷_
+              97 (List._∷_ 100 (List._∷_ 101 (List._∷_ 114 (List._∷_ 58 (List._∷_ 58 (List._∷_ 110 (List._∷_ 117 (List._∷_ 109 (List._∷_ 98 (List._∷_ 101 (List._∷_ 114 (List._∷_ 105
+              (List._∷_ 110 (List._∷_ 103 (List._∷_ 58 (List._∷_ 58 (List._∷_ 78 (List._∷_ 117 (List._∷_ 109 (List._∷_ 98 (List._∷_ 101 (List._∷_ 114 (List._∷_ 105 (List._∷_ 110
+              (List._∷_ 103 List.[])))))))))))))))))))))))))))) (Syntax.ttcons Syntax.tnil (Syntax.ttcons Syntax.tnil Syntax.ttnil))) (Syntax.tcons (Syntax.tyEnum (List._∷_ 104
+              (List._∷_ 101 (List._∷_ 97 (List._∷_ 100 (List._∷_ 101 (List._∷_ 114 (List._∷_ 58 (List._∷_ 58 (List._∷_ 101 (List._∷_ 100 (List._∷_ 105 (List._∷_ 116 (List._∷_ 105
+              (List._∷_ 111 (List._∷_ 110 (List._∷_ 58 (List._∷_ 58 (List._∷_ 69 (List._∷_ 100 (List._∷_ 105 (List._∷_ 116 (List._∷_ 105 (List._∷_ 111 (List._∷_ 110
+              List.[])))))))))))))))))))))))) (Syntax.ttcons Syntax.tnil (Syntax.ttcons Syntax.tnil Syntax.ttnil))) Syntax.tnil))),
         ) (List._∷_ (
           3,
-          Relend.mslice-owed LentTilePartEntry.row (Syntax.tyRef (Syntax.named 1) Syntax.mut
-              LentTilePartEntry.pointee) 1 4 (Row.lease (κs .1 .0) (qs .1 .0)),
+          Relend.mslice-owed
+              LentTilePartEntry.row (Syntax.tyRef (Syntax.named 1) Syntax.mut LentTilePartEntry.pointee) 1 4 (Row.lease (κs .1 .0) (qs .1 .0)),
         ) (List._∷_ (
           4,
-          Mut.mslice (Referent.rtF (Referent.fInt Syntax.w8)) (Syntax.tyRef (Syntax.named 2)
-              Syntax.mut (Syntax.tyInt Syntax.w8)) 2,
+          Mut.mslice (Referent.rtF
+              (Referent.fInt Syntax.w8)) (Syntax.tyRef (Syntax.named 2) Syntax.mut (Syntax.tyInt Syntax.w8)) 2,
         ) (List._∷_ (5, Rows.whole (Declared.row MainHeader.the-type)) (List._∷_ (
           6,
-          Rows.any-gone (Syntax.tyStruct (List._∷_ 104
-              (List._∷_ 101 (List._∷_ 97 (List._∷_ 100 (List._∷_ 101 (List._∷_ 114 (List._∷_ 58 (List._∷_ 58 (List._∷_ 112 (List._∷_ 97 (List._∷_ 114 (List._∷_ 115 (List._∷_ 101
-              (List._∷_ 58 (List._∷_ 58 (List._∷_ 77 (List._∷_ 97 (List._∷_ 105 (List._∷_ 110 (List._∷_ 72 (List._∷_ 101 (List._∷_ 97 (List._∷_ 100 (List._∷_ 101 (List._∷_ 114
-              (List._∷_ 73 (List._∷_ 110 (List._∷_ 102 (List._∷_ 111 List.[]))))))))))))))))))))))))))))) (Syntax.tcons (Syntax.tyStruct (List._∷_ 116 (List._∷_ 121 (List._∷_ 112
-              (List._∷_ 101 (List._∷_ 115 (List._∷_ 58 (List._∷_ 58 (List._∷_ 67 (List._∷_ 111 (List._∷_ 100 (List._∷_ 101 (List._∷_ 115 (List._∷_ 116 (List._∷_ 114 (List._∷_ 101
-              (List._∷_ 97 (List._∷_ 109 (List._∷_ 79 (List._∷_ 102 (List._∷_ 102 (List._∷_ 115 (List._∷_ 101 (List._∷_ 116 List.[]))))))))))))))))))))))) (Syntax.tcons (Syntax.tyInt
-              Syntax.w64) Syntax.tnil)) (Syntax.tcons (Syntax.tyInt Syntax.w64) (Syntax.tcons (Syntax.tyInt Syntax.w64) (Syntax.tcons (Syntax.tyInt Syntax.w64) Syntax.tnil))))),
+          Rows.any-gone (Syntax.tyStruct (List._∷_ 104 (List._∷_ 101 (List._∷_ 97 (List._∷_ 100 (List._∷_ 101 (List._∷_ 114 (List._∷_ 58 (List._∷_ 58 (List._∷_ 112 (List._∷_
+              97 (List._∷_ 114 (List._∷_ 115 (List._∷_ 101 (List._∷_ 58 (List._∷_ 58 (List._∷_ 77 (List._∷_ 97 (List._∷_ 105 (List._∷_ 110 (List._∷_ 72 (List._∷_ 101 (List._∷_ 97
+              (List._∷_ 100 (List._∷_ 101 (List._∷_ 114 (List._∷_ 73 (List._∷_ 110 (List._∷_ 102 (List._∷_ 111 List.[]))))))))))))))))))))))))))))) (Syntax.tcons (Syntax.tyStruct
+              (List._∷_ 116 (List._∷_ 121 (List._∷_ 112 (List._∷_ 101 (List._∷_ 115 (List._∷_ 58 (List._∷_ 58 (List._∷_ 67 (List._∷_ 111 (List._∷_ 100 (List._∷_ 101 (List._∷_ 115
+              (List._∷_ 116 (List._∷_ 114 (List._∷_ 101 (List._∷_ 97 (List._∷_ 109 (List._∷_ 79 (List._∷_ 102 (List._∷_ 102 (List._∷_ 115 (List._∷_ 101 (List._∷_ 116
+              List.[]))))))))))))))))))))))) (Syntax.tcons (Syntax.tyInt Syntax.w64) Syntax.tnil)) (Syntax.tcons (Syntax.tyInt Syntax.w64) (Syntax.tcons (Syntax.tyInt Syntax.w64)
+              (Syntax.tcons (Syntax.tyInt Syntax.w64) Syntax.tnil))))),
+        ) (List._∷_ (
+          7,
+          Rows.any-gone (Syntax.tyStruct (List._∷_ 116 (List._∷_ 121 (List._∷_ 112 (List._∷_ 101 (List._∷_
+              115 (List._∷_ 58 (List._∷_ 58 (List._∷_ 67 (List._∷_ 111 (List._∷_ 100 (List._∷_ 101 (List._∷_ 115 (List._∷_ 116 (List._∷_ 114 (List._∷_ 101 (List._∷_ 97 (List._∷_ 109
+              (List._∷_ 79 (List._∷_ 102 (List._∷_ 102 (List._∷_ 115 (List._∷_ 101 (List._∷_ 116 List.[]))))))))))))))))))))))) (Syntax.tcons (Syntax.tyInt Syntax.w64) Syntax.tnil)),
         )
-            (List._∷_ (7, Rows.whole (Declared'.row CodestreamOffset.the-type)) (List._∷_ (8, Rows.any-gone (Syntax.tyInt Syntax.w64)) (List._∷_ (
-              9,
+            (List._∷_ (8, Rows.whole (Declared.row Numbering.the-type)) (List._∷_ (9, Rows.any-gone (Syntax.tyInt Syntax.w64)) (List._∷_ (
+              10,
               Rows.any-gone (Syntax.tyInt
                   Syntax.w64),
-            ) (List._∷_ (10, Rows.any-gone (Syntax.tyInt Syntax.w64)) (List._∷_ (11, Rows.any-gone (Syntax.tyInt Syntax.w64)) (List._∷_ (12, Rows.any-gone Syntax.tyBool)
-            (List._∷_ (13, Rows.any-gone (Syntax.tyInt Syntax.w64)) (List._∷_ (14, Rows.any-gone (Syntax.tyInt Syntax.w64)) (List._∷_ (
-              15,
-              Rows.any-gone (Syntax.tyRef Syntax.erased
-                  Syntax.mut (Syntax.tyInt Syntax.w8)),
-            ) List.[])))))))))))))))
-
-        abbrev g36 : List.List Row.Entry
-        g36 = List._∷_ (
-          0,
-          Rows.any-gone (Syntax.tyEnum (List._∷_ 104 (List._∷_ 101 (List._∷_ 97 (List._∷_ 100 (List._∷_ 101 (List._∷_ 114 (List._∷_ 58 (List._∷_ 58 (List._∷_ 112
-              (List._∷_ 97 (List._∷_ 114 (List._∷_ 115 (List._∷_ 101 (List._∷_ 58 (List._∷_ 58 (List._∷_ 77 (List._∷_ 97 (List._∷_ 105 (List._∷_ 110 (List._∷_ 72 (List._∷_ 101
-              (List._∷_ 97 (List._∷_ 100 (List._∷_ 101 (List._∷_ 114 List.[]))))))))))))))))))))))))) (Syntax.ttcons (Syntax.tcons (Syntax.tyStruct (List._∷_ 104 (List._∷_ 101
-              (List._∷_ 97 (List._∷_ 100 (List._∷_ 101 (List._∷_ 114 (List._∷_ 58 (List._∷_ 58 (List._∷_ 112 (List._∷_ 97 (List._∷_ 114 (List._∷_ 115 (List._∷_ 101 (List._∷_ 58
-              (List._∷_ 58 (List._∷_ 77 (List._∷_ 97 (List._∷_ 105 (List._∷_ 110 (List._∷_ 72 (List._∷_ 101 (List._∷_ 97 (List._∷_ 100 (List._∷_ 101 (List._∷_ 114 (List._∷_ 73
-              (List._∷_ 110 (List._∷_ 102 (List._∷_ 111 List.[]))))))))))))))))))))))))))))) (Syntax.tcons (Syntax.tyStruct (List._∷_ 116 (List._∷_ 121 (List._∷_ 112 (List._∷_ 101
-              (List._∷_ 115 (List._∷_ 58 (List._∷_ 58 (List._∷_ 67 (List._∷_ 111 (List._∷_ 100 (List._∷_ 101 (List._∷_ 115 (List._∷_ 116 (List._∷_ 114 (List._∷_ 101 (List._∷_ 97
-              (List._∷_ 109 (List._∷_ 79 (List._∷_ 102 (List._∷_ 102 (List._∷_ 115 (List._∷_ 101 (List._∷_ 116 List.[]))))))))))))))))))))))) (Syntax.tcons (Syntax.tyInt Syntax.w64)
-              Syntax.tnil)) (Syntax.tcons (Syntax.tyInt Syntax.w64) (Syntax.tcons (Syntax.tyInt Syntax.w64) (Syntax.tcons (Syntax.tyInt Syntax.w64) Syntax.tnil))))) Syntax.tnil)
-              (Syntax.ttcons (Syntax.tcons (Syntax.tyStruct (List._∷_ 116 (List._∷_ 121 (List._∷_ 112 (List._∷_ 101 (List._∷_ 115 (List._∷_ 58 (List._∷_ 58 (List._∷_ 82 (List._∷_ 101
-              (List._∷_ 102 (List._∷_ 117 (List._∷_ 115 (List._∷_ 97 (List._∷_ 108 List.[])))))))))))))) (Syntax.tcons (Syntax.tyInt Syntax.w32) (Syntax.tcons (Syntax.tyInt
-              Syntax.w64) Syntax.tnil))) Syntax.tnil) Syntax.ttnil))),
-        ) (List._∷_ (
-          1,
-          Rows.sslice (Referent.rtF (Referent.fInt Syntax.w8)) (Syntax.tyRef (Syntax.named 0) Syntax.imm
-              (Syntax.tyInt Syntax.w8)) 0,
-        ) (List._∷_ (
-          2,
-          Rows.any-gone (Syntax.tyEnum (List._∷_ 104 (List._∷_ 101 (List._∷_ 97 (List._∷_ 100 (List._∷_ 101 (List._∷_ 114 (List._∷_ 58
-              (List._∷_ 58 (List._∷_ 110 (List._∷_ 117 (List._∷_ 109 (List._∷_ 98 (List._∷_ 101 (List._∷_ 114 (List._∷_ 105 (List._∷_ 110 (List._∷_ 103 (List._∷_ 58 (List._∷_ 58
-              (List._∷_ 78 (List._∷_ 117 (List._∷_ 109 (List._∷_ 98 (List._∷_ 101 (List._∷_ 114 (List._∷_ 105 (List._∷_ 110 (List._∷_ 103 List.[]))))))))))))))))))))))))))))
-              (Syntax.ttcons Syntax.tnil (Syntax.ttcons Syntax.tnil Syntax.ttnil))),
-        ) (List._∷_ (
-          3,
-          Relend.mslice-owed LentTilePartEntry.row (Syntax.tyRef (Syntax.named 1) Syntax.mut
-              LentTilePartEntry.pointee) 1 4 (Row.lease (κs .1 .0) (qs .1 .0)),
-        ) (List._∷_ (
-          4,
-          Mut.mslice (Referent.rtF (Referent.fInt Syntax.w8)) (Syntax.tyRef (Syntax.named 2)
-              Syntax.mut (Syntax.tyInt Syntax.w8)) 2,
-        ) (List._∷_ (5, Rows.whole (Declared.row MainHeader.the-type)) (List._∷_ (
-          6,
-          Rows.any-gone (Syntax.tyStruct (List._∷_ 104
-              (List._∷_ 101 (List._∷_ 97 (List._∷_ 100 (List._∷_ 101 (List._∷_ 114 (List._∷_ 58 (List._∷_ 58 (List._∷_ 112 (List._∷_ 97 (List._∷_ 114 (List._∷_ 115 (List._∷_ 101
-              (List._∷_ 58 (List._∷_ 58 (List._∷_ 77 (List._∷_ 97 (List._∷_ 105 (List._∷_ 110 (List._∷_ 72 (List._∷_ 101 (List._∷_ 97 (List._∷_ 100 (List._∷_ 101 (List._∷_ 114
-              (List._∷_ 73 (List._∷_ 110 (List._∷_ 102 (List._∷_ 111 List.[]))))))))))))))))))))))))))))) (Syntax.tcons (Syntax.tyStruct (List._∷_ 116 (List._∷_ 121 (List._∷_ 112
-              (List._∷_ 101 (List._∷_ 115 (List._∷_ 58 (List._∷_ 58 (List._∷_ 67 (List._∷_ 111 (List._∷_ 100 (List._∷_ 101 (List._∷_ 115 (List._∷_ 116 (List._∷_ 114 (List._∷_ 101
-              (List._∷_ 97 (List._∷_ 109 (List._∷_ 79 (List._∷_ 102 (List._∷_ 102 (List._∷_ 115 (List._∷_ 101 (List._∷_ 116 List.[]))))))))))))))))))))))) (Syntax.tcons (Syntax.tyInt
-              Syntax.w64) Syntax.tnil)) (Syntax.tcons (Syntax.tyInt Syntax.w64) (Syntax.tcons (Syntax.tyInt Syntax.w64) (Syntax.tcons (Syntax.tyInt Syntax.w64) Syntax.tnil))))),
-        )
-            (List._∷_ (
-              7,
-              Rows.any-gone (Syntax.tyStruct (List._∷_ 116 (List._∷_ 121 (List._∷_ 112 (List._∷_ 101 (List._∷_ 115 (List._∷_ 58 (List._∷_ 58 (List._∷_ 67 (List._∷_ 111
-                  (List._∷_ 100 (List._∷_ 101 (List._∷_ 115 (List._∷_ 116 (List._∷_ 114 (List._∷_ 101 (List._∷_ 97 (List._∷_ 109 (List._∷_ 79 (List._∷_ 102 (List._∷_ 102 (List._∷_ 115
-                  (List._∷_ 101 (List._∷_ 116 List.[]))))))))))))))))))))))) (Syntax.tcons (Syntax.tyInt Syntax.w64) Syntax.tnil)),
-            ) (List._∷_ (8, Rows.any-gone (Syntax.tyInt Syntax.w64))
-            (List._∷_ (9, Rows.any-gone (Syntax.tyInt Syntax.w64)) (List._∷_ (10, Rows.any-gone (Syntax.tyInt Syntax.w64)) (List._∷_ (11, Rows.any-gone (Syntax.tyInt Syntax.w64))
-            (List._∷_ (12, Rows.any-gone Syntax.tyBool) (List._∷_ (13, Rows.any-gone (Syntax.tyInt Syntax.w64)) (List._∷_ (14, Rows.any-gone (Syntax.tyInt Syntax.w64)) (List._∷_
-            (15, Rows.any-gone (Syntax.tyRef Syntax.erased Syntax.mut (Syntax.tyInt Syntax.w8))) List.[])))))))))))))))
+            ) (List._∷_ (11, Rows.any-gone (Syntax.tyInt Syntax.w64)) (List._∷_ (12, Rows.any-gone (Syntax.tyInt Syntax.w64)) (List._∷_ (13, Rows.any-gone Syntax.tyBool)
+            (List._∷_ (14, Rows.any-gone (Syntax.tyInt Syntax.w64)) (List._∷_ (15, Rows.any-gone (Syntax.tyInt Syntax.w64)) List.[])))))))))))))))
 
         abbrev g38 : List.List Row.Entry
         g38 = List._∷_ (
@@ -3538,46 +3718,115 @@ module _ (claims· : Claims) where
               (Syntax.tyInt Syntax.w8)) 0,
         ) (List._∷_ (
           2,
-          Rows.any-gone (Syntax.tyEnum (List._∷_ 104 (List._∷_ 101 (List._∷_ 97 (List._∷_ 100 (List._∷_ 101 (List._∷_ 114 (List._∷_ 58
-              (List._∷_ 58 (List._∷_ 110 (List._∷_ 117 (List._∷_ 109 (List._∷_ 98 (List._∷_ 101 (List._∷_ 114 (List._∷_ 105 (List._∷_ 110 (List._∷_ 103 (List._∷_ 58 (List._∷_ 58
-              (List._∷_ 78 (List._∷_ 117 (List._∷_ 109 (List._∷_ 98 (List._∷_ 101 (List._∷_ 114 (List._∷_ 105 (List._∷_ 110 (List._∷_ 103 List.[]))))))))))))))))))))))))))))
-              (Syntax.ttcons Syntax.tnil (Syntax.ttcons Syntax.tnil Syntax.ttnil))),
+          Rows.any-gone (Syntax.tyStruct (List._∷_ 104 (List._∷_ 101 (List._∷_ 97 (List._∷_ 100 (List._∷_ 101 (List._∷_ 114 (List._∷_
+              58 (List._∷_ 58 (List._∷_ 114 (List._∷_ 101 (List._∷_ 97 (List._∷_ 100 (List._∷_ 105 (List._∷_ 110 (List._∷_ 103 (List._∷_ 58 (List._∷_ 58 (List._∷_ 82 (List._∷_ 101
+              (List._∷_ 97 (List._∷_ 100 (List._∷_ 105 (List._∷_ 110 (List._∷_ 103 List.[])))))))))))))))))))))))) (Syntax.tcons (Syntax.tyEnum (List._∷_ 104 (List._∷_ 101 (List._∷_
+              97 (List._∷_ 100 (List._∷_ 101 (List._∷_ 114 (List._∷_ 58 (List._∷_ 58 (List._∷_ 110 (List._∷_ 117 (List._∷_ 109 (List._∷_ 98 (List._∷_ 101 (List._∷_ 114 (List._∷_ 105
+              (List._∷_ 110 (List._∷_ 103 (List._∷_ 58 (List._∷_ 58 (List._∷_ 78 (List._∷_ 117 (List._∷_ 109 (List._∷_ 98 (List._∷_ 101 (List._∷_ 114 (List._∷_ 105 (List._∷_ 110
+              (List._∷_ 103 List.[])))))))))))))))))))))))))))) (Syntax.ttcons Syntax.tnil (Syntax.ttcons Syntax.tnil Syntax.ttnil))) (Syntax.tcons (Syntax.tyEnum (List._∷_ 104
+              (List._∷_ 101 (List._∷_ 97 (List._∷_ 100 (List._∷_ 101 (List._∷_ 114 (List._∷_ 58 (List._∷_ 58 (List._∷_ 101 (List._∷_ 100 (List._∷_ 105 (List._∷_ 116 (List._∷_ 105
+              (List._∷_ 111 (List._∷_ 110 (List._∷_ 58 (List._∷_ 58 (List._∷_ 69 (List._∷_ 100 (List._∷_ 105 (List._∷_ 116 (List._∷_ 105 (List._∷_ 111 (List._∷_ 110
+              List.[])))))))))))))))))))))))) (Syntax.ttcons Syntax.tnil (Syntax.ttcons Syntax.tnil Syntax.ttnil))) Syntax.tnil))),
         ) (List._∷_ (
           3,
-          Mut.mslice LentTilePartEntry.row (Syntax.tyRef (Syntax.named 1) Syntax.mut
-              LentTilePartEntry.pointee) 1,
+          Relend.mslice-owed
+              LentTilePartEntry.row (Syntax.tyRef (Syntax.named 1) Syntax.mut LentTilePartEntry.pointee) 1 4 (Row.lease (κs .1 .0) (qs .1 .0)),
         ) (List._∷_ (
           4,
-          Relend.mslice-owed (Referent.rtF (Referent.fInt Syntax.w8)) (Syntax.tyRef (Syntax.named 2) Syntax.mut (Syntax.tyInt
-              Syntax.w8)) 2 5 (Row.lease (κs .1 .1 .0) (qs .1 .1 .0)),
+          Mut.mslice (Referent.rtF
+              (Referent.fInt Syntax.w8)) (Syntax.tyRef (Syntax.named 2) Syntax.mut (Syntax.tyInt Syntax.w8)) 2,
         ) (List._∷_ (5, Rows.whole (Declared.row MainHeader.the-type)) (List._∷_ (
           6,
-          Rows.any-gone (Syntax.tyStruct
-              (List._∷_ 104 (List._∷_ 101 (List._∷_ 97 (List._∷_ 100 (List._∷_ 101 (List._∷_ 114 (List._∷_ 58 (List._∷_ 58 (List._∷_ 112 (List._∷_ 97 (List._∷_ 114 (List._∷_ 115
-              (List._∷_ 101 (List._∷_ 58 (List._∷_ 58 (List._∷_ 77 (List._∷_ 97 (List._∷_ 105 (List._∷_ 110 (List._∷_ 72 (List._∷_ 101 (List._∷_ 97 (List._∷_ 100 (List._∷_ 101
-              (List._∷_ 114 (List._∷_ 73 (List._∷_ 110 (List._∷_ 102 (List._∷_ 111 List.[]))))))))))))))))))))))))))))) (Syntax.tcons (Syntax.tyStruct (List._∷_ 116 (List._∷_ 121
-              (List._∷_ 112 (List._∷_ 101 (List._∷_ 115 (List._∷_ 58 (List._∷_ 58 (List._∷_ 67 (List._∷_ 111 (List._∷_ 100 (List._∷_ 101 (List._∷_ 115 (List._∷_ 116 (List._∷_ 114
-              (List._∷_ 101 (List._∷_ 97 (List._∷_ 109 (List._∷_ 79 (List._∷_ 102 (List._∷_ 102 (List._∷_ 115 (List._∷_ 101 (List._∷_ 116 List.[]))))))))))))))))))))))) (Syntax.tcons
-              (Syntax.tyInt Syntax.w64) Syntax.tnil)) (Syntax.tcons (Syntax.tyInt Syntax.w64) (Syntax.tcons (Syntax.tyInt Syntax.w64) (Syntax.tcons (Syntax.tyInt Syntax.w64)
-              Syntax.tnil))))),
+          Rows.any-gone (Syntax.tyStruct (List._∷_ 104 (List._∷_ 101 (List._∷_ 97 (List._∷_ 100 (List._∷_ 101 (List._∷_ 114 (List._∷_ 58 (List._∷_ 58 (List._∷_ 112 (List._∷_
+              97 (List._∷_ 114 (List._∷_ 115 (List._∷_ 101 (List._∷_ 58 (List._∷_ 58 (List._∷_ 77 (List._∷_ 97 (List._∷_ 105 (List._∷_ 110 (List._∷_ 72 (List._∷_ 101 (List._∷_ 97
+              (List._∷_ 100 (List._∷_ 101 (List._∷_ 114 (List._∷_ 73 (List._∷_ 110 (List._∷_ 102 (List._∷_ 111 List.[]))))))))))))))))))))))))))))) (Syntax.tcons (Syntax.tyStruct
+              (List._∷_ 116 (List._∷_ 121 (List._∷_ 112 (List._∷_ 101 (List._∷_ 115 (List._∷_ 58 (List._∷_ 58 (List._∷_ 67 (List._∷_ 111 (List._∷_ 100 (List._∷_ 101 (List._∷_ 115
+              (List._∷_ 116 (List._∷_ 114 (List._∷_ 101 (List._∷_ 97 (List._∷_ 109 (List._∷_ 79 (List._∷_ 102 (List._∷_ 102 (List._∷_ 115 (List._∷_ 101 (List._∷_ 116
+              List.[]))))))))))))))))))))))) (Syntax.tcons (Syntax.tyInt Syntax.w64) Syntax.tnil)) (Syntax.tcons (Syntax.tyInt Syntax.w64) (Syntax.tcons (Syntax.tyInt Syntax.w64)
+              (Syntax.tcons (Syntax.tyInt Syntax.w64) Syntax.tnil))))),
         ) (List._∷_ (
           7,
-          Rows.any-gone (Syntax.tyStruct (List._∷_ 116 (List._∷_ 121 (List._∷_ 112 (List._∷_ 101 (List._∷_ 115 (List._∷_ 58 (List._∷_ 58 (List._∷_
-              67 (List._∷_ 111 (List._∷_ 100 (List._∷_ 101 (List._∷_ 115 (List._∷_ 116 (List._∷_ 114 (List._∷_ 101 (List._∷_ 97 (List._∷_ 109 (List._∷_ 79 (List._∷_ 102 (List._∷_ 102
-              (List._∷_ 115 (List._∷_ 101 (List._∷_ 116 List.[]))))))))))))))))))))))) (Syntax.tcons (Syntax.tyInt Syntax.w64) Syntax.tnil)),
+          Rows.any-gone (Syntax.tyStruct (List._∷_ 116 (List._∷_ 121 (List._∷_ 112 (List._∷_ 101 (List._∷_
+              115 (List._∷_ 58 (List._∷_ 58 (List._∷_ 67 (List._∷_ 111 (List._∷_ 100 (List._∷_ 101 (List._∷_ 115 (List._∷_ 116 (List._∷_ 114 (List._∷_ 101 (List._∷_ 97 (List._∷_ 109
+              (List._∷_ 79 (List._∷_ 102 (List._∷_ 102 (List._∷_ 115 (List._∷_ 101 (List._∷_ 116 List.[]))))))))))))))))))))))) (Syntax.tcons (Syntax.tyInt Syntax.w64) Syntax.tnil)),
+        )
+            (List._∷_ (
+              8,
+              Rows.any-gone (Syntax.tyEnum (List._∷_ 104 (List._∷_ 101 (List._∷_ 97 (List._∷_ 100 (List._∷_ 101 (List._∷_ 114 (List._∷_ 58 (List._∷_ 58 (List._∷_ 110
+                  (List._∷_ 117 (List._∷_ 109 (List._∷_ 98 (List._∷_ 101 (List._∷_ 114 (List._∷_ 105 (List._∷_ 110 (List._∷_ 103 (List._∷_ 58 (List._∷_ 58 (List._∷_ 78 (List._∷_ 117
+                  (List._∷_ 109 (List._∷_ 98 (List._∷_ 101 (List._∷_ 114 (List._∷_ 105 (List._∷_ 110 (List._∷_ 103 List.[])))))))))))))))))))))))))))) (Syntax.ttcons Syntax.tnil
+                  (Syntax.ttcons Syntax.tnil Syntax.ttnil))),
+            ) (List._∷_ (9, Rows.any-gone (Syntax.tyInt Syntax.w64)) (List._∷_ (10, Rows.any-gone (Syntax.tyInt Syntax.w64)) (List._∷_
+            (11, Rows.any-gone (Syntax.tyInt Syntax.w64)) (List._∷_ (12, Rows.any-gone (Syntax.tyInt Syntax.w64)) (List._∷_ (13, Rows.any-gone Syntax.tyBool) (List._∷_ (
+              14,
+              Rows.any-gone (Syntax.tyInt Syntax.w64),
+            ) (List._∷_ (15, Rows.any-gone (Syntax.tyInt Syntax.w64)) List.[])))))))))))))))
+
+        abbrev g40 : List.List Row.Entry
+        g40 = List._∷_ (
+          0,
+          Rows.any-gone (Syntax.tyEnum (List._∷_ 104 (List._∷_ 101 (List._∷_ 97 (List._∷_ 100 (List._∷_ 101 (List._∷_ 114 (List._∷_ 58 (List._∷_ 58 (List._∷_ 112
+              (List._∷_ 97 (List._∷_ 114 (List._∷_ 115 (List._∷_ 101 (List._∷_ 58 (List._∷_ 58 (List._∷_ 77 (List._∷_ 97 (List._∷_ 105 (List._∷_ 110 (List._∷_ 72 (List._∷_ 101
+              (List._∷_ 97 (List._∷_ 100 (List._∷_ 101 (List._∷_ 114 List.[]))))))))))))))))))))))))) (Syntax.ttcons (Syntax.tcons (Syntax.tyStruct (List._∷_ 104 (List._∷_ 101
+              (List._∷_ 97 (List._∷_ 100 (List._∷_ 101 (List._∷_ 114 (List._∷_ 58 (List._∷_ 58 (List._∷_ 112 (List._∷_ 97 (List._∷_ 114 (List._∷_ 115 (List._∷_ 101 (List._∷_ 58
+              (List._∷_ 58 (List._∷_ 77 (List._∷_ 97 (List._∷_ 105 (List._∷_ 110 (List._∷_ 72 (List._∷_ 101 (List._∷_ 97 (List._∷_ 100 (List._∷_ 101 (List._∷_ 114 (List._∷_ 73
+              (List._∷_ 110 (List._∷_ 102 (List._∷_ 111 List.[]))))))))))))))))))))))))))))) (Syntax.tcons (Syntax.tyStruct (List._∷_ 116 (List._∷_ 121 (List._∷_ 112 (List._∷_ 101
+              (List._∷_ 115 (List._∷_ 58 (List._∷_ 58 (List._∷_ 67 (List._∷_ 111 (List._∷_ 100 (List._∷_ 101 (List._∷_ 115 (List._∷_ 116 (List._∷_ 114 (List._∷_ 101 (List._∷_ 97
+              (List._∷_ 109 (List._∷_ 79 (List._∷_ 102 (List._∷_ 102 (List._∷_ 115 (List._∷_ 101 (List._∷_ 116 List.[]))))))))))))))))))))))) (Syntax.tcons (Syntax.tyInt Syntax.w64)
+              Syntax.tnil)) (Syntax.tcons (Syntax.tyInt Syntax.w64) (Syntax.tcons (Syntax.tyInt Syntax.w64) (Syntax.tcons (Syntax.tyInt Syntax.w64) Syntax.tnil))))) Syntax.tnil)
+              (Syntax.ttcons (Syntax.tcons (Syntax.tyStruct (List._∷_ 116 (List._∷_ 121 (List._∷_ 112 (List._∷_ 101 (List._∷_ 115 (List._∷_ 58 (List._∷_ 58 (List._∷_ 82 (List._∷_ 101
+              (List._∷_ 102 (List._∷_ 117 (List._∷_ 115 (List._∷_ 97 (List._∷_ 108 List.[])))))))))))))) (Syntax.tcons (Syntax.tyInt Syntax.w32) (Syntax.tcons (Syntax.tyInt
+              Syntax.w64) Syntax.tnil))) Syntax.tnil) Syntax.ttnil))),
         ) (List._∷_ (
-          8,
-          Rows.any-gone
-              (Syntax.tyInt Syntax.w64),
-        ) (List._∷_ (9, Rows.any-gone (Syntax.tyInt Syntax.w64)) (List._∷_ (10, Rows.any-gone (Syntax.tyInt Syntax.w64)) (List._∷_ (
-          11,
-          Rows.any-gone
-              (Syntax.tyInt Syntax.w64),
-        ) (List._∷_ (12, Rows.any-gone Syntax.tyBool) (List._∷_ (13, Rows.any-gone (Syntax.tyInt Syntax.w64)) (List._∷_ (
-          14,
-          Rows.any-gone
-              (Syntax.tyInt Syntax.w64),
-        ) (List._∷_ (15, Rows.any-gone (Syntax.tyRef Syntax.erased Syntax.mut (Syntax.tyInt Syntax.w8))) List.[])))))))))))))))
+          1,
+          Rows.sslice (Referent.rtF (Referent.fInt Syntax.w8)) (Syntax.tyRef (Syntax.named 0) Syntax.imm
+              (Syntax.tyInt Syntax.w8)) 0,
+        ) (List._∷_ (
+          2,
+          Rows.any-gone (Syntax.tyStruct (List._∷_ 104 (List._∷_ 101 (List._∷_ 97 (List._∷_ 100 (List._∷_ 101 (List._∷_ 114 (List._∷_
+              58 (List._∷_ 58 (List._∷_ 114 (List._∷_ 101 (List._∷_ 97 (List._∷_ 100 (List._∷_ 105 (List._∷_ 110 (List._∷_ 103 (List._∷_ 58 (List._∷_ 58 (List._∷_ 82 (List._∷_ 101
+              (List._∷_ 97 (List._∷_ 100 (List._∷_ 105 (List._∷_ 110 (List._∷_ 103 List.[])))))))))))))))))))))))) (Syntax.tcons (Syntax.tyEnum (List._∷_ 104 (List._∷_ 101 (List._∷_
+              97 (List._∷_ 100 (List._∷_ 101 (List._∷_ 114 (List._∷_ 58 (List._∷_ 58 (List._∷_ 110 (List._∷_ 117 (List._∷_ 109 (List._∷_ 98 (List._∷_ 101 (List._∷_ 114 (List._∷_ 105
+              (List._∷_ 110 (List._∷_ 103 (List._∷_ 58 (List._∷_ 58 (List._∷_ 78 (List._∷_ 117 (List._∷_ 109 (List._∷_ 98 (List._∷_ 101 (List._∷_ 114 (List._∷_ 105 (List._∷_ 110
+              (List._∷_ 103 List.[])))))))))))))))))))))))))))) (Syntax.ttcons Syntax.tnil (Syntax.ttcons Syntax.tnil Syntax.ttnil))) (Syntax.tcons (Syntax.tyEnum (List._∷_ 104
+              (List._∷_ 101 (List._∷_ 97 (List._∷_ 100 (List._∷_ 101 (List._∷_ 114 (List._∷_ 58 (List._∷_ 58 (List._∷_ 101 (List._∷_ 100 (List._∷_ 105 (List._∷_ 116 (List._∷_ 105
+              (List._∷_ 111 (List._∷_ 110 (List._∷_ 58 (List._∷_ 58 (List._∷_ 69 (List._∷_ 100 (List._∷_ 105 (List._∷_ 116 (List._∷_ 105 (List._∷_ 111 (List._∷_ 110
+              List.[])))))))))))))))))))))))) (Syntax.ttcons Syntax.tnil (Syntax.ttcons Syntax.tnil Syntax.ttnil))) Syntax.tnil))),
+        ) (List._∷_ (
+          3,
+          Mut.mslice LentTilePartEntry.row
+              (Syntax.tyRef (Syntax.named 1) Syntax.mut LentTilePartEntry.pointee) 1,
+        ) (List._∷_ (
+          4,
+          Relend.mslice-owed (Referent.rtF (Referent.fInt Syntax.w8)) (Syntax.tyRef
+              (Syntax.named 2) Syntax.mut (Syntax.tyInt Syntax.w8)) 2 5 (Row.lease (κs .1 .1 .0) (qs .1 .1 .0)),
+        ) (List._∷_ (5, Rows.whole (Declared.row MainHeader.the-type))
+            (List._∷_ (
+              6,
+              Rows.any-gone (Syntax.tyStruct (List._∷_ 104 (List._∷_ 101 (List._∷_ 97 (List._∷_ 100 (List._∷_ 101 (List._∷_ 114 (List._∷_ 58 (List._∷_ 58 (List._∷_ 112
+                  (List._∷_ 97 (List._∷_ 114 (List._∷_ 115 (List._∷_ 101 (List._∷_ 58 (List._∷_ 58 (List._∷_ 77 (List._∷_ 97 (List._∷_ 105 (List._∷_ 110 (List._∷_ 72 (List._∷_ 101
+                  (List._∷_ 97 (List._∷_ 100 (List._∷_ 101 (List._∷_ 114 (List._∷_ 73 (List._∷_ 110 (List._∷_ 102 (List._∷_ 111 List.[]))))))))))))))))))))))))))))) (Syntax.tcons
+                  (Syntax.tyStruct (List._∷_ 116 (List._∷_ 121 (List._∷_ 112 (List._∷_ 101 (List._∷_ 115 (List._∷_ 58 (List._∷_ 58 (List._∷_ 67 (List._∷_ 111 (List._∷_ 100 (List._∷_ 101
+                  (List._∷_ 115 (List._∷_ 116 (List._∷_ 114 (List._∷_ 101 (List._∷_ 97 (List._∷_ 109 (List._∷_ 79 (List._∷_ 102 (List._∷_ 102 (List._∷_ 115 (List._∷_ 101 (List._∷_ 116
+                  List.[]))))))))))))))))))))))) (Syntax.tcons (Syntax.tyInt Syntax.w64) Syntax.tnil)) (Syntax.tcons (Syntax.tyInt Syntax.w64) (Syntax.tcons (Syntax.tyInt Syntax.w64)
+                  (Syntax.tcons (Syntax.tyInt Syntax.w64) Syntax.tnil))))),
+            ) (List._∷_ (
+              7,
+              Rows.any-gone (Syntax.tyStruct (List._∷_ 116 (List._∷_ 121 (List._∷_ 112 (List._∷_ 101 (List._∷_
+                  115 (List._∷_ 58 (List._∷_ 58 (List._∷_ 67 (List._∷_ 111 (List._∷_ 100 (List._∷_ 101 (List._∷_ 115 (List._∷_ 116 (List._∷_ 114 (List._∷_ 101 (List._∷_ 97 (List._∷_ 109
+                  (List._∷_ 79 (List._∷_ 102 (List._∷_ 102 (List._∷_ 115 (List._∷_ 101 (List._∷_ 116 List.[]))))))))))))))))))))))) (Syntax.tcons (Syntax.tyInt Syntax.w64) Syntax.tnil)),
+            )
+            (List._∷_ (
+              8,
+              Rows.any-gone (Syntax.tyEnum (List._∷_ 104 (List._∷_ 101 (List._∷_ 97 (List._∷_ 100 (List._∷_ 101 (List._∷_ 114 (List._∷_ 58 (List._∷_ 58 (List._∷_ 110
+                  (List._∷_ 117 (List._∷_ 109 (List._∷_ 98 (List._∷_ 101 (List._∷_ 114 (List._∷_ 105 (List._∷_ 110 (List._∷_ 103 (List._∷_ 58 (List._∷_ 58 (List._∷_ 78 (List._∷_ 117
+                  (List._∷_ 109 (List._∷_ 98 (List._∷_ 101 (List._∷_ 114 (List._∷_ 105 (List._∷_ 110 (List._∷_ 103 List.[])))))))))))))))))))))))))))) (Syntax.ttcons Syntax.tnil
+                  (Syntax.ttcons Syntax.tnil Syntax.ttnil))),
+            ) (List._∷_ (9, Rows.any-gone (Syntax.tyInt Syntax.w64)) (List._∷_ (10, Rows.any-gone (Syntax.tyInt Syntax.w64)) (List._∷_
+            (11, Rows.any-gone (Syntax.tyInt Syntax.w64)) (List._∷_ (12, Rows.any-gone (Syntax.tyInt Syntax.w64)) (List._∷_ (13, Rows.any-gone Syntax.tyBool) (List._∷_ (
+              14,
+              Rows.any-gone (Syntax.tyInt Syntax.w64),
+            ) (List._∷_ (15, Rows.any-gone (Syntax.tyInt Syntax.w64)) List.[])))))))))))))))
 
         abbrev G0 : Row.Cx
         G0 = record {
@@ -3812,14 +4061,14 @@ module _ (claims· : Claims) where
 
         abbrev G33 : Row.Cx
         G33 = record {
-          locals = List._++_ g25 t1;
+          locals = List._++_ g25 t26;
           slots = List._∷_ (Row.lease (κs .0) (qs .0)) (List._∷_ (Row.lease (κs .1 .0) (qs .1 .0)) (List._∷_ Row.off (List._∷_ Row.alive
               (List._∷_ Row.off (List._∷_ Row.off List.[])))));
         }
 
         abbrev G34 : Row.Cx
         G34 = record {
-          locals = List._++_ g26 t27;
+          locals = List._++_ g25 t27;
           slots = List._∷_ (Row.lease (κs .0) (qs .0)) (List._∷_ (Row.lease (κs .1 .0) (qs .1 .0)) (List._∷_ Row.off (List._∷_ Row.alive
               (List._∷_ Row.off (List._∷_ Row.off List.[])))));
         }
@@ -3833,7 +4082,7 @@ module _ (claims· : Claims) where
 
         abbrev G36 : Row.Cx
         G36 = record {
-          locals = List._++_ g26 t29;
+          locals = List._++_ g25 t29;
           slots = List._∷_ (Row.lease (κs .0) (qs .0)) (List._∷_ (Row.lease (κs .1 .0) (qs .1 .0)) (List._∷_ Row.off (List._∷_ Row.alive
               (List._∷_ Row.off (List._∷_ Row.off List.[])))));
         }
@@ -3896,146 +4145,160 @@ module _ (claims· : Claims) where
 
         abbrev G45 : Row.Cx
         G45 = record {
-          locals = List._++_ t19 t1;
+          locals = List._++_ t31 t1;
           slots = List._∷_ (Row.lease (κs .0) (qs .0)) (List._∷_ (Row.lease (κs .1 .0) (qs .1 .0)) (List._∷_ (Row.lease (κs .1 .1 .0) (qs .1
-              .1 .0)) (List._∷_ Row.off (List._∷_ Row.alive (List._∷_ Row.off List.[])))));
+              .1 .0)) (List._∷_ Row.off (List._∷_ Row.off (List._∷_ Row.off List.[])))));
         }
 
         abbrev G46 : Row.Cx
         G46 = record {
-          locals = List._++_ g31 t32;
-          slots = List._∷_ (Row.lease (κs .0) (qs .0)) (List._∷_ Row.off (List._∷_ (Row.lease (κs .1 .1 .0) (qs .1 .1 .0)) (List._∷_
-              Row.off (List._∷_ Row.alive (List._∷_ Row.off List.[])))));
+          locals = List._++_ t32 t1;
+          slots = List._∷_ (Row.lease (κs .0) (qs .0)) (List._∷_ (Row.lease (κs .1 .0) (qs .1 .0)) (List._∷_ (Row.lease (κs .1 .1 .0) (qs .1
+              .1 .0)) (List._∷_ Row.off (List._∷_ Row.off (List._∷_ Row.off List.[])))));
         }
 
         abbrev G47 : Row.Cx
         G47 = record {
-          locals = List._++_ g31 t33;
-          slots = List._∷_ (Row.lease (κs .0) (qs .0)) (List._∷_ Row.off (List._∷_ (Row.lease (κs .1 .1 .0) (qs .1 .1 .0)) (List._∷_
-              Row.off (List._∷_ Row.alive (List._∷_ Row.off List.[])))));
+          locals = List._++_ t32 t1;
+          slots = List._∷_ (Row.lease (κs .0) (qs .0)) (List._∷_ (Row.lease (κs .1 .0) (qs .1 .0)) (List._∷_ (Row.lease (κs .1 .1 .0) (qs .1
+              .1 .0)) (List._∷_ Row.off (List._∷_ Row.alive (List._∷_ Row.off List.[])))));
         }
 
         abbrev G48 : Row.Cx
         G48 = record {
-          locals = List._++_ g31 t34;
+          locals = List._++_ g33 t34;
           slots = List._∷_ (Row.lease (κs .0) (qs .0)) (List._∷_ Row.off (List._∷_ (Row.lease (κs .1 .1 .0) (qs .1 .1 .0)) (List._∷_
               Row.off (List._∷_ Row.alive (List._∷_ Row.off List.[])))));
         }
 
         abbrev G49 : Row.Cx
         G49 = record {
-          locals = List._++_ g35 t34;
+          locals = List._++_ g33 t35;
           slots = List._∷_ (Row.lease (κs .0) (qs .0)) (List._∷_ Row.off (List._∷_ (Row.lease (κs .1 .1 .0) (qs .1 .1 .0)) (List._∷_
               Row.off (List._∷_ Row.alive (List._∷_ Row.off List.[])))));
         }
 
         abbrev G50 : Row.Cx
         G50 = record {
-          locals = List._++_ g36 t34;
+          locals = List._++_ g33 t36;
           slots = List._∷_ (Row.lease (κs .0) (qs .0)) (List._∷_ Row.off (List._∷_ (Row.lease (κs .1 .1 .0) (qs .1 .1 .0)) (List._∷_
               Row.off (List._∷_ Row.alive (List._∷_ Row.off List.[])))));
         }
 
         abbrev G51 : Row.Cx
         G51 = record {
-          locals = List._++_ g36 t37;
+          locals = List._++_ g37 t36;
           slots = List._∷_ (Row.lease (κs .0) (qs .0)) (List._∷_ Row.off (List._∷_ (Row.lease (κs .1 .1 .0) (qs .1 .1 .0)) (List._∷_
               Row.off (List._∷_ Row.alive (List._∷_ Row.off List.[])))));
         }
 
         abbrev G52 : Row.Cx
         G52 = record {
-          locals = List._++_ g36 t37;
+          locals = List._++_ g38 t36;
           slots = List._∷_ (Row.lease (κs .0) (qs .0)) (List._∷_ Row.off (List._∷_ (Row.lease (κs .1 .1 .0) (qs .1 .1 .0)) (List._∷_
-              Row.off (List._∷_ Row.dead (List._∷_ Row.off List.[])))));
+              Row.off (List._∷_ Row.alive (List._∷_ Row.off List.[])))));
         }
 
         abbrev G53 : Row.Cx
         G53 = record {
-          locals = List._++_ t15 t1;
-          slots = List._∷_ (Row.lease (κs .0) (qs .0)) (List._∷_ (Row.lease (κs .1 .0) (qs .1 .0)) (List._∷_ (Row.lease (κs .1 .1 .0) (qs .1
-              .1 .0)) (List._∷_ Row.off (List._∷_ Row.dead (List._∷_ Row.off List.[])))));
+          locals = List._++_ g38 t39;
+          slots = List._∷_ (Row.lease (κs .0) (qs .0)) (List._∷_ Row.off (List._∷_ (Row.lease (κs .1 .1 .0) (qs .1 .1 .0)) (List._∷_
+              Row.off (List._∷_ Row.alive (List._∷_ Row.off List.[])))));
         }
 
         abbrev G54 : Row.Cx
         G54 = record {
-          locals = List._++_ t15 t1;
-          slots = List._∷_ (Row.lease (κs .0) (qs .0)) (List._∷_ (Row.lease (κs .1 .0) (qs .1 .0)) (List._∷_ (Row.lease (κs .1 .1 .0) (qs .1
-              .1 .0)) (List._∷_ Row.off (List._∷_ Row.off (List._∷_ Row.off List.[])))));
+          locals = List._++_ g38 t39;
+          slots = List._∷_ (Row.lease (κs .0) (qs .0)) (List._∷_ Row.off (List._∷_ (Row.lease (κs .1 .1 .0) (qs .1 .1 .0)) (List._∷_
+              Row.off (List._∷_ Row.dead (List._∷_ Row.off List.[])))));
         }
 
         abbrev G55 : Row.Cx
         G55 = record {
           locals = List._++_ t15 t1;
           slots = List._∷_ (Row.lease (κs .0) (qs .0)) (List._∷_ (Row.lease (κs .1 .0) (qs .1 .0)) (List._∷_ (Row.lease (κs .1 .1 .0) (qs .1
-              .1 .0)) (List._∷_ Row.off (List._∷_ Row.off (List._∷_ Row.alive List.[])))));
+              .1 .0)) (List._∷_ Row.off (List._∷_ Row.dead (List._∷_ Row.off List.[])))));
         }
 
         abbrev G56 : Row.Cx
         G56 = record {
-          locals = List._++_ g38 t39;
-          slots = List._∷_ (Row.lease (κs .0) (qs .0)) (List._∷_ (Row.lease (κs .1 .0) (qs .1 .0)) (List._∷_ Row.off (List._∷_ Row.off
-              (List._∷_ Row.off (List._∷_ Row.alive List.[])))));
+          locals = List._++_ t15 t1;
+          slots = List._∷_ (Row.lease (κs .0) (qs .0)) (List._∷_ (Row.lease (κs .1 .0) (qs .1 .0)) (List._∷_ (Row.lease (κs .1 .1 .0) (qs .1
+              .1 .0)) (List._∷_ Row.off (List._∷_ Row.off (List._∷_ Row.off List.[])))));
         }
 
         abbrev G57 : Row.Cx
         G57 = record {
-          locals = List._++_ g38 t40;
-          slots = List._∷_ (Row.lease (κs .0) (qs .0)) (List._∷_ (Row.lease (κs .1 .0) (qs .1 .0)) (List._∷_ Row.off (List._∷_ Row.off
-              (List._∷_ Row.off (List._∷_ Row.alive List.[])))));
+          locals = List._++_ t15 t1;
+          slots = List._∷_ (Row.lease (κs .0) (qs .0)) (List._∷_ (Row.lease (κs .1 .0) (qs .1 .0)) (List._∷_ (Row.lease (κs .1 .1 .0) (qs .1
+              .1 .0)) (List._∷_ Row.off (List._∷_ Row.off (List._∷_ Row.alive List.[])))));
         }
 
         abbrev G58 : Row.Cx
         G58 = record {
-          locals = List._++_ g38 t41;
+          locals = List._++_ g40 t41;
           slots = List._∷_ (Row.lease (κs .0) (qs .0)) (List._∷_ (Row.lease (κs .1 .0) (qs .1 .0)) (List._∷_ Row.off (List._∷_ Row.off
               (List._∷_ Row.off (List._∷_ Row.alive List.[])))));
         }
 
         abbrev G59 : Row.Cx
         G59 = record {
-          locals = List._++_ g38 t42;
+          locals = List._++_ g40 t42;
           slots = List._∷_ (Row.lease (κs .0) (qs .0)) (List._∷_ (Row.lease (κs .1 .0) (qs .1 .0)) (List._∷_ Row.off (List._∷_ Row.off
               (List._∷_ Row.off (List._∷_ Row.alive List.[])))));
         }
 
         abbrev G60 : Row.Cx
         G60 = record {
-          locals = List._++_ g38 t42;
+          locals = List._++_ g40 t43;
           slots = List._∷_ (Row.lease (κs .0) (qs .0)) (List._∷_ (Row.lease (κs .1 .0) (qs .1 .0)) (List._∷_ Row.off (List._∷_ Row.off
-              (List._∷_ Row.off (List._∷_ Row.dead List.[])))));
+              (List._∷_ Row.off (List._∷_ Row.alive List.[])))));
         }
 
         abbrev G61 : Row.Cx
         G61 = record {
-          locals = List._++_ t15 t1;
-          slots = List._∷_ (Row.lease (κs .0) (qs .0)) (List._∷_ (Row.lease (κs .1 .0) (qs .1 .0)) (List._∷_ (Row.lease (κs .1 .1 .0) (qs .1
-              .1 .0)) (List._∷_ Row.off (List._∷_ Row.off (List._∷_ Row.dead List.[])))));
+          locals = List._++_ g40 t44;
+          slots = List._∷_ (Row.lease (κs .0) (qs .0)) (List._∷_ (Row.lease (κs .1 .0) (qs .1 .0)) (List._∷_ Row.off (List._∷_ Row.off
+              (List._∷_ Row.off (List._∷_ Row.alive List.[])))));
         }
 
         abbrev G62 : Row.Cx
         G62 = record {
-          locals = List._++_ t15 t1;
-          slots = List._∷_ (Row.lease (κs .0) (qs .0)) (List._∷_ (Row.lease (κs .1 .0) (qs .1 .0)) (List._∷_ (Row.lease (κs .1 .1 .0) (qs .1
-              .1 .0)) (List._∷_ Row.off (List._∷_ Row.off (List._∷_ Row.dead List.[])))));
+          locals = List._++_ g40 t44;
+          slots = List._∷_ (Row.lease (κs .0) (qs .0)) (List._∷_ (Row.lease (κs .1 .0) (qs .1 .0)) (List._∷_ Row.off (List._∷_ Row.off
+              (List._∷_ Row.off (List._∷_ Row.dead List.[])))));
         }
 
         abbrev G63 : Row.Cx
         G63 = record {
           locals = List._++_ t15 t1;
           slots = List._∷_ (Row.lease (κs .0) (qs .0)) (List._∷_ (Row.lease (κs .1 .0) (qs .1 .0)) (List._∷_ (Row.lease (κs .1 .1 .0) (qs .1
-              .1 .0)) (List._∷_ Row.off (List._∷_ Row.off (List._∷_ Row.off List.[])))));
+              .1 .0)) (List._∷_ Row.off (List._∷_ Row.off (List._∷_ Row.dead List.[])))));
         }
 
         abbrev G64 : Row.Cx
         G64 = record {
+          locals = List._++_ t15 t1;
+          slots = List._∷_ (Row.lease (κs .0) (qs .0)) (List._∷_ (Row.lease (κs .1 .0) (qs .1 .0)) (List._∷_ (Row.lease (κs .1 .1 .0) (qs .1
+              .1 .0)) (List._∷_ Row.off (List._∷_ Row.off (List._∷_ Row.dead List.[])))));
+        }
+
+        abbrev G65 : Row.Cx
+        G65 = record {
+          locals = List._++_ t15 t1;
+          slots = List._∷_ (Row.lease (κs .0) (qs .0)) (List._∷_ (Row.lease (κs .1 .0) (qs .1 .0)) (List._∷_ (Row.lease (κs .1 .1 .0) (qs .1
+              .1 .0)) (List._∷_ Row.off (List._∷_ Row.off (List._∷_ Row.off List.[])))));
+        }
+
+        abbrev G66 : Row.Cx
+        G66 = record {
           locals = List._++_ t16 t1;
           slots = List._∷_ (Row.lease (κs .0) (qs .0)) (List._∷_ (Row.lease (κs .1 .0) (qs .1 .0)) (List._∷_ (Row.lease (κs .1 .1 .0) (qs .1
               .1 .0)) (List._∷_ Row.off (List._∷_ Row.off (List._∷_ Row.off List.[])))));
         }
 
-        abbrev G65 : Row.Cx
-        G65 = record {
+        abbrev G67 : Row.Cx
+        G67 = record {
           locals = List._++_ t2 t1;
           slots = List._∷_ (Row.lease (κs .0) (qs .0)) (List._∷_ (Row.lease (κs .1 .0) (qs .1 .0)) (List._∷_ (Row.lease (κs .1 .1 .0) (qs .1
               .1 .0)) (List._∷_ Row.off (List._∷_ Row.off (List._∷_ Row.off List.[])))));
@@ -4057,16 +4320,16 @@ module _ (claims· : Claims) where
 
           d0 : Typed.Typed 𝓤 H A 𝓣 E G15 b5 Δ1 (at0 bs)
           d0 = Typed.s-typed 𝓤 H A W 𝓣 E G15 b5 Δ1 (λ Ψ. Typed.pass T15 T16 (s13 bs) (Typed.pass T16 T17 (s14 bs) Ψ)) tt (Typed.g-post 𝓤 H A W 𝓣 E G15 G16 G17 b5 (Typed.pass T15
-              T16 (s13 bs)) (Typed.pass T16 T17 (s14 bs)) (CopyOut.t-copy-told 𝓤 H A W E 𝓣 (Declared'.row MainHeaderInfo.the-type) Path'.refl (Laws'5.val MainHeaderInfo.the-type
-              Laws''.the-laws) (Laws'5.lawful MainHeaderInfo.the-type Laws''.the-laws 𝓤 H A W) (Laws'5.makes MainHeaderInfo.the-type Laws''.the-plain 𝓤 H A) G15 6 (Scalar.oFld 5
+              T16 (s13 bs)) (Typed.pass T16 T17 (s14 bs)) (CopyOut.t-copy-told 𝓤 H A W E 𝓣 (Declared'.row MainHeaderInfo.the-type) Path'.refl (Laws'7.val MainHeaderInfo.the-type
+              Laws''.the-laws) (Laws'7.lawful MainHeaderInfo.the-type Laws''.the-laws 𝓤 H A W) (Laws'7.makes MainHeaderInfo.the-type Laws''.the-plain 𝓤 H A) G15 6 (Scalar.oFld 5
               (List._∷_ (Syntax.variant 0) (List._∷_ (Syntax.field 1) List.[])) (Syntax.tyStruct (List._∷_ 104 (List._∷_ 101 (List._∷_ 97 (List._∷_ 100 (List._∷_ 101 (List._∷_ 114
               (List._∷_ 58 (List._∷_ 58 (List._∷_ 112 (List._∷_ 97 (List._∷_ 114 (List._∷_ 115 (List._∷_ 101 (List._∷_ 58 (List._∷_ 58 (List._∷_ 77 (List._∷_ 97 (List._∷_ 105
               (List._∷_ 110 (List._∷_ 72 (List._∷_ 101 (List._∷_ 97 (List._∷_ 100 (List._∷_ 101 (List._∷_ 114 (List._∷_ 73 (List._∷_ 110 (List._∷_ 102 (List._∷_ 111
               List.[]))))))))))))))))))))))))))))) (Syntax.tcons (Syntax.tyStruct (List._∷_ 116 (List._∷_ 121 (List._∷_ 112 (List._∷_ 101 (List._∷_ 115 (List._∷_ 58 (List._∷_ 58
               (List._∷_ 67 (List._∷_ 111 (List._∷_ 100 (List._∷_ 101 (List._∷_ 115 (List._∷_ 116 (List._∷_ 114 (List._∷_ 101 (List._∷_ 97 (List._∷_ 109 (List._∷_ 79 (List._∷_ 102
               (List._∷_ 102 (List._∷_ 115 (List._∷_ 101 (List._∷_ 116 List.[]))))))))))))))))))))))) (Syntax.tcons (Syntax.tyInt Syntax.w64) Syntax.tnil)) (Syntax.tcons
-              (Syntax.tyInt Syntax.w64) (Syntax.tcons (Syntax.tyInt Syntax.w64) (Syntax.tcons (Syntax.tyInt Syntax.w64) Syntax.tnil))))) 8 λ v. Laws'5.val MainHeaderInfo.the-type
-              Laws''.the-laws (v .0)) (λ m. m .1 .1 .1 .1 .1 .0 .0) (λ m. Laws'4.Fields (Declared.variants MainHeader.the-type) (Laws'4.spellss (MainHeader.enum .parts)
+              (Syntax.tyInt Syntax.w64) (Syntax.tcons (Syntax.tyInt Syntax.w64) (Syntax.tcons (Syntax.tyInt Syntax.w64) Syntax.tnil))))) 8 λ v. Laws'7.val MainHeaderInfo.the-type
+              Laws''.the-laws (v .0)) (λ m. m .1 .1 .1 .1 .1 .0 .0) (λ m. Laws'5.Fields (Declared.variants MainHeader.the-type) (Laws'5.spellss (MainHeader.enum .parts)
               Laws'.the-laws) (MainHeader.the-type .to (Known.at MainHeader.enum 0 (m .1 .1 .1 .1 .1 .0)))) (Reads'.room-gone 𝓤 H A (Syntax.tyStruct (List._∷_ 104 (List._∷_ 101
               (List._∷_ 97 (List._∷_ 100 (List._∷_ 101 (List._∷_ 114 (List._∷_ 58 (List._∷_ 58 (List._∷_ 112 (List._∷_ 97 (List._∷_ 114 (List._∷_ 115 (List._∷_ 101 (List._∷_ 58
               (List._∷_ 58 (List._∷_ 77 (List._∷_ 97 (List._∷_ 105 (List._∷_ 110 (List._∷_ 72 (List._∷_ 101 (List._∷_ 97 (List._∷_ 100 (List._∷_ 101 (List._∷_ 114 (List._∷_ 73
@@ -4074,7 +4337,7 @@ module _ (claims· : Claims) where
               (List._∷_ 115 (List._∷_ 58 (List._∷_ 58 (List._∷_ 67 (List._∷_ 111 (List._∷_ 100 (List._∷_ 101 (List._∷_ 115 (List._∷_ 116 (List._∷_ 114 (List._∷_ 101 (List._∷_ 97
               (List._∷_ 109 (List._∷_ 79 (List._∷_ 102 (List._∷_ 102 (List._∷_ 115 (List._∷_ 101 (List._∷_ 116 List.[]))))))))))))))))))))))) (Syntax.tcons (Syntax.tyInt
               Syntax.w64) Syntax.tnil)) (Syntax.tcons (Syntax.tyInt Syntax.w64) (Syntax.tcons (Syntax.tyInt Syntax.w64) (Syntax.tcons (Syntax.tyInt Syntax.w64) Syntax.tnil)))))) (
-                Match.reads-payload 𝓤 H A W MainHeader.enum Laws'.the-laws 0 Path'.refl Path'.refl (λ v. Val.vcons (Laws'5.val MainHeaderInfo.the-type Laws''.the-laws (v .0))
+                Match.reads-payload 𝓤 H A W MainHeader.enum Laws'.the-laws 0 Path'.refl Path'.refl (λ v. Val.vcons (Laws'7.val MainHeaderInfo.the-type Laws''.the-laws (v .0))
                     Val.vnil) (λ v. Path'.refl) 0 (Syntax.tyStruct (List._∷_ 104 (List._∷_ 101 (List._∷_ 97 (List._∷_ 100 (List._∷_ 101 (List._∷_ 114 (List._∷_ 58 (List._∷_ 58 (List._∷_
                     112 (List._∷_ 97 (List._∷_ 114 (List._∷_ 115 (List._∷_ 101 (List._∷_ 58 (List._∷_ 58 (List._∷_ 77 (List._∷_ 97 (List._∷_ 105 (List._∷_ 110 (List._∷_ 72 (List._∷_ 101
                     (List._∷_ 97 (List._∷_ 100 (List._∷_ 101 (List._∷_ 114 (List._∷_ 73 (List._∷_ 110 (List._∷_ 102 (List._∷_ 111 List.[]))))))))))))))))))))))))))))) (Syntax.tcons
@@ -4084,7 +4347,7 @@ module _ (claims· : Claims) where
                     Syntax.w64) (Syntax.tcons (Syntax.tyInt Syntax.w64) Syntax.tnil))))) 8 Path'.refl,
                 Path'.refl,
               ) Path'.refl (λ ρ m. Make.tells-row 𝓤 H A W E ρ (Row.out 6 (G15 .locals))
-              m 5 (Laws'4.Fields (Declared.variants MainHeader.the-type) (Laws'4.spellss (MainHeader.enum .parts) Laws'.the-laws) (MainHeader.the-type .to (Known.at MainHeader.enum
+              m 5 (Laws'5.Fields (Declared.variants MainHeader.the-type) (Laws'5.spellss (MainHeader.enum .parts) Laws'.the-laws) (MainHeader.the-type .to (Known.at MainHeader.enum
               0 (m .1 .1 .1 .1 .1 .0)))) (Known.known-is 𝓤 H A W E MainHeader.enum 0 Laws'.the-laws ρ 5 (m .1 .1 .1 .1 .1 .0))) (λ m k wa. Path'.refl) λ m k wa. k .0)
               (Known.g-enum-whole 𝓤 H A W E MainHeader.enum 0 G16 5 (λ x. x) (Reads'.as-is 𝓤 H A (Rows.whole (Known.Known MainHeader.enum 0)))))
 
@@ -4169,14 +4432,24 @@ module _ (claims· : Claims) where
               (Declared.row MainHeader.the-type) ρ) Path'.refl Path'.refl) d4
 
           d6 : Typed.Typed 𝓤 H A 𝓣 E G18 b8 Δ1 (at6 bs)
-          d6 = Typed.g-pre 𝓤 H A W 𝓣 E G18 G19 b8 Δ1 (Typed.pass T18 T19 (s16 bs)) (at5 bs) (Scalar.g-room 𝓤 H A W E G18 2 (Syntax.tyEnum (List._∷_ 104 (List._∷_ 101 (List._∷_ 97
-              (List._∷_ 100 (List._∷_ 101 (List._∷_ 114 (List._∷_ 58 (List._∷_ 58 (List._∷_ 110 (List._∷_ 117 (List._∷_ 109 (List._∷_ 98 (List._∷_ 101 (List._∷_ 114 (List._∷_ 105
-              (List._∷_ 110 (List._∷_ 103 (List._∷_ 58 (List._∷_ 58 (List._∷_ 78 (List._∷_ 117 (List._∷_ 109 (List._∷_ 98 (List._∷_ 101 (List._∷_ 114 (List._∷_ 105 (List._∷_ 110
-              (List._∷_ 103 List.[])))))))))))))))))))))))))))) (Syntax.ttcons Syntax.tnil (Syntax.ttcons Syntax.tnil Syntax.ttnil))) (Local.room-whole 𝓤 H A W (Declared.row
-              Numbering.the-type) (Syntax.tyEnum (List._∷_ 104 (List._∷_ 101 (List._∷_ 97 (List._∷_ 100 (List._∷_ 101 (List._∷_ 114 (List._∷_ 58 (List._∷_ 58 (List._∷_ 110
-              (List._∷_ 117 (List._∷_ 109 (List._∷_ 98 (List._∷_ 101 (List._∷_ 114 (List._∷_ 105 (List._∷_ 110 (List._∷_ 103 (List._∷_ 58 (List._∷_ 58 (List._∷_ 78 (List._∷_ 117
-              (List._∷_ 109 (List._∷_ 98 (List._∷_ 101 (List._∷_ 114 (List._∷_ 105 (List._∷_ 110 (List._∷_ 103 List.[])))))))))))))))))))))))))))) (Syntax.ttcons Syntax.tnil
-              (Syntax.ttcons Syntax.tnil Syntax.ttnil))) Path'.refl)) d5
+          d6 = Typed.g-pre 𝓤 H A W 𝓣 E G18 G19 b8 Δ1 (Typed.pass T18 T19 (s16 bs)) (at5 bs) (Scalar.g-room 𝓤 H A W E G18 2 (Syntax.tyStruct (List._∷_ 104 (List._∷_ 101 (List._∷_ 97
+              (List._∷_ 100 (List._∷_ 101 (List._∷_ 114 (List._∷_ 58 (List._∷_ 58 (List._∷_ 114 (List._∷_ 101 (List._∷_ 97 (List._∷_ 100 (List._∷_ 105 (List._∷_ 110 (List._∷_ 103
+              (List._∷_ 58 (List._∷_ 58 (List._∷_ 82 (List._∷_ 101 (List._∷_ 97 (List._∷_ 100 (List._∷_ 105 (List._∷_ 110 (List._∷_ 103 List.[]))))))))))))))))))))))))
+              (Syntax.tcons (Syntax.tyEnum (List._∷_ 104 (List._∷_ 101 (List._∷_ 97 (List._∷_ 100 (List._∷_ 101 (List._∷_ 114 (List._∷_ 58 (List._∷_ 58 (List._∷_ 110 (List._∷_ 117
+              (List._∷_ 109 (List._∷_ 98 (List._∷_ 101 (List._∷_ 114 (List._∷_ 105 (List._∷_ 110 (List._∷_ 103 (List._∷_ 58 (List._∷_ 58 (List._∷_ 78 (List._∷_ 117 (List._∷_ 109
+              (List._∷_ 98 (List._∷_ 101 (List._∷_ 114 (List._∷_ 105 (List._∷_ 110 (List._∷_ 103 List.[])))))))))))))))))))))))))))) (Syntax.ttcons Syntax.tnil (Syntax.ttcons
+              Syntax.tnil Syntax.ttnil))) (Syntax.tcons (Syntax.tyEnum (List._∷_ 104 (List._∷_ 101 (List._∷_ 97 (List._∷_ 100 (List._∷_ 101 (List._∷_ 114 (List._∷_ 58 (List._∷_ 58
+              (List._∷_ 101 (List._∷_ 100 (List._∷_ 105 (List._∷_ 116 (List._∷_ 105 (List._∷_ 111 (List._∷_ 110 (List._∷_ 58 (List._∷_ 58 (List._∷_ 69 (List._∷_ 100 (List._∷_ 105
+              (List._∷_ 116 (List._∷_ 105 (List._∷_ 111 (List._∷_ 110 List.[])))))))))))))))))))))))) (Syntax.ttcons Syntax.tnil (Syntax.ttcons Syntax.tnil Syntax.ttnil)))
+              Syntax.tnil))) (Local.room-whole 𝓤 H A W (Declared'.row Reading.the-type) (Syntax.tyStruct (List._∷_ 104 (List._∷_ 101 (List._∷_ 97 (List._∷_ 100 (List._∷_ 101
+              (List._∷_ 114 (List._∷_ 58 (List._∷_ 58 (List._∷_ 114 (List._∷_ 101 (List._∷_ 97 (List._∷_ 100 (List._∷_ 105 (List._∷_ 110 (List._∷_ 103 (List._∷_ 58 (List._∷_ 58
+              (List._∷_ 82 (List._∷_ 101 (List._∷_ 97 (List._∷_ 100 (List._∷_ 105 (List._∷_ 110 (List._∷_ 103 List.[])))))))))))))))))))))))) (Syntax.tcons (Syntax.tyEnum (List._∷_
+              104 (List._∷_ 101 (List._∷_ 97 (List._∷_ 100 (List._∷_ 101 (List._∷_ 114 (List._∷_ 58 (List._∷_ 58 (List._∷_ 110 (List._∷_ 117 (List._∷_ 109 (List._∷_ 98 (List._∷_
+              101 (List._∷_ 114 (List._∷_ 105 (List._∷_ 110 (List._∷_ 103 (List._∷_ 58 (List._∷_ 58 (List._∷_ 78 (List._∷_ 117 (List._∷_ 109 (List._∷_ 98 (List._∷_ 101 (List._∷_
+              114 (List._∷_ 105 (List._∷_ 110 (List._∷_ 103 List.[])))))))))))))))))))))))))))) (Syntax.ttcons Syntax.tnil (Syntax.ttcons Syntax.tnil Syntax.ttnil))) (Syntax.tcons
+              (Syntax.tyEnum (List._∷_ 104 (List._∷_ 101 (List._∷_ 97 (List._∷_ 100 (List._∷_ 101 (List._∷_ 114 (List._∷_ 58 (List._∷_ 58 (List._∷_ 101 (List._∷_ 100 (List._∷_ 105
+              (List._∷_ 116 (List._∷_ 105 (List._∷_ 111 (List._∷_ 110 (List._∷_ 58 (List._∷_ 58 (List._∷_ 69 (List._∷_ 100 (List._∷_ 105 (List._∷_ 116 (List._∷_ 105 (List._∷_ 111
+              (List._∷_ 110 List.[])))))))))))))))))))))))) (Syntax.ttcons Syntax.tnil (Syntax.ttcons Syntax.tnil Syntax.ttnil))) Syntax.tnil))) Path'.refl)) d5
 
           d7 : Typed.Typed 𝓤 H A 𝓣 E G13 b8 Δ1 (at7 bs)
           d7 = Typed.g-pre 𝓤 H A W 𝓣 E G13 G18 b8 Δ1 (Typed.both (s15 bs)) (at6 bs) (Known.g-enum-told 𝓤 H A W E MainHeader.enum 1 G13 5 λ x. x) d6
@@ -4191,11 +4464,11 @@ module _ (claims· : Claims) where
               ) (λ u. Path'.refl) (d2, (d7, tt))
 
           d9 : Typed.Typed 𝓤 H A 𝓣 E G12 b9 Δ1 (at9 bs)
-          d9 = Typed.g-pre 𝓤 H A W 𝓣 E G12 G13 b9 Δ1 (Typed.pass T12 T13 (s10 bs)) (at8 bs) (Scalar.g-room 𝓤 H A W E G12 11 (Syntax.tyInt Syntax.w64) (Scalar.room-sc 𝓤 H A W
+          d9 = Typed.g-pre 𝓤 H A W 𝓣 E G12 G13 b9 Δ1 (Typed.pass T12 T13 (s10 bs)) (at8 bs) (Scalar.g-room 𝓤 H A W E G12 12 (Syntax.tyInt Syntax.w64) (Scalar.room-sc 𝓤 H A W
               (Row.sInt Syntax.w64))) d8
 
           d10 : Typed.Typed 𝓤 H A 𝓣 E G10 b9 Δ1 (at10 bs)
-          d10 = Typed.g-pre 𝓤 H A W 𝓣 E G10 G12 b9 Δ1 (Typed.pass T10 T12 (s9 bs)) (at9 bs) (Scalar.g-room 𝓤 H A W E G10 9 (Syntax.tyInt Syntax.w64) (Scalar.room-sc 𝓤 H A W
+          d10 = Typed.g-pre 𝓤 H A W 𝓣 E G10 G12 b9 Δ1 (Typed.pass T10 T12 (s9 bs)) (at9 bs) (Scalar.g-room 𝓤 H A W E G10 10 (Syntax.tyInt Syntax.w64) (Scalar.room-sc 𝓤 H A W
               (Row.sInt Syntax.w64))) d9
 
           d11 : Typed.Typed 𝓤 H A 𝓣 E G43 b17 Δ2 (at11 bs)
@@ -4279,7 +4552,7 @@ module _ (claims· : Claims) where
               (Referent.fInt Syntax.w8)) (Syntax.tyRef (Syntax.named 2) Syntax.mut (Syntax.tyInt Syntax.w8)) 2)) Path'.refl tt) d14
 
           d16 : Typed.Typed 𝓤 H A 𝓣 E G38 b18 Δ2 (at16 bs)
-          d16 = Typed.g-pre 𝓤 H A W 𝓣 E G38 G39 b18 Δ2 (Typed.both (s35 bs)) (at15 bs) (Relend.g-back-sl 𝓤 H A W E (Referent.rtF (Referent.fInt Syntax.w8)) G38 16 4 2 3
+          d16 = Typed.g-pre 𝓤 H A W 𝓣 E G38 G39 b18 Δ2 (Typed.both (s35 bs)) (at15 bs) (Relend.g-back-sl 𝓤 H A W E (Referent.rtF (Referent.fInt Syntax.w8)) G38 17 4 2 3
               (Syntax.tyRef (Syntax.named 2) Syntax.mut (Syntax.tyInt Syntax.w8)) (Syntax.tyRef Syntax.erased Syntax.mut (Syntax.tyInt Syntax.w8)) (Row.lease (κs .1 .1 .0) (qs .1
               .1 .0)) (λ x. x) (λ x. x) (Reads'.as-is 𝓤 H A (Mut.msleft (Referent.rtF (Referent.fInt Syntax.w8)) (Syntax.tyRef Syntax.erased Syntax.mut (Syntax.tyInt Syntax.w8))))
               (Reads'.as-is 𝓤 H A (Relend.mslice-owed (Referent.rtF (Referent.fInt Syntax.w8)) (Syntax.tyRef (Syntax.named 2) Syntax.mut (Syntax.tyInt Syntax.w8)) 2 3 (Row.lease
@@ -4289,19 +4562,19 @@ module _ (claims· : Claims) where
           d17 = Typed.g-pre 𝓤 H A W 𝓣 E G37 G38 b18 Δ2 (λ Ψ. Ψ) (at16 bs) (Lifetime.g-end 𝓤 H A W E G37 3 Path'.refl) d16
 
           d18 : Typed.Typed 𝓤 H A 𝓣 E G36 b18 Δ2 (at18 bs)
-          d18 = Typed.g-pre 𝓤 H A W 𝓣 E G36 G37 b18 Δ2 (Typed.pass T36 T37 (s33 bs)) (at17 bs) (Scalar.g-room 𝓤 H A W E G36 14 (Syntax.tyInt Syntax.w64) (Scalar.room-sc 𝓤 H A W
+          d18 = Typed.g-pre 𝓤 H A W 𝓣 E G36 G37 b18 Δ2 (Typed.pass T36 T37 (s33 bs)) (at17 bs) (Scalar.g-room 𝓤 H A W E G36 15 (Syntax.tyInt Syntax.w64) (Scalar.room-sc 𝓤 H A W
               (Row.sInt Syntax.w64))) d17
 
           d19 : Typed.Typed 𝓤 H A 𝓣 E G35 b18 Δ2 (at19 bs)
-          d19 = Typed.g-pre 𝓤 H A W 𝓣 E G35 G36 b18 Δ2 (Typed.pass T35 T36 (s32 bs)) (at18 bs) (Scalar.g-room 𝓤 H A W E G35 13 (Syntax.tyInt Syntax.w64) (Scalar.room-sc 𝓤 H A W
+          d19 = Typed.g-pre 𝓤 H A W 𝓣 E G35 G36 b18 Δ2 (Typed.pass T35 T36 (s32 bs)) (at18 bs) (Scalar.g-room 𝓤 H A W E G35 14 (Syntax.tyInt Syntax.w64) (Scalar.room-sc 𝓤 H A W
               (Row.sInt Syntax.w64))) d18
 
           d20 : Typed.Typed 𝓤 H A 𝓣 E G34 b19 Δ2 (at20 bs)
           d20 = Typed.s-seq 𝓤 H A W 𝓣 E G34 G35 b15 b18 Δ2 (Typed.both (s31 bs)) (at19 bs) (Plain.t-call-plain 𝓤 H A W 𝓣 2 ps·2 r·2 (claims· .4) (claims· .5)
               "header::strip::append" (known .2) E (λ pos β. β) G34 (
                 record { pos = 1; ty = Syntax.tyRef (Syntax.named 0) Syntax.imm (Syntax.tyInt Syntax.w8); ref = λ x. x },
-                (Num.vLit 0, (Num.vAt 14 λ x. x, (record { pos = 16; ty = Syntax.tyRef Syntax.erased Syntax.mut (Syntax.tyInt Syntax.w8); ref = λ x. x }, (Num.vLit 0, tt)))),
-              ) 13
+                (Num.vLit 0, (Num.vAt 15 λ x. x, (record { pos = 17; ty = Syntax.tyRef Syntax.erased Syntax.mut (Syntax.tyInt Syntax.w8); ref = λ x. x }, (Num.vLit 0, tt)))),
+              ) 14
               (List._∷_ 0 (List._∷_ 3 List.[])) (Call.sub-id 𝓤 H A W (G34 .slots)) (
                 ShrSlice.spares-sslice 𝓤 H A W (Referent.rtF (Referent.fInt Syntax.w8)) (Syntax.tyRef
                     (Syntax.named 0) Syntax.imm (Syntax.tyInt Syntax.w8)) 0,
@@ -4327,7 +4600,7 @@ module _ (claims· : Claims) where
 
           d21 : Typed.Typed 𝓤 H A 𝓣 E G33 b20 Δ2 (at21 bs)
           d21 = Typed.s-seq 𝓤 H A W 𝓣 E G33 G34 b14 b19 Δ2 (Typed.ask (s30 bs)) (at20 bs) (Relend.t-sl-aggregate 𝓤 H A W E (Referent.rtF (Referent.fInt Syntax.w8)) 𝓣 (Relend.asMut
-              (Referent.rtF (Referent.fInt Syntax.w8))) G33 15 16 3 (Syntax.tyRef Syntax.erased Syntax.mut (Syntax.tyInt Syntax.w8)) (Syntax.tyRef Syntax.erased Syntax.mut
+              (Referent.rtF (Referent.fInt Syntax.w8))) G33 16 17 3 (Syntax.tyRef Syntax.erased Syntax.mut (Syntax.tyInt Syntax.w8)) (Syntax.tyRef Syntax.erased Syntax.mut
               (Syntax.tyInt Syntax.w8)) (λ x. x) (Scalar.oFld 4 (List._∷_ (Syntax.field 1) List.[]) (Syntax.tyInt Syntax.w64) 8 λ v. Shared.lenV (v .0)) (Reads'.as-is 𝓤 H A
               (Relend.msptr (Referent.rtF (Referent.fInt Syntax.w8)) (Syntax.tyRef Syntax.erased Syntax.mut (Syntax.tyInt Syntax.w8)) 3)) (Reads'.room-gone 𝓤 H A (Syntax.tyStruct
               (List._∷_ 38 (List._∷_ 91 (List._∷_ 93 List.[]))) (Syntax.tcons (Syntax.tyRef Syntax.erased Syntax.mut (Syntax.tyInt Syntax.w8)) (Syntax.tcons (Syntax.tyInt
@@ -4338,7 +4611,7 @@ module _ (claims· : Claims) where
               ) Path'.refl Path'.refl λ b o k. tt) d20
 
           d22 : Typed.Typed 𝓤 H A 𝓣 E G32 b21 Δ2 (at22 bs)
-          d22 = Typed.s-seq 𝓤 H A W 𝓣 E G32 G33 b13 b20 Δ2 (Typed.give (s29 bs)) (at21 bs) (Relend.t-sl-relend 𝓤 H A W E (Referent.rtF (Referent.fInt Syntax.w8)) 𝓣 G32 4 15 2 3
+          d22 = Typed.s-seq 𝓤 H A W 𝓣 E G32 G33 b13 b20 Δ2 (Typed.give (s29 bs)) (at21 bs) (Relend.t-sl-relend 𝓤 H A W E (Referent.rtF (Referent.fInt Syntax.w8)) 𝓣 G32 4 16 2 3
               (Syntax.tyRef (Syntax.named 2) Syntax.mut (Syntax.tyInt Syntax.w8)) (Syntax.tyRef Syntax.erased Syntax.mut (Syntax.tyInt Syntax.w8)) (Row.lease (κs .1 .1 .0) (qs .1
               .1 .0)) 0 (λ x. x) (Reads'.as-is 𝓤 H A (Mut.mslice (Referent.rtF (Referent.fInt Syntax.w8)) (Syntax.tyRef (Syntax.named 2) Syntax.mut (Syntax.tyInt Syntax.w8)) 2))
               (Reads'.room-gone 𝓤 H A (Syntax.tyRef Syntax.erased Syntax.mut (Syntax.tyInt Syntax.w8))) Path'.refl tt Path'.refl Path'.refl Path'.refl λ b o. tt) d21
@@ -4372,7 +4645,7 @@ module _ (claims· : Claims) where
                                     tt,
                                     (
                                       tt,
-                                      (tt, (tt, (tt, (tt, (tt, (tt, (tt, (tt, tt)))))))),
+                                      (tt, (tt, (tt, (tt, (tt, (tt, (tt, (tt, (tt, tt))))))))),
                                     ),
                                   ),
                                 ),
@@ -4399,11 +4672,11 @@ module _ (claims· : Claims) where
 
           d25 : Typed.Typed 𝓤 H A 𝓣 E G29 b22 Δ2 (at25 bs)
           d25 = Typed.s-seq 𝓤 H A W 𝓣 E G29 G30 b12 b21 Δ2 (Typed.both (s26 bs)) (at24 bs) (Plain.t-call-plain 𝓤 H A W 𝓣 0 ps·1 r·1 (claims· .2) (claims· .3)
-              "types::CodestreamOffset::position" (known .1) E (λ pos β. β) G29 (record { pos = 7; st = List.[]; d = 0; at = λ x. x }, tt) 14 List.[] (Call.sub-id 𝓤 H A W (G29
+              "types::CodestreamOffset::position" (known .1) E (λ pos β. β) G29 (record { pos = 7; st = List.[]; d = 0; at = λ x. x }, tt) 15 List.[] (Call.sub-id 𝓤 H A W (G29
               .slots)) (
                 (
-                  Yields.yields-copy 𝓤 H A W (λ ρ. Unit) (Declared'.row CodestreamOffset.the-type) Path'.refl (Copies.cStruct CodestreamOffset.the-type Laws'3.the-laws
-                      Laws'3.the-copy .copy 𝓤 H A W) (Rows.whole (Declared'.row CodestreamOffset.the-type)) (λ x. x) (λ x. x) (λ ρ told. Local.mem-whole 𝓤 H A W (Declared'.row
+                  Yields.yields-copy 𝓤 H A W (λ ρ. Unit) (Declared'.row CodestreamOffset.the-type) Path'.refl (Copies.cStruct CodestreamOffset.the-type Laws'4.the-laws
+                      Laws'4.the-copy .copy 𝓤 H A W) (Rows.whole (Declared'.row CodestreamOffset.the-type)) (λ x. x) (λ x. x) (λ ρ told. Local.mem-whole 𝓤 H A W (Declared'.row
                       CodestreamOffset.the-type) ρ) λ ρ told. Local.whole-mem 𝓤 H A W (Declared'.row CodestreamOffset.the-type) ρ,
                   Path'.refl,
                 ),
@@ -4412,26 +4685,36 @@ module _ (claims· : Claims) where
               Syntax.w64)) tt Path'.refl) d24
 
           d26 : Typed.Typed 𝓤 H A 𝓣 E G28 b22 Δ2 (at26 bs)
-          d26 = Typed.g-pre 𝓤 H A W 𝓣 E G28 G29 b22 Δ2 (Typed.pass T28 T29 (s25 bs)) (at25 bs) (Scalar.g-room 𝓤 H A W E G28 12 Syntax.tyBool (Scalar.room-sc 𝓤 H A W Row.sBool)) d25
+          d26 = Typed.g-pre 𝓤 H A W 𝓣 E G28 G29 b22 Δ2 (Typed.pass T28 T29 (s25 bs)) (at25 bs) (Scalar.g-room 𝓤 H A W E G28 13 Syntax.tyBool (Scalar.room-sc 𝓤 H A W Row.sBool)) d25
 
           d27 : Typed.Typed 𝓤 H A 𝓣 E G27 b22 Δ2 (at27 bs)
-          d27 = Typed.g-pre 𝓤 H A W 𝓣 E G27 G28 b22 Δ2 (Typed.pass T27 T28 (s24 bs)) (at26 bs) (Scalar.g-room 𝓤 H A W E G27 2 (Syntax.tyEnum (List._∷_ 104 (List._∷_ 101 (List._∷_
-              97 (List._∷_ 100 (List._∷_ 101 (List._∷_ 114 (List._∷_ 58 (List._∷_ 58 (List._∷_ 110 (List._∷_ 117 (List._∷_ 109 (List._∷_ 98 (List._∷_ 101 (List._∷_ 114 (List._∷_
-              105 (List._∷_ 110 (List._∷_ 103 (List._∷_ 58 (List._∷_ 58 (List._∷_ 78 (List._∷_ 117 (List._∷_ 109 (List._∷_ 98 (List._∷_ 101 (List._∷_ 114 (List._∷_ 105 (List._∷_
-              110 (List._∷_ 103 List.[])))))))))))))))))))))))))))) (Syntax.ttcons Syntax.tnil (Syntax.ttcons Syntax.tnil Syntax.ttnil))) (Local.room-whole 𝓤 H A W (Declared.row
-              Numbering.the-type) (Syntax.tyEnum (List._∷_ 104 (List._∷_ 101 (List._∷_ 97 (List._∷_ 100 (List._∷_ 101 (List._∷_ 114 (List._∷_ 58 (List._∷_ 58 (List._∷_ 110
-              (List._∷_ 117 (List._∷_ 109 (List._∷_ 98 (List._∷_ 101 (List._∷_ 114 (List._∷_ 105 (List._∷_ 110 (List._∷_ 103 (List._∷_ 58 (List._∷_ 58 (List._∷_ 78 (List._∷_ 117
-              (List._∷_ 109 (List._∷_ 98 (List._∷_ 101 (List._∷_ 114 (List._∷_ 105 (List._∷_ 110 (List._∷_ 103 List.[])))))))))))))))))))))))))))) (Syntax.ttcons Syntax.tnil
-              (Syntax.ttcons Syntax.tnil Syntax.ttnil))) Path'.refl)) d26
+          d27 = Typed.g-pre 𝓤 H A W 𝓣 E G27 G28 b22 Δ2 (Typed.pass T27 T28 (s24 bs)) (at26 bs) (Scalar.g-room 𝓤 H A W E G27 2 (Syntax.tyStruct (List._∷_ 104 (List._∷_ 101 (List._∷_
+              97 (List._∷_ 100 (List._∷_ 101 (List._∷_ 114 (List._∷_ 58 (List._∷_ 58 (List._∷_ 114 (List._∷_ 101 (List._∷_ 97 (List._∷_ 100 (List._∷_ 105 (List._∷_ 110 (List._∷_
+              103 (List._∷_ 58 (List._∷_ 58 (List._∷_ 82 (List._∷_ 101 (List._∷_ 97 (List._∷_ 100 (List._∷_ 105 (List._∷_ 110 (List._∷_ 103 List.[]))))))))))))))))))))))))
+              (Syntax.tcons (Syntax.tyEnum (List._∷_ 104 (List._∷_ 101 (List._∷_ 97 (List._∷_ 100 (List._∷_ 101 (List._∷_ 114 (List._∷_ 58 (List._∷_ 58 (List._∷_ 110 (List._∷_ 117
+              (List._∷_ 109 (List._∷_ 98 (List._∷_ 101 (List._∷_ 114 (List._∷_ 105 (List._∷_ 110 (List._∷_ 103 (List._∷_ 58 (List._∷_ 58 (List._∷_ 78 (List._∷_ 117 (List._∷_ 109
+              (List._∷_ 98 (List._∷_ 101 (List._∷_ 114 (List._∷_ 105 (List._∷_ 110 (List._∷_ 103 List.[])))))))))))))))))))))))))))) (Syntax.ttcons Syntax.tnil (Syntax.ttcons
+              Syntax.tnil Syntax.ttnil))) (Syntax.tcons (Syntax.tyEnum (List._∷_ 104 (List._∷_ 101 (List._∷_ 97 (List._∷_ 100 (List._∷_ 101 (List._∷_ 114 (List._∷_ 58 (List._∷_ 58
+              (List._∷_ 101 (List._∷_ 100 (List._∷_ 105 (List._∷_ 116 (List._∷_ 105 (List._∷_ 111 (List._∷_ 110 (List._∷_ 58 (List._∷_ 58 (List._∷_ 69 (List._∷_ 100 (List._∷_ 105
+              (List._∷_ 116 (List._∷_ 105 (List._∷_ 111 (List._∷_ 110 List.[])))))))))))))))))))))))) (Syntax.ttcons Syntax.tnil (Syntax.ttcons Syntax.tnil Syntax.ttnil)))
+              Syntax.tnil))) (Local.room-whole 𝓤 H A W (Declared'.row Reading.the-type) (Syntax.tyStruct (List._∷_ 104 (List._∷_ 101 (List._∷_ 97 (List._∷_ 100 (List._∷_ 101
+              (List._∷_ 114 (List._∷_ 58 (List._∷_ 58 (List._∷_ 114 (List._∷_ 101 (List._∷_ 97 (List._∷_ 100 (List._∷_ 105 (List._∷_ 110 (List._∷_ 103 (List._∷_ 58 (List._∷_ 58
+              (List._∷_ 82 (List._∷_ 101 (List._∷_ 97 (List._∷_ 100 (List._∷_ 105 (List._∷_ 110 (List._∷_ 103 List.[])))))))))))))))))))))))) (Syntax.tcons (Syntax.tyEnum (List._∷_
+              104 (List._∷_ 101 (List._∷_ 97 (List._∷_ 100 (List._∷_ 101 (List._∷_ 114 (List._∷_ 58 (List._∷_ 58 (List._∷_ 110 (List._∷_ 117 (List._∷_ 109 (List._∷_ 98 (List._∷_
+              101 (List._∷_ 114 (List._∷_ 105 (List._∷_ 110 (List._∷_ 103 (List._∷_ 58 (List._∷_ 58 (List._∷_ 78 (List._∷_ 117 (List._∷_ 109 (List._∷_ 98 (List._∷_ 101 (List._∷_
+              114 (List._∷_ 105 (List._∷_ 110 (List._∷_ 103 List.[])))))))))))))))))))))))))))) (Syntax.ttcons Syntax.tnil (Syntax.ttcons Syntax.tnil Syntax.ttnil))) (Syntax.tcons
+              (Syntax.tyEnum (List._∷_ 104 (List._∷_ 101 (List._∷_ 97 (List._∷_ 100 (List._∷_ 101 (List._∷_ 114 (List._∷_ 58 (List._∷_ 58 (List._∷_ 101 (List._∷_ 100 (List._∷_ 105
+              (List._∷_ 116 (List._∷_ 105 (List._∷_ 111 (List._∷_ 110 (List._∷_ 58 (List._∷_ 58 (List._∷_ 69 (List._∷_ 100 (List._∷_ 105 (List._∷_ 116 (List._∷_ 105 (List._∷_ 111
+              (List._∷_ 110 List.[])))))))))))))))))))))))) (Syntax.ttcons Syntax.tnil (Syntax.ttcons Syntax.tnil Syntax.ttnil))) Syntax.tnil))) Path'.refl)) d26
 
           d28 : Typed.Typed 𝓤 H A 𝓣 E G44 b23 Δ2 (at28 bs)
           d28 = Typed.t-skip 𝓤 H A W 𝓣 E Δ2 tt
 
           d29 : Typed.Typed 𝓤 H A 𝓣 E G27 b23 Δ2 (at29 bs)
-          d29 = Typed.g-pre 𝓤 H A W 𝓣 E G27 G44 b23 Δ2 (Typed.pass T27 T44 (s40 bs)) (at28 bs) (Scalar.g-room 𝓤 H A W E G27 12 Syntax.tyBool (Scalar.room-sc 𝓤 H A W Row.sBool)) d28
+          d29 = Typed.g-pre 𝓤 H A W 𝓣 E G27 G44 b23 Δ2 (Typed.pass T27 T44 (s40 bs)) (at28 bs) (Scalar.g-room 𝓤 H A W E G27 13 Syntax.tyBool (Scalar.room-sc 𝓤 H A W Row.sBool)) d28
 
           d30 : Typed.Typed 𝓤 H A 𝓣 E G27 b24 Δ2 (at30 bs)
-          d30 = Scalar.t-cond 𝓤 H A W E 𝓣 G27 12 (λ x. x) b22 b23 Δ2 (at27 bs) (at29 bs) (Scalar.reads-sc 𝓤 H A W Row.sBool) Path'.refl d27 d29
+          d30 = Scalar.t-cond 𝓤 H A W E 𝓣 G27 13 (λ x. x) b22 b23 Δ2 (at27 bs) (at29 bs) (Scalar.reads-sc 𝓤 H A W Row.sBool) Path'.refl d27 d29
 
           d31 : Typed.Typed 𝓤 H A 𝓣 E G25 b24 Δ2 (at31 bs)
           d31 = Typed.g-pre 𝓤 H A W 𝓣 E G25 G27 b24 Δ2 (Typed.pass T25 T27 (s23 bs)) (at30 bs) (Scalar.g-room 𝓤 H A W E G25 6 (Syntax.tyStruct (List._∷_ 104 (List._∷_ 101 (List._∷_
@@ -4449,11 +4732,11 @@ module _ (claims· : Claims) where
               (List._∷_ 102 (List._∷_ 115 (List._∷_ 101 (List._∷_ 116 List.[]))))))))))))))))))))))) (Syntax.tcons (Syntax.tyInt Syntax.w64) Syntax.tnil)) (Syntax.tcons
               (Syntax.tyInt Syntax.w64) (Syntax.tcons (Syntax.tyInt Syntax.w64) (Syntax.tcons (Syntax.tyInt Syntax.w64) Syntax.tnil))))) Path'.refl)) d30
 
-          d32 : Typed.Typed 𝓤 H A 𝓣 E G65 b32 Δ0 (at32 bs)
+          d32 : Typed.Typed 𝓤 H A 𝓣 E G67 b33 Δ0 (at32 bs)
           d32 = Typed.t-return 𝓤 H A W 𝓣 E Δ0 tt
 
-          d33 : Typed.Typed 𝓤 H A 𝓣 E G64 b32 Δ0 (at33 bs)
-          d33 = Typed.g-pre 𝓤 H A W 𝓣 E G64 G65 b32 Δ0 (Typed.pass T64 T65 (s61 bs)) (at32 bs) (Scalar.g-room 𝓤 H A W E G64 5 (Syntax.tyEnum (List._∷_ 104 (List._∷_ 101 (List._∷_
+          d33 : Typed.Typed 𝓤 H A 𝓣 E G66 b33 Δ0 (at33 bs)
+          d33 = Typed.g-pre 𝓤 H A W 𝓣 E G66 G67 b33 Δ0 (Typed.pass T66 T67 (s63 bs)) (at32 bs) (Scalar.g-room 𝓤 H A W E G66 5 (Syntax.tyEnum (List._∷_ 104 (List._∷_ 101 (List._∷_
               97 (List._∷_ 100 (List._∷_ 101 (List._∷_ 114 (List._∷_ 58 (List._∷_ 58 (List._∷_ 112 (List._∷_ 97 (List._∷_ 114 (List._∷_ 115 (List._∷_ 101 (List._∷_ 58 (List._∷_ 58
               (List._∷_ 77 (List._∷_ 97 (List._∷_ 105 (List._∷_ 110 (List._∷_ 72 (List._∷_ 101 (List._∷_ 97 (List._∷_ 100 (List._∷_ 101 (List._∷_ 114
               List.[]))))))))))))))))))))))))) (Syntax.ttcons (Syntax.tcons (Syntax.tyStruct (List._∷_ 104 (List._∷_ 101 (List._∷_ 97 (List._∷_ 100 (List._∷_ 101 (List._∷_ 114
@@ -4478,8 +4761,8 @@ module _ (claims· : Claims) where
               112 (List._∷_ 101 (List._∷_ 115 (List._∷_ 58 (List._∷_ 58 (List._∷_ 82 (List._∷_ 101 (List._∷_ 102 (List._∷_ 117 (List._∷_ 115 (List._∷_ 97 (List._∷_ 108
               List.[])))))))))))))) (Syntax.tcons (Syntax.tyInt Syntax.w32) (Syntax.tcons (Syntax.tyInt Syntax.w64) Syntax.tnil))) Syntax.tnil) Syntax.ttnil))) Path'.refl)) d32
 
-          d34 : Typed.Typed 𝓤 H A 𝓣 E G63 b33 Δ0 (at34 bs)
-          d34 = Typed.s-seq 𝓤 H A W 𝓣 E G63 G64 b31 b32 Δ0 (Typed.pass T62 T64 (s60 bs)) (at33 bs) (LocalCopy.t-val-copy 𝓤 H A W E 𝓣 (λ ρ. Unit) G63 5 0 (Declared.row
+          d34 : Typed.Typed 𝓤 H A 𝓣 E G65 b34 Δ0 (at34 bs)
+          d34 = Typed.s-seq 𝓤 H A W 𝓣 E G65 G66 b32 b33 Δ0 (Typed.pass T64 T66 (s62 bs)) (at33 bs) (LocalCopy.t-val-copy 𝓤 H A W E 𝓣 (λ ρ. Unit) G65 5 0 (Declared.row
               MainHeader.the-type) (Syntax.tyEnum (List._∷_ 104 (List._∷_ 101 (List._∷_ 97 (List._∷_ 100 (List._∷_ 101 (List._∷_ 114 (List._∷_ 58 (List._∷_ 58 (List._∷_ 112
               (List._∷_ 97 (List._∷_ 114 (List._∷_ 115 (List._∷_ 101 (List._∷_ 58 (List._∷_ 58 (List._∷_ 77 (List._∷_ 97 (List._∷_ 105 (List._∷_ 110 (List._∷_ 72 (List._∷_ 101
               (List._∷_ 97 (List._∷_ 100 (List._∷_ 101 (List._∷_ 114 List.[]))))))))))))))))))))))))) (Syntax.ttcons (Syntax.tcons (Syntax.tyStruct (List._∷_ 104 (List._∷_ 101
@@ -4503,7 +4786,7 @@ module _ (claims· : Claims) where
               (Syntax.tcons (Syntax.tyInt Syntax.w64) Syntax.tnil))))) Syntax.tnil) (Syntax.ttcons (Syntax.tcons (Syntax.tyStruct (List._∷_ 116 (List._∷_ 121 (List._∷_ 112
               (List._∷_ 101 (List._∷_ 115 (List._∷_ 58 (List._∷_ 58 (List._∷_ 82 (List._∷_ 101 (List._∷_ 102 (List._∷_ 117 (List._∷_ 115 (List._∷_ 97 (List._∷_ 108
               List.[])))))))))))))) (Syntax.tcons (Syntax.tyInt Syntax.w32) (Syntax.tcons (Syntax.tyInt Syntax.w64) Syntax.tnil))) Syntax.tnil) Syntax.ttnil))) (Rows.whole
-              (Declared.row MainHeader.the-type)) (Rows.whole (Declared.row MainHeader.the-type)) (λ x. x) (λ x. x) (λ x. x) Path'.refl (Own.told-none 𝓤 H A (G63 .slots))
+              (Declared.row MainHeader.the-type)) (Rows.whole (Declared.row MainHeader.the-type)) (λ x. x) (λ x. x) (λ x. x) Path'.refl (Own.told-none 𝓤 H A (G65 .slots))
               (Yields.yields-copy 𝓤 H A W (λ ρ. Unit) (Declared.row MainHeader.the-type) Path'.refl (Copies.cEnum MainHeader.the-type Laws'.the-laws Laws'.the-copy .copy 𝓤 H A W)
               (Rows.whole (Declared.row MainHeader.the-type)) (λ x. x) (λ x. x) (λ ρ told. Local.mem-whole 𝓤 H A W (Declared.row MainHeader.the-type) ρ) λ ρ told. Local.whole-mem 𝓤
               H A W (Declared.row MainHeader.the-type) ρ) (Reads'.room-gone 𝓤 H A (Syntax.tyEnum (List._∷_ 104 (List._∷_ 101 (List._∷_ 97 (List._∷_ 100 (List._∷_ 101 (List._∷_ 114
@@ -4521,41 +4804,41 @@ module _ (claims· : Claims) where
               H A W (λ ρ. Unit) (Declared.row MainHeader.the-type) Path'.refl (Rows.whole (Declared.row MainHeader.the-type)) (λ x. x) λ ρ told. Local.whole-mem 𝓤 H A W
               (Declared.row MainHeader.the-type) ρ) Path'.refl Path'.refl) d33
 
-          d35 : Typed.Typed 𝓤 H A 𝓣 E G62 b33 Δ0 (at35 bs)
-          d35 = Typed.g-pre 𝓤 H A W 𝓣 E G62 G63 b33 Δ0 (λ Ψ. Ψ) (at34 bs) (Lifetime.g-forget 𝓤 H A W E G62 5 Row.dead Path'.refl) d34
+          d35 : Typed.Typed 𝓤 H A 𝓣 E G64 b34 Δ0 (at35 bs)
+          d35 = Typed.g-pre 𝓤 H A W 𝓣 E G64 G65 b34 Δ0 (λ Ψ. Ψ) (at34 bs) (Lifetime.g-forget 𝓤 H A W E G64 5 Row.dead Path'.refl) d34
 
-          d36 : Typed.Typed 𝓤 H A 𝓣 E G61 b33 Δ0 (at36 bs)
-          d36 = Typed.g-pre 𝓤 H A W 𝓣 E G61 G62 b33 Δ0 (Typed.give (s58 bs)) (at35 bs) (Know.g-sl-known 𝓤 H A W (Referent.fInt Syntax.w8) E G61 4 2 (Syntax.tyRef (Syntax.named 2)
+          d36 : Typed.Typed 𝓤 H A 𝓣 E G63 b34 Δ0 (at36 bs)
+          d36 = Typed.g-pre 𝓤 H A W 𝓣 E G63 G64 b34 Δ0 (Typed.give (s60 bs)) (at35 bs) (Know.g-sl-known 𝓤 H A W (Referent.fInt Syntax.w8) E G63 4 2 (Syntax.tyRef (Syntax.named 2)
               Syntax.mut (Syntax.tyInt Syntax.w8)) (Row.lease (κs .1 .1 .0) (qs .1 .1 .0)) 0 (λ x. x) record { fits = Dec'.lit< tt } (Reads'.as-is 𝓤 H A (Mut.mslice (Referent.rtF
               (Referent.fInt Syntax.w8)) (Syntax.tyRef (Syntax.named 2) Syntax.mut (Syntax.tyInt Syntax.w8)) 2)) Path'.refl tt) d35
 
-          d37 : Typed.Typed 𝓤 H A 𝓣 E G60 b33 Δ0 (at37 bs)
-          d37 = Typed.g-pre 𝓤 H A W 𝓣 E G60 G61 b33 Δ0 (Typed.both (s57 bs)) (at36 bs) (Relend.g-back-sl 𝓤 H A W E (Referent.rtF (Referent.fInt Syntax.w8)) G60 21 4 2 5
+          d37 : Typed.Typed 𝓤 H A 𝓣 E G62 b34 Δ0 (at37 bs)
+          d37 = Typed.g-pre 𝓤 H A W 𝓣 E G62 G63 b34 Δ0 (Typed.both (s59 bs)) (at36 bs) (Relend.g-back-sl 𝓤 H A W E (Referent.rtF (Referent.fInt Syntax.w8)) G62 22 4 2 5
               (Syntax.tyRef (Syntax.named 2) Syntax.mut (Syntax.tyInt Syntax.w8)) (Syntax.tyRef Syntax.erased Syntax.mut (Syntax.tyInt Syntax.w8)) (Row.lease (κs .1 .1 .0) (qs .1
               .1 .0)) (λ x. x) (λ x. x) (Reads'.as-is 𝓤 H A (Mut.msleft (Referent.rtF (Referent.fInt Syntax.w8)) (Syntax.tyRef Syntax.erased Syntax.mut (Syntax.tyInt Syntax.w8))))
               (Reads'.as-is 𝓤 H A (Relend.mslice-owed (Referent.rtF (Referent.fInt Syntax.w8)) (Syntax.tyRef (Syntax.named 2) Syntax.mut (Syntax.tyInt Syntax.w8)) 2 5 (Row.lease
               (κs .1 .1 .0) (qs .1 .1 .0)))) Path'.refl Path'.refl) d36
 
-          d38 : Typed.Typed 𝓤 H A 𝓣 E G59 b33 Δ0 (at38 bs)
-          d38 = Typed.g-pre 𝓤 H A W 𝓣 E G59 G60 b33 Δ0 (λ Ψ. Ψ) (at37 bs) (Lifetime.g-end 𝓤 H A W E G59 5 Path'.refl) d37
+          d38 : Typed.Typed 𝓤 H A 𝓣 E G61 b34 Δ0 (at38 bs)
+          d38 = Typed.g-pre 𝓤 H A W 𝓣 E G61 G62 b34 Δ0 (λ Ψ. Ψ) (at37 bs) (Lifetime.g-end 𝓤 H A W E G61 5 Path'.refl) d37
 
-          d39 : Typed.Typed 𝓤 H A 𝓣 E G58 b33 Δ0 (at39 bs)
-          d39 = Typed.g-pre 𝓤 H A W 𝓣 E G58 G59 b33 Δ0 (Typed.pass T58 T59 (s55 bs)) (at38 bs) (Scalar.g-room 𝓤 H A W E G58 17 Syntax.tyUnit (Scalar.room-sc 𝓤 H A W Row.sUnit)) d38
+          d39 : Typed.Typed 𝓤 H A 𝓣 E G60 b34 Δ0 (at39 bs)
+          d39 = Typed.g-pre 𝓤 H A W 𝓣 E G60 G61 b34 Δ0 (Typed.pass T60 T61 (s57 bs)) (at38 bs) (Scalar.g-room 𝓤 H A W E G60 18 Syntax.tyUnit (Scalar.room-sc 𝓤 H A W Row.sUnit)) d38
 
-          d40 : Typed.Typed 𝓤 H A 𝓣 E G57 b34 Δ0 (at40 bs)
-          d40 = Typed.s-seq 𝓤 H A W 𝓣 E G57 G58 b30 b33 Δ0 (Typed.both (s54 bs)) (at39 bs) (Plain.t-call-plain 𝓤 H A W 𝓣 2 ps·4 r·4 (claims· .8) (claims· .9) "header::strip::strip"
-              (known .4) E (λ pos β. β) G57 (
+          d40 : Typed.Typed 𝓤 H A 𝓣 E G59 b35 Δ0 (at40 bs)
+          d40 = Typed.s-seq 𝓤 H A W 𝓣 E G59 G60 b31 b34 Δ0 (Typed.both (s56 bs)) (at39 bs) (Plain.t-call-plain 𝓤 H A W 𝓣 2 ps·4 r·4 (claims· .8) (claims· .9) "header::strip::strip"
+              (known .4) E (λ pos β. β) G59 (
                 record { pos = 1; ty = Syntax.tyRef (Syntax.named 0) Syntax.imm (Syntax.tyInt Syntax.w8); ref = λ x. x },
                 (
                   record {
-                    pos = 21;
+                    pos = 22;
                     ty =
                         Syntax.tyRef Syntax.erased Syntax.mut (Syntax.tyInt Syntax.w8);
                     ref = λ x. x;
                   },
                   tt,
                 ),
-              ) 17 (List._∷_ 0 (List._∷_ 5 List.[])) (Call.sub-id 𝓤 H A W (G57 .slots)) (
+              ) 18 (List._∷_ 0 (List._∷_ 5 List.[])) (Call.sub-id 𝓤 H A W (G59 .slots)) (
                 ShrSlice.spares-sslice 𝓤 H A W (Referent.rtF (Referent.fInt Syntax.w8)) (Syntax.tyRef (Syntax.named 0) Syntax.imm (Syntax.tyInt Syntax.w8)) 0,
                 Shared.reads-sslice 𝓤
                     H A W (Referent.rtF (Referent.fInt Syntax.w8)) (Syntax.tyRef (Syntax.named 0) Syntax.imm (Syntax.tyInt Syntax.w8)) 0,
@@ -4570,9 +4853,9 @@ module _ (claims· : Claims) where
                 ),
               ) (Reads'.room-gone 𝓤 H A Syntax.tyUnit) (tt, (tt, tt)) Path'.refl) d39
 
-          d41 : Typed.Typed 𝓤 H A 𝓣 E G56 b35 Δ0 (at41 bs)
-          d41 = Typed.s-seq 𝓤 H A W 𝓣 E G56 G57 b29 b34 Δ0 (Typed.ask (s53 bs)) (at40 bs) (Relend.t-sl-aggregate 𝓤 H A W E (Referent.rtF (Referent.fInt Syntax.w8)) 𝓣 (Relend.asMut
-              (Referent.rtF (Referent.fInt Syntax.w8))) G56 20 21 5 (Syntax.tyRef Syntax.erased Syntax.mut (Syntax.tyInt Syntax.w8)) (Syntax.tyRef Syntax.erased Syntax.mut
+          d41 : Typed.Typed 𝓤 H A 𝓣 E G58 b36 Δ0 (at41 bs)
+          d41 = Typed.s-seq 𝓤 H A W 𝓣 E G58 G59 b30 b35 Δ0 (Typed.ask (s55 bs)) (at40 bs) (Relend.t-sl-aggregate 𝓤 H A W E (Referent.rtF (Referent.fInt Syntax.w8)) 𝓣 (Relend.asMut
+              (Referent.rtF (Referent.fInt Syntax.w8))) G58 21 22 5 (Syntax.tyRef Syntax.erased Syntax.mut (Syntax.tyInt Syntax.w8)) (Syntax.tyRef Syntax.erased Syntax.mut
               (Syntax.tyInt Syntax.w8)) (λ x. x) (Scalar.oFld 4 (List._∷_ (Syntax.field 1) List.[]) (Syntax.tyInt Syntax.w64) 8 λ v. Shared.lenV (v .0)) (Reads'.as-is 𝓤 H A
               (Relend.msptr (Referent.rtF (Referent.fInt Syntax.w8)) (Syntax.tyRef Syntax.erased Syntax.mut (Syntax.tyInt Syntax.w8)) 5)) (Reads'.room-gone 𝓤 H A (Syntax.tyStruct
               (List._∷_ 38 (List._∷_ 91 (List._∷_ 93 List.[]))) (Syntax.tcons (Syntax.tyRef Syntax.erased Syntax.mut (Syntax.tyInt Syntax.w8)) (Syntax.tcons (Syntax.tyInt
@@ -4582,14 +4865,14 @@ module _ (claims· : Claims) where
                 Path'.refl,
               ) Path'.refl Path'.refl λ b o k. tt) d40
 
-          d42 : Typed.Typed 𝓤 H A 𝓣 E G55 b36 Δ0 (at42 bs)
-          d42 = Typed.s-seq 𝓤 H A W 𝓣 E G55 G56 b28 b35 Δ0 (Typed.give (s52 bs)) (at41 bs) (Relend.t-sl-relend 𝓤 H A W E (Referent.rtF (Referent.fInt Syntax.w8)) 𝓣 G55 4 20 2 5
+          d42 : Typed.Typed 𝓤 H A 𝓣 E G57 b37 Δ0 (at42 bs)
+          d42 = Typed.s-seq 𝓤 H A W 𝓣 E G57 G58 b29 b36 Δ0 (Typed.give (s54 bs)) (at41 bs) (Relend.t-sl-relend 𝓤 H A W E (Referent.rtF (Referent.fInt Syntax.w8)) 𝓣 G57 4 21 2 5
               (Syntax.tyRef (Syntax.named 2) Syntax.mut (Syntax.tyInt Syntax.w8)) (Syntax.tyRef Syntax.erased Syntax.mut (Syntax.tyInt Syntax.w8)) (Row.lease (κs .1 .1 .0) (qs .1
               .1 .0)) 0 (λ x. x) (Reads'.as-is 𝓤 H A (Mut.mslice (Referent.rtF (Referent.fInt Syntax.w8)) (Syntax.tyRef (Syntax.named 2) Syntax.mut (Syntax.tyInt Syntax.w8)) 2))
               (Reads'.room-gone 𝓤 H A (Syntax.tyRef Syntax.erased Syntax.mut (Syntax.tyInt Syntax.w8))) Path'.refl tt Path'.refl Path'.refl Path'.refl λ b o. tt) d41
 
-          d43 : Typed.Typed 𝓤 H A 𝓣 E G54 b36 Δ0 (at43 bs)
-          d43 = Typed.g-pre 𝓤 H A W 𝓣 E G54 G55 b36 Δ0 (λ Ψ. Ψ) (at42 bs) (Lifetime.g-begin 𝓤 H A W E G54 5 (
+          d43 : Typed.Typed 𝓤 H A 𝓣 E G56 b37 Δ0 (at43 bs)
+          d43 = Typed.g-pre 𝓤 H A W 𝓣 E G56 G57 b37 Δ0 (λ Ψ. Ψ) (at42 bs) (Lifetime.g-begin 𝓤 H A W E G56 5 (
             tt,
             (
               tt,
@@ -4617,7 +4900,7 @@ module _ (claims· : Claims) where
                                     tt,
                                     (
                                       tt,
-                                      (tt, (tt, (tt, (tt, (tt, (tt, (tt, (tt, tt)))))))),
+                                      (tt, (tt, (tt, (tt, (tt, (tt, (tt, (tt, (tt, tt))))))))),
                                     ),
                                   ),
                                 ),
@@ -4633,43 +4916,43 @@ module _ (claims· : Claims) where
             ),
           )) d42
 
-          d44 : Typed.Typed 𝓤 H A 𝓣 E G53 b36 Δ0 (at44 bs)
-          d44 = Typed.g-pre 𝓤 H A W 𝓣 E G53 G54 b36 Δ0 (λ Ψ. Ψ) (at43 bs) (Lifetime.g-forget 𝓤 H A W E G53 4 Row.dead Path'.refl) d43
+          d44 : Typed.Typed 𝓤 H A 𝓣 E G55 b37 Δ0 (at44 bs)
+          d44 = Typed.g-pre 𝓤 H A W 𝓣 E G55 G56 b37 Δ0 (λ Ψ. Ψ) (at43 bs) (Lifetime.g-forget 𝓤 H A W E G55 4 Row.dead Path'.refl) d43
 
-          d45 : Typed.Typed 𝓤 H A 𝓣 E G52 b36 Δ0 (at45 bs)
-          d45 = Typed.g-pre 𝓤 H A W 𝓣 E G52 G53 b36 Δ0 (Typed.both (s49 bs)) (at44 bs) (Relend.g-back-sl 𝓤 H A W E LentTilePartEntry.row G52 19 3 1 4 (Syntax.tyRef (Syntax.named 1)
+          d45 : Typed.Typed 𝓤 H A 𝓣 E G54 b37 Δ0 (at45 bs)
+          d45 = Typed.g-pre 𝓤 H A W 𝓣 E G54 G55 b37 Δ0 (Typed.both (s51 bs)) (at44 bs) (Relend.g-back-sl 𝓤 H A W E LentTilePartEntry.row G54 20 3 1 4 (Syntax.tyRef (Syntax.named 1)
               Syntax.mut LentTilePartEntry.pointee) (Syntax.tyRef Syntax.erased Syntax.mut LentTilePartEntry.pointee) (Row.lease (κs .1 .0) (qs .1 .0)) (λ x. x) (λ x. x)
               (Reads'.as-is 𝓤 H A (Mut.msleft LentTilePartEntry.row (Syntax.tyRef Syntax.erased Syntax.mut LentTilePartEntry.pointee))) (Reads'.as-is 𝓤 H A (Relend.mslice-owed
               LentTilePartEntry.row (Syntax.tyRef (Syntax.named 1) Syntax.mut LentTilePartEntry.pointee) 1 4 (Row.lease (κs .1 .0) (qs .1 .0)))) Path'.refl Path'.refl) d44
 
-          d46 : Typed.Typed 𝓤 H A 𝓣 E G51 b36 Δ0 (at46 bs)
-          d46 = Typed.g-pre 𝓤 H A W 𝓣 E G51 G52 b36 Δ0 (λ Ψ. Ψ) (at45 bs) (Lifetime.g-end 𝓤 H A W E G51 4 Path'.refl) d45
+          d46 : Typed.Typed 𝓤 H A 𝓣 E G53 b37 Δ0 (at46 bs)
+          d46 = Typed.g-pre 𝓤 H A W 𝓣 E G53 G54 b37 Δ0 (λ Ψ. Ψ) (at45 bs) (Lifetime.g-end 𝓤 H A W E G53 4 Path'.refl) d45
 
-          d47 : Typed.Typed 𝓤 H A 𝓣 E G50 b36 Δ0 (at47 bs)
-          d47 = Typed.g-pre 𝓤 H A W 𝓣 E G50 G51 b36 Δ0 (Typed.pass T50 T51 (s47 bs)) (at46 bs) (Scalar.g-room 𝓤 H A W E G50 17 Syntax.tyUnit (Scalar.room-sc 𝓤 H A W Row.sUnit)) d46
+          d47 : Typed.Typed 𝓤 H A 𝓣 E G52 b37 Δ0 (at47 bs)
+          d47 = Typed.g-pre 𝓤 H A W 𝓣 E G52 G53 b37 Δ0 (Typed.pass T52 T53 (s49 bs)) (at46 bs) (Scalar.g-room 𝓤 H A W E G52 18 Syntax.tyUnit (Scalar.room-sc 𝓤 H A W Row.sUnit)) d46
 
-          d48 : Typed.Typed 𝓤 H A 𝓣 E G49 b36 Δ0 (at48 bs)
-          d48 = Typed.g-pre 𝓤 H A W 𝓣 E G49 G50 b36 Δ0 (Typed.pass T49 T50 (s46 bs)) (at47 bs) (Scalar.g-room 𝓤 H A W E G49 7 (Syntax.tyStruct (List._∷_ 116 (List._∷_ 121 (List._∷_
-              112 (List._∷_ 101 (List._∷_ 115 (List._∷_ 58 (List._∷_ 58 (List._∷_ 67 (List._∷_ 111 (List._∷_ 100 (List._∷_ 101 (List._∷_ 115 (List._∷_ 116 (List._∷_ 114 (List._∷_
-              101 (List._∷_ 97 (List._∷_ 109 (List._∷_ 79 (List._∷_ 102 (List._∷_ 102 (List._∷_ 115 (List._∷_ 101 (List._∷_ 116 List.[]))))))))))))))))))))))) (Syntax.tcons
-              (Syntax.tyInt Syntax.w64) Syntax.tnil)) (Local.room-whole 𝓤 H A W (Declared'.row CodestreamOffset.the-type) (Syntax.tyStruct (List._∷_ 116 (List._∷_ 121 (List._∷_ 112
-              (List._∷_ 101 (List._∷_ 115 (List._∷_ 58 (List._∷_ 58 (List._∷_ 67 (List._∷_ 111 (List._∷_ 100 (List._∷_ 101 (List._∷_ 115 (List._∷_ 116 (List._∷_ 114 (List._∷_ 101
-              (List._∷_ 97 (List._∷_ 109 (List._∷_ 79 (List._∷_ 102 (List._∷_ 102 (List._∷_ 115 (List._∷_ 101 (List._∷_ 116 List.[]))))))))))))))))))))))) (Syntax.tcons
-              (Syntax.tyInt Syntax.w64) Syntax.tnil)) Path'.refl)) d47
-
-          d49 : Typed.Typed 𝓤 H A 𝓣 E G48 b36 Δ0 (at49 bs)
-          d49 = Typed.g-pre 𝓤 H A W 𝓣 E G48 G49 b36 Δ0 (Typed.pass T48 T49 (s45 bs)) (at48 bs) (Scalar.g-room 𝓤 H A W E G48 2 (Syntax.tyEnum (List._∷_ 104 (List._∷_ 101 (List._∷_
+          d48 : Typed.Typed 𝓤 H A 𝓣 E G51 b37 Δ0 (at48 bs)
+          d48 = Typed.g-pre 𝓤 H A W 𝓣 E G51 G52 b37 Δ0 (Typed.pass T51 T52 (s48 bs)) (at47 bs) (Scalar.g-room 𝓤 H A W E G51 8 (Syntax.tyEnum (List._∷_ 104 (List._∷_ 101 (List._∷_
               97 (List._∷_ 100 (List._∷_ 101 (List._∷_ 114 (List._∷_ 58 (List._∷_ 58 (List._∷_ 110 (List._∷_ 117 (List._∷_ 109 (List._∷_ 98 (List._∷_ 101 (List._∷_ 114 (List._∷_
               105 (List._∷_ 110 (List._∷_ 103 (List._∷_ 58 (List._∷_ 58 (List._∷_ 78 (List._∷_ 117 (List._∷_ 109 (List._∷_ 98 (List._∷_ 101 (List._∷_ 114 (List._∷_ 105 (List._∷_
               110 (List._∷_ 103 List.[])))))))))))))))))))))))))))) (Syntax.ttcons Syntax.tnil (Syntax.ttcons Syntax.tnil Syntax.ttnil))) (Local.room-whole 𝓤 H A W (Declared.row
               Numbering.the-type) (Syntax.tyEnum (List._∷_ 104 (List._∷_ 101 (List._∷_ 97 (List._∷_ 100 (List._∷_ 101 (List._∷_ 114 (List._∷_ 58 (List._∷_ 58 (List._∷_ 110
               (List._∷_ 117 (List._∷_ 109 (List._∷_ 98 (List._∷_ 101 (List._∷_ 114 (List._∷_ 105 (List._∷_ 110 (List._∷_ 103 (List._∷_ 58 (List._∷_ 58 (List._∷_ 78 (List._∷_ 117
               (List._∷_ 109 (List._∷_ 98 (List._∷_ 101 (List._∷_ 114 (List._∷_ 105 (List._∷_ 110 (List._∷_ 103 List.[])))))))))))))))))))))))))))) (Syntax.ttcons Syntax.tnil
-              (Syntax.ttcons Syntax.tnil Syntax.ttnil))) Path'.refl)) d48
+              (Syntax.ttcons Syntax.tnil Syntax.ttnil))) Path'.refl)) d47
 
-          d50 : Typed.Typed 𝓤 H A 𝓣 E G47 b37 Δ0 (at50 bs)
-          d50 = Typed.s-seq 𝓤 H A W 𝓣 E G47 G48 b27 b36 Δ0 (Typed.both (s44 bs)) (at49 bs) (Plain.t-call-plain 𝓤 H A W 𝓣 2 ps·3 r·3 (claims· .6) (claims· .7)
-              "records::main_header::fill_table" (known .3) E (λ pos β. β) G47 (
+          d49 : Typed.Typed 𝓤 H A 𝓣 E G50 b37 Δ0 (at49 bs)
+          d49 = Typed.g-pre 𝓤 H A W 𝓣 E G50 G51 b37 Δ0 (Typed.pass T50 T51 (s47 bs)) (at48 bs) (Scalar.g-room 𝓤 H A W E G50 7 (Syntax.tyStruct (List._∷_ 116 (List._∷_ 121 (List._∷_
+              112 (List._∷_ 101 (List._∷_ 115 (List._∷_ 58 (List._∷_ 58 (List._∷_ 67 (List._∷_ 111 (List._∷_ 100 (List._∷_ 101 (List._∷_ 115 (List._∷_ 116 (List._∷_ 114 (List._∷_
+              101 (List._∷_ 97 (List._∷_ 109 (List._∷_ 79 (List._∷_ 102 (List._∷_ 102 (List._∷_ 115 (List._∷_ 101 (List._∷_ 116 List.[]))))))))))))))))))))))) (Syntax.tcons
+              (Syntax.tyInt Syntax.w64) Syntax.tnil)) (Local.room-whole 𝓤 H A W (Declared'.row CodestreamOffset.the-type) (Syntax.tyStruct (List._∷_ 116 (List._∷_ 121 (List._∷_ 112
+              (List._∷_ 101 (List._∷_ 115 (List._∷_ 58 (List._∷_ 58 (List._∷_ 67 (List._∷_ 111 (List._∷_ 100 (List._∷_ 101 (List._∷_ 115 (List._∷_ 116 (List._∷_ 114 (List._∷_ 101
+              (List._∷_ 97 (List._∷_ 109 (List._∷_ 79 (List._∷_ 102 (List._∷_ 102 (List._∷_ 115 (List._∷_ 101 (List._∷_ 116 List.[]))))))))))))))))))))))) (Syntax.tcons
+              (Syntax.tyInt Syntax.w64) Syntax.tnil)) Path'.refl)) d48
+
+          d50 : Typed.Typed 𝓤 H A 𝓣 E G49 b38 Δ0 (at50 bs)
+          d50 = Typed.s-seq 𝓤 H A W 𝓣 E G49 G50 b28 b37 Δ0 (Typed.both (s46 bs)) (at49 bs) (Plain.t-call-plain 𝓤 H A W 𝓣 2 ps·3 r·3 (claims· .6) (claims· .7)
+              "records::main_header::fill_table" (known .3) E (λ pos β. β) G49 (
                 record {
                   pos = 1;
                   ty = Syntax.tyRef (Syntax.named 0) Syntax.imm (Syntax.tyInt Syntax.w8);
@@ -4677,12 +4960,12 @@ module _ (claims· : Claims) where
                       x;
                 },
                 (
-                  record { pos = 2; st = List.[]; d = 0; at = λ x. x },
+                  record { pos = 8; st = List.[]; d = 0; at = λ x. x },
                   (
                     record { pos = 7; st = List.[]; d = 0; at = λ x. x },
                     (
                       record {
-                        pos = 19;
+                        pos = 20;
                         ty = Syntax.tyRef
                             Syntax.erased Syntax.mut LentTilePartEntry.pointee;
                         ref = λ x. x;
@@ -4691,7 +4974,7 @@ module _ (claims· : Claims) where
                     ),
                   ),
                 ),
-              ) 17 (List._∷_ 0 (List._∷_ 4 List.[])) (Call.sub-id 𝓤 H A W (G47 .slots)) (
+              ) 18 (List._∷_ 0 (List._∷_ 4 List.[])) (Call.sub-id 𝓤 H A W (G49 .slots)) (
                 ShrSlice.spares-sslice 𝓤 H A W (Referent.rtF (Referent.fInt Syntax.w8)) (Syntax.tyRef (Syntax.named 0) Syntax.imm (Syntax.tyInt Syntax.w8)) 0,
                 Shared.reads-sslice 𝓤
                     H A W (Referent.rtF (Referent.fInt Syntax.w8)) (Syntax.tyRef (Syntax.named 0) Syntax.imm (Syntax.tyInt Syntax.w8)) 0,
@@ -4707,7 +4990,7 @@ module _ (claims· : Claims) where
                   (
                     (
                       Yields.yields-copy 𝓤 H A W (λ ρ. Unit) (Declared'.row CodestreamOffset.the-type) Path'.refl (Copies.cStruct
-                          CodestreamOffset.the-type Laws'3.the-laws Laws'3.the-copy .copy 𝓤 H A W) (Rows.whole (Declared'.row CodestreamOffset.the-type)) (λ x. x) (λ x. x) (λ ρ told.
+                          CodestreamOffset.the-type Laws'4.the-laws Laws'4.the-copy .copy 𝓤 H A W) (Rows.whole (Declared'.row CodestreamOffset.the-type)) (λ x. x) (λ x. x) (λ ρ told.
                           Local.mem-whole 𝓤 H A W (Declared'.row CodestreamOffset.the-type) ρ) λ ρ told. Local.whole-mem 𝓤 H A W (Declared'.row CodestreamOffset.the-type) ρ,
                       Path'.refl,
                     ),
@@ -4723,9 +5006,9 @@ module _ (claims· : Claims) where
               ) (Reads'.room-gone 𝓤 H A Syntax.tyUnit) (tt, (tt, tt))
               Path'.refl) d49
 
-          d51 : Typed.Typed 𝓤 H A 𝓣 E G46 b38 Δ0 (at51 bs)
-          d51 = Typed.s-seq 𝓤 H A W 𝓣 E G46 G47 b26 b37 Δ0 (Typed.ask (s43 bs)) (at50 bs) (Relend.t-sl-aggregate 𝓤 H A W E LentTilePartEntry.row 𝓣 (Relend.asMut
-              LentTilePartEntry.row) G46 18 19 4 (Syntax.tyRef Syntax.erased Syntax.mut LentTilePartEntry.pointee) (Syntax.tyRef Syntax.erased Syntax.mut LentTilePartEntry.pointee)
+          d51 : Typed.Typed 𝓤 H A 𝓣 E G48 b39 Δ0 (at51 bs)
+          d51 = Typed.s-seq 𝓤 H A W 𝓣 E G48 G49 b27 b38 Δ0 (Typed.ask (s45 bs)) (at50 bs) (Relend.t-sl-aggregate 𝓤 H A W E LentTilePartEntry.row 𝓣 (Relend.asMut
+              LentTilePartEntry.row) G48 19 20 4 (Syntax.tyRef Syntax.erased Syntax.mut LentTilePartEntry.pointee) (Syntax.tyRef Syntax.erased Syntax.mut LentTilePartEntry.pointee)
               (λ x. x) (Scalar.oFld 3 (List._∷_ (Syntax.field 1) List.[]) (Syntax.tyInt Syntax.w64) 8 λ v. Shared.lenV (v .0)) (Reads'.as-is 𝓤 H A (Relend.msptr
               LentTilePartEntry.row (Syntax.tyRef Syntax.erased Syntax.mut LentTilePartEntry.pointee) 4)) (Reads'.room-gone 𝓤 H A (Syntax.tyStruct (List._∷_ 38 (List._∷_ 91
               (List._∷_ 93 List.[]))) (Syntax.tcons (Syntax.tyRef Syntax.erased Syntax.mut LentTilePartEntry.pointee) (Syntax.tcons (Syntax.tyInt Syntax.w64) Syntax.tnil)))) (
@@ -4734,14 +5017,14 @@ module _ (claims· : Claims) where
                 Path'.refl,
               ) Path'.refl Path'.refl λ b o k. tt) d50
 
-          d52 : Typed.Typed 𝓤 H A 𝓣 E G45 b39 Δ0 (at52 bs)
-          d52 = Typed.s-seq 𝓤 H A W 𝓣 E G45 G46 b25 b38 Δ0 (Typed.give (s42 bs)) (at51 bs) (Relend.t-sl-relend 𝓤 H A W E LentTilePartEntry.row 𝓣 G45 3 18 1 4 (Syntax.tyRef
+          d52 : Typed.Typed 𝓤 H A 𝓣 E G47 b40 Δ0 (at52 bs)
+          d52 = Typed.s-seq 𝓤 H A W 𝓣 E G47 G48 b26 b39 Δ0 (Typed.give (s44 bs)) (at51 bs) (Relend.t-sl-relend 𝓤 H A W E LentTilePartEntry.row 𝓣 G47 3 19 1 4 (Syntax.tyRef
               (Syntax.named 1) Syntax.mut LentTilePartEntry.pointee) (Syntax.tyRef Syntax.erased Syntax.mut LentTilePartEntry.pointee) (Row.lease (κs .1 .0) (qs .1 .0)) 0 (λ x. x)
               (Reads'.as-is 𝓤 H A (Mut.mslice LentTilePartEntry.row (Syntax.tyRef (Syntax.named 1) Syntax.mut LentTilePartEntry.pointee) 1)) (Reads'.room-gone 𝓤 H A (Syntax.tyRef
               Syntax.erased Syntax.mut LentTilePartEntry.pointee)) Path'.refl tt Path'.refl Path'.refl Path'.refl λ b o. tt) d51
 
-          d53 : Typed.Typed 𝓤 H A 𝓣 E G26 b39 Δ0 (at53 bs)
-          d53 = Typed.g-pre 𝓤 H A W 𝓣 E G26 G45 b39 Δ0 (λ Ψ. Ψ) (at52 bs) (Lifetime.g-begin 𝓤 H A W E G26 4 (
+          d53 : Typed.Typed 𝓤 H A 𝓣 E G46 b40 Δ0 (at53 bs)
+          d53 = Typed.g-pre 𝓤 H A W 𝓣 E G46 G47 b40 Δ0 (λ Ψ. Ψ) (at52 bs) (Lifetime.g-begin 𝓤 H A W E G46 4 (
             tt,
             (
               tt,
@@ -4769,7 +5052,7 @@ module _ (claims· : Claims) where
                                     tt,
                                     (
                                       tt,
-                                      (tt, (tt, (tt, (tt, (tt, (tt, (tt, (tt, tt)))))))),
+                                      (tt, (tt, (tt, (tt, (tt, (tt, (tt, (tt, (tt, tt))))))))),
                                     ),
                                   ),
                                 ),
@@ -4785,34 +5068,77 @@ module _ (claims· : Claims) where
             ),
           )) d52
 
-          d54 : Typed.Typed 𝓤 H A 𝓣 E G25 b40 Δ0 (at54 bs)
-          d54 = Typed.t-seq 𝓤 H A W 𝓣 E G25 G26 b24 b39 Δ0 (at31 bs) (at53 bs) d31 d53
+          d54 : Typed.Typed 𝓤 H A 𝓣 E G45 b40 Δ0 (at54 bs)
+          d54 = Typed.g-pre 𝓤 H A W 𝓣 E G45 G46 b40 Δ0 (Typed.pass T45 T46 (s42 bs)) (at53 bs) (Scalar.g-room 𝓤 H A W E G45 2 (Syntax.tyStruct (List._∷_ 104 (List._∷_ 101 (List._∷_
+              97 (List._∷_ 100 (List._∷_ 101 (List._∷_ 114 (List._∷_ 58 (List._∷_ 58 (List._∷_ 114 (List._∷_ 101 (List._∷_ 97 (List._∷_ 100 (List._∷_ 105 (List._∷_ 110 (List._∷_
+              103 (List._∷_ 58 (List._∷_ 58 (List._∷_ 82 (List._∷_ 101 (List._∷_ 97 (List._∷_ 100 (List._∷_ 105 (List._∷_ 110 (List._∷_ 103 List.[]))))))))))))))))))))))))
+              (Syntax.tcons (Syntax.tyEnum (List._∷_ 104 (List._∷_ 101 (List._∷_ 97 (List._∷_ 100 (List._∷_ 101 (List._∷_ 114 (List._∷_ 58 (List._∷_ 58 (List._∷_ 110 (List._∷_ 117
+              (List._∷_ 109 (List._∷_ 98 (List._∷_ 101 (List._∷_ 114 (List._∷_ 105 (List._∷_ 110 (List._∷_ 103 (List._∷_ 58 (List._∷_ 58 (List._∷_ 78 (List._∷_ 117 (List._∷_ 109
+              (List._∷_ 98 (List._∷_ 101 (List._∷_ 114 (List._∷_ 105 (List._∷_ 110 (List._∷_ 103 List.[])))))))))))))))))))))))))))) (Syntax.ttcons Syntax.tnil (Syntax.ttcons
+              Syntax.tnil Syntax.ttnil))) (Syntax.tcons (Syntax.tyEnum (List._∷_ 104 (List._∷_ 101 (List._∷_ 97 (List._∷_ 100 (List._∷_ 101 (List._∷_ 114 (List._∷_ 58 (List._∷_ 58
+              (List._∷_ 101 (List._∷_ 100 (List._∷_ 105 (List._∷_ 116 (List._∷_ 105 (List._∷_ 111 (List._∷_ 110 (List._∷_ 58 (List._∷_ 58 (List._∷_ 69 (List._∷_ 100 (List._∷_ 105
+              (List._∷_ 116 (List._∷_ 105 (List._∷_ 111 (List._∷_ 110 List.[])))))))))))))))))))))))) (Syntax.ttcons Syntax.tnil (Syntax.ttcons Syntax.tnil Syntax.ttnil)))
+              Syntax.tnil))) (Local.room-whole 𝓤 H A W (Declared'.row Reading.the-type) (Syntax.tyStruct (List._∷_ 104 (List._∷_ 101 (List._∷_ 97 (List._∷_ 100 (List._∷_ 101
+              (List._∷_ 114 (List._∷_ 58 (List._∷_ 58 (List._∷_ 114 (List._∷_ 101 (List._∷_ 97 (List._∷_ 100 (List._∷_ 105 (List._∷_ 110 (List._∷_ 103 (List._∷_ 58 (List._∷_ 58
+              (List._∷_ 82 (List._∷_ 101 (List._∷_ 97 (List._∷_ 100 (List._∷_ 105 (List._∷_ 110 (List._∷_ 103 List.[])))))))))))))))))))))))) (Syntax.tcons (Syntax.tyEnum (List._∷_
+              104 (List._∷_ 101 (List._∷_ 97 (List._∷_ 100 (List._∷_ 101 (List._∷_ 114 (List._∷_ 58 (List._∷_ 58 (List._∷_ 110 (List._∷_ 117 (List._∷_ 109 (List._∷_ 98 (List._∷_
+              101 (List._∷_ 114 (List._∷_ 105 (List._∷_ 110 (List._∷_ 103 (List._∷_ 58 (List._∷_ 58 (List._∷_ 78 (List._∷_ 117 (List._∷_ 109 (List._∷_ 98 (List._∷_ 101 (List._∷_
+              114 (List._∷_ 105 (List._∷_ 110 (List._∷_ 103 List.[])))))))))))))))))))))))))))) (Syntax.ttcons Syntax.tnil (Syntax.ttcons Syntax.tnil Syntax.ttnil))) (Syntax.tcons
+              (Syntax.tyEnum (List._∷_ 104 (List._∷_ 101 (List._∷_ 97 (List._∷_ 100 (List._∷_ 101 (List._∷_ 114 (List._∷_ 58 (List._∷_ 58 (List._∷_ 101 (List._∷_ 100 (List._∷_ 105
+              (List._∷_ 116 (List._∷_ 105 (List._∷_ 111 (List._∷_ 110 (List._∷_ 58 (List._∷_ 58 (List._∷_ 69 (List._∷_ 100 (List._∷_ 105 (List._∷_ 116 (List._∷_ 105 (List._∷_ 111
+              (List._∷_ 110 List.[])))))))))))))))))))))))) (Syntax.ttcons Syntax.tnil (Syntax.ttcons Syntax.tnil Syntax.ttnil))) Syntax.tnil))) Path'.refl)) d53
 
-          d55 : Typed.Typed 𝓤 H A 𝓣 E G24 b41 Δ0 (at55 bs)
-          d55 = Typed.s-seq 𝓤 H A W 𝓣 E G24 G25 b11 b40 Δ0 (Typed.ask (s22 bs)) (at54 bs) (Scalar.t-op2 𝓤 H A W E 𝓣 G24 Syntax.eq (Scalar.oFld 6 (List._∷_ (Syntax.field 1) List.[])
+          d55 : Typed.Typed 𝓤 H A 𝓣 E G26 b41 Δ0 (at55 bs)
+          d55 = Typed.s-seq 𝓤 H A W 𝓣 E G26 G45 b25 b40 Δ0 (Typed.pass T26 T45 (s41 bs)) (at54 bs) (CopyOut.t-copy-told 𝓤 H A W E 𝓣 (Declared.row Numbering.the-type) Path'.refl
+              (Laws'5.val Numbering.the-type Laws.the-laws) (Laws'5.lawful Numbering.the-type Laws.the-laws 𝓤 H A W tt) (Laws'5.makes Numbering.the-type Laws.the-plain 𝓤 H A) G26 8
+              (Scalar.oFld 2 (List._∷_ (Syntax.field 0) List.[]) (Syntax.tyEnum (List._∷_ 104 (List._∷_ 101 (List._∷_ 97 (List._∷_ 100 (List._∷_ 101 (List._∷_ 114 (List._∷_ 58
+              (List._∷_ 58 (List._∷_ 110 (List._∷_ 117 (List._∷_ 109 (List._∷_ 98 (List._∷_ 101 (List._∷_ 114 (List._∷_ 105 (List._∷_ 110 (List._∷_ 103 (List._∷_ 58 (List._∷_ 58
+              (List._∷_ 78 (List._∷_ 117 (List._∷_ 109 (List._∷_ 98 (List._∷_ 101 (List._∷_ 114 (List._∷_ 105 (List._∷_ 110 (List._∷_ 103 List.[]))))))))))))))))))))))))))))
+              (Syntax.ttcons Syntax.tnil (Syntax.ttcons Syntax.tnil Syntax.ttnil))) 0 λ x. Laws'5.val Numbering.the-type Laws.the-laws (Reading.struct .as-values x .0)) (λ m.
+              Reading.struct .as-values (m .1 .1 .0) .0) (λ m. Laws'6.Is (Declared'.row Reading.the-type) (m .1 .1 .0) (Laws'7.vals Reading.the-type Laws'3.the-laws (m .1 .1 .0)))
+              (Reads'.room-gone 𝓤 H A (Syntax.tyEnum (List._∷_ 104 (List._∷_ 101 (List._∷_ 97 (List._∷_ 100 (List._∷_ 101 (List._∷_ 114 (List._∷_ 58 (List._∷_ 58 (List._∷_ 110
+              (List._∷_ 117 (List._∷_ 109 (List._∷_ 98 (List._∷_ 101 (List._∷_ 114 (List._∷_ 105 (List._∷_ 110 (List._∷_ 103 (List._∷_ 58 (List._∷_ 58 (List._∷_ 78 (List._∷_ 117
+              (List._∷_ 109 (List._∷_ 98 (List._∷_ 101 (List._∷_ 114 (List._∷_ 105 (List._∷_ 110 (List._∷_ 103 List.[])))))))))))))))))))))))))))) (Syntax.ttcons Syntax.tnil
+              (Syntax.ttcons Syntax.tnil Syntax.ttnil)))) (
+                Reads.reads-field 𝓤 H A W Reading.the-type Laws'3.the-laws 0 (Syntax.tyEnum (List._∷_ 104 (List._∷_ 101 (List._∷_ 97
+                    (List._∷_ 100 (List._∷_ 101 (List._∷_ 114 (List._∷_ 58 (List._∷_ 58 (List._∷_ 110 (List._∷_ 117 (List._∷_ 109 (List._∷_ 98 (List._∷_ 101 (List._∷_ 114 (List._∷_ 105
+                    (List._∷_ 110 (List._∷_ 103 (List._∷_ 58 (List._∷_ 58 (List._∷_ 78 (List._∷_ 117 (List._∷_ 109 (List._∷_ 98 (List._∷_ 101 (List._∷_ 114 (List._∷_ 105 (List._∷_ 110
+                    (List._∷_ 103 List.[])))))))))))))))))))))))))))) (Syntax.ttcons Syntax.tnil (Syntax.ttcons Syntax.tnil Syntax.ttnil))) 0 Path'.refl,
+                Path'.refl,
+              ) Path'.refl (λ ρ m.
+              Make.tells-row 𝓤 H A W E ρ (Row.out 8 (G26 .locals)) m 2 (Laws'6.Is (Declared'.row Reading.the-type) (m .1 .1 .0) (Laws'7.vals Reading.the-type Laws'3.the-laws (m .1
+              .1 .0))) (Make.whole-is 𝓤 H A W E (Declared'.row Reading.the-type) Path'.refl (Laws'7.val Reading.the-type Laws'3.the-laws) (Laws'7.tells Reading.the-type
+              Laws'3.the-laws) ρ 2 (m .1 .1 .0))) (λ m k wa. Path'.refl) λ m k wa. Laws'7.owed Reading.the-type Laws'3.the-laws (m .1 .1 .0) (Laws'7.vals Reading.the-type
+              Laws'3.the-laws (m .1 .1 .0)) k .0) d54
+
+          d56 : Typed.Typed 𝓤 H A 𝓣 E G25 b42 Δ0 (at56 bs)
+          d56 = Typed.t-seq 𝓤 H A W 𝓣 E G25 G26 b24 b41 Δ0 (at31 bs) (at55 bs) d31 d55
+
+          d57 : Typed.Typed 𝓤 H A 𝓣 E G24 b43 Δ0 (at57 bs)
+          d57 = Typed.s-seq 𝓤 H A W 𝓣 E G24 G25 b11 b42 Δ0 (Typed.ask (s22 bs)) (at56 bs) (Scalar.t-op2 𝓤 H A W E 𝓣 G24 Syntax.eq (Scalar.oFld 6 (List._∷_ (Syntax.field 1) List.[])
               (Syntax.tyInt Syntax.w64) 8 (Reads.fieldV MainHeaderInfo.the-type Laws''.the-laws 1)) (Scalar.oFld 7 (List._∷_ (Syntax.field 0) List.[]) (Syntax.tyInt Syntax.w64) 0
-              (Reads.fieldV CodestreamOffset.the-type Laws'3.the-laws 0)) 12 (Rows.sc-here Row.sBool) Syntax.tyBool (Row.valS Row.sBool) (Row.sBool .of) (
+              (Reads.fieldV CodestreamOffset.the-type Laws'4.the-laws 0)) 13 (Rows.sc-here Row.sBool) Syntax.tyBool (Row.valS Row.sBool) (Row.sBool .of) (
                 Reads.reads-field 𝓤 H A W
                     MainHeaderInfo.the-type Laws''.the-laws 1 (Syntax.tyInt Syntax.w64) 8 Path'.refl,
                 Path'.refl,
               ) (
-                Reads.reads-field 𝓤 H A W CodestreamOffset.the-type Laws'3.the-laws 0
+                Reads.reads-field 𝓤 H A W CodestreamOffset.the-type Laws'4.the-laws 0
                     (Syntax.tyInt Syntax.w64) 0 Path'.refl,
                 Path'.refl,
               ) (Reads'.room-gone 𝓤 H A Syntax.tyBool) (Scalar.holds-sc 𝓤 H A W Row.sBool) Path'.refl (λ u. Path'.refl) λ u. tt)
-              d54
+              d56
 
-          d56 : Typed.Typed 𝓤 H A 𝓣 E G23 b41 Δ0 (at56 bs)
-          d56 = Typed.g-pre 𝓤 H A W 𝓣 E G23 G24 b41 Δ0 (Typed.give (s21 bs)) (at55 bs) (Know'.g-struct-known 𝓤 H A W E CodestreamOffset.the-type Laws'3.the-laws G23 7 (λ x. x)
-              (Reads'.as-is 𝓤 H A (Rows.whole (Declared'.row CodestreamOffset.the-type)))) d55
+          d58 : Typed.Typed 𝓤 H A 𝓣 E G23 b43 Δ0 (at58 bs)
+          d58 = Typed.g-pre 𝓤 H A W 𝓣 E G23 G24 b43 Δ0 (Typed.give (s21 bs)) (at57 bs) (Know'.g-struct-known 𝓤 H A W E CodestreamOffset.the-type Laws'4.the-laws G23 7 (λ x. x)
+              (Reads'.as-is 𝓤 H A (Rows.whole (Declared'.row CodestreamOffset.the-type)))) d57
 
-          d57 : Typed.Typed 𝓤 H A 𝓣 E G22 b41 Δ0 (at57 bs)
-          d57 = Typed.g-pre 𝓤 H A W 𝓣 E G22 G23 b41 Δ0 (Typed.give (s20 bs)) (at56 bs) (Know'.g-struct-known 𝓤 H A W E MainHeaderInfo.the-type Laws''.the-laws G22 6 (λ x. x)
-              (Reads'.as-is 𝓤 H A (Rows.whole (Declared'.row MainHeaderInfo.the-type)))) d56
+          d59 : Typed.Typed 𝓤 H A 𝓣 E G22 b43 Δ0 (at59 bs)
+          d59 = Typed.g-pre 𝓤 H A W 𝓣 E G22 G23 b43 Δ0 (Typed.give (s20 bs)) (at58 bs) (Know'.g-struct-known 𝓤 H A W E MainHeaderInfo.the-type Laws''.the-laws G22 6 (λ x. x)
+              (Reads'.as-is 𝓤 H A (Rows.whole (Declared'.row MainHeaderInfo.the-type)))) d58
 
-          d58 : Typed.Typed 𝓤 H A 𝓣 E G11 b42 Δ0 (at58 bs)
-          d58 = Typed.s-seq 𝓤 H A W 𝓣 E G11 G22 b10 b41 Δ0 (Typed.both (s19 bs)) (at57 bs) (WayStmt.t-way-copy-out 𝓤 H A W E 𝓣 (Declared'.row CodestreamOffset.the-type) Path'.refl
-              (Copies.cStruct CodestreamOffset.the-type Laws'3.the-laws Laws'3.the-copy .copy 𝓤 H A W) (λ ρ. Unit) G11 (Row.out 6 (G11 .locals)) (λ u. Row.drop 6 (G11 .locals) u)
+          d60 : Typed.Typed 𝓤 H A 𝓣 E G11 b44 Δ0 (at60 bs)
+          d60 = Typed.s-seq 𝓤 H A W 𝓣 E G11 G22 b10 b43 Δ0 (Typed.both (s19 bs)) (at59 bs) (WayStmt.t-way-copy-out 𝓤 H A W E 𝓣 (Declared'.row CodestreamOffset.the-type) Path'.refl
+              (Copies.cStruct CodestreamOffset.the-type Laws'4.the-laws Laws'4.the-copy .copy 𝓤 H A W) (λ ρ. Unit) G11 (Row.out 6 (G11 .locals)) (λ u. Row.drop 6 (G11 .locals) u)
               (G11 .slots) 6 (λ t. List._∷_ (Syntax.field 0) t) (Syntax.tyStruct (List._∷_ 116 (List._∷_ 121 (List._∷_ 112 (List._∷_ 101 (List._∷_ 115 (List._∷_ 58 (List._∷_ 58
               (List._∷_ 67 (List._∷_ 111 (List._∷_ 100 (List._∷_ 101 (List._∷_ 115 (List._∷_ 116 (List._∷_ 114 (List._∷_ 101 (List._∷_ 97 (List._∷_ 109 (List._∷_ 79 (List._∷_ 102
               (List._∷_ 102 (List._∷_ 115 (List._∷_ 101 (List._∷_ 116 List.[]))))))))))))))))))))))) (Syntax.tcons (Syntax.tyInt Syntax.w64) Syntax.tnil)) (Syntax.tyStruct
@@ -4851,13 +5177,13 @@ module _ (claims· : Claims) where
               (List._∷_ 111 (List._∷_ 100 (List._∷_ 101 (List._∷_ 115 (List._∷_ 116 (List._∷_ 114 (List._∷_ 101 (List._∷_ 97 (List._∷_ 109 (List._∷_ 79 (List._∷_ 102 (List._∷_ 102
               (List._∷_ 115 (List._∷_ 101 (List._∷_ 116 List.[]))))))))))))))))))))))) (Syntax.tcons (Syntax.tyInt Syntax.w64) Syntax.tnil))) (Yields.makes-mem 𝓤 H A W (λ ρ. Unit)
               (Declared'.row CodestreamOffset.the-type) Path'.refl (Rows.whole (Declared'.row CodestreamOffset.the-type)) (λ x. x) λ ρ told. Local.whole-mem 𝓤 H A W (Declared'.row
-              CodestreamOffset.the-type) ρ) Path'.refl Path'.refl Path'.refl) d57
+              CodestreamOffset.the-type) ρ) Path'.refl Path'.refl Path'.refl) d59
 
-          d59 : Typed.Typed 𝓤 H A 𝓣 E G10 b43 Δ0 (at59 bs)
-          d59 = Typed.t-seq 𝓤 H A W 𝓣 E G10 G11 b9 b42 Δ0 (at10 bs) (at58 bs) d10 d58
+          d61 : Typed.Typed 𝓤 H A 𝓣 E G10 b45 Δ0 (at61 bs)
+          d61 = Typed.t-seq 𝓤 H A W 𝓣 E G10 G11 b9 b44 Δ0 (at10 bs) (at60 bs) d10 d60
 
-          d60 : Typed.Typed 𝓤 H A 𝓣 E G9 b44 Δ0 (at60 bs)
-          d60 = Typed.s-seq 𝓤 H A W 𝓣 E G9 G10 b4 b43 Δ0 (Typed.both (s8 bs)) (at59 bs) (Plain.t-call-plain 𝓤 H A W 𝓣 1 ps·0 r·0 (claims· .0) (claims· .1) "header::parse::decide"
+          d62 : Typed.Typed 𝓤 H A 𝓣 E G9 b46 Δ0 (at62 bs)
+          d62 = Typed.s-seq 𝓤 H A W 𝓣 E G9 G10 b4 b45 Δ0 (Typed.both (s8 bs)) (at61 bs) (Plain.t-call-plain 𝓤 H A W 𝓣 1 ps·0 r·0 (claims· .0) (claims· .1) "header::parse::decide"
               (known .0) E (λ pos β. β) G9 (
                 record { pos = 1; ty = Syntax.tyRef (Syntax.named 0) Syntax.imm (Syntax.tyInt Syntax.w8); ref = λ x. x },
                 (
@@ -4868,7 +5194,7 @@ module _ (claims· : Claims) where
                     d = 0;
                     at = λ x. x;
                   },
-                  (Num.vAt 9 λ x. x, (Num.vAt 11 λ x. x, tt)),
+                  (Num.vAt 10 λ x. x, (Num.vAt 12 λ x. x, tt)),
                 ),
               ) 5 (List._∷_ 0 List.[]) (Call.sub-id 𝓤 H A W (G9 .slots)) (
                 ShrSlice.spares-sslice 𝓤 H A W
@@ -4878,9 +5204,9 @@ module _ (claims· : Claims) where
                 Path'.refl,
                 (
                   (
-                    Yields.yields-copy 𝓤 H A W (λ ρ. Unit) (Declared.row
-                        Numbering.the-type) Path'.refl (Copies.cEnum Numbering.the-type Laws.the-laws Laws.the-copy .copy 𝓤 H A W) (Rows.whole (Declared.row Numbering.the-type)) (λ x. x) (λ
-                        x. x) (λ ρ told. Local.mem-whole 𝓤 H A W (Declared.row Numbering.the-type) ρ) λ ρ told. Local.whole-mem 𝓤 H A W (Declared.row Numbering.the-type) ρ,
+                    Yields.yields-copy 𝓤 H A W (λ ρ. Unit) (Declared'.row
+                        Reading.the-type) Path'.refl (Copies.cStruct Reading.the-type Laws'3.the-laws Laws'3.the-copy .copy 𝓤 H A W) (Rows.whole (Declared'.row Reading.the-type)) (λ x. x) (λ
+                        x. x) (λ ρ told. Local.mem-whole 𝓤 H A W (Declared'.row Reading.the-type) ρ) λ ρ told. Local.whole-mem 𝓤 H A W (Declared'.row Reading.the-type) ρ,
                     Path'.refl,
                   ),
                   ((Scalar.reads-sc 𝓤 H A W (Row.sInt Syntax.w64), Path'.refl), ((Scalar.reads-sc 𝓤 H A W (Row.sInt Syntax.w64), Path'.refl), tt)),
@@ -4897,86 +5223,87 @@ module _ (claims· : Claims) where
               (Syntax.tcons (Syntax.tyInt Syntax.w64) (Syntax.tcons (Syntax.tyInt Syntax.w64) (Syntax.tcons (Syntax.tyInt Syntax.w64) Syntax.tnil))))) Syntax.tnil) (Syntax.ttcons
               (Syntax.tcons (Syntax.tyStruct (List._∷_ 116 (List._∷_ 121 (List._∷_ 112 (List._∷_ 101 (List._∷_ 115 (List._∷_ 58 (List._∷_ 58 (List._∷_ 82 (List._∷_ 101 (List._∷_
               102 (List._∷_ 117 (List._∷_ 115 (List._∷_ 97 (List._∷_ 108 List.[])))))))))))))) (Syntax.tcons (Syntax.tyInt Syntax.w32) (Syntax.tcons (Syntax.tyInt Syntax.w64)
-              Syntax.tnil))) Syntax.tnil) Syntax.ttnil)))) (tt, tt) Path'.refl) d59
+              Syntax.tnil))) Syntax.tnil) Syntax.ttnil)))) (tt, tt) Path'.refl) d61
 
-          d61 : Typed.Typed 𝓤 H A 𝓣 E G8 b44 Δ0 (at61 bs)
-          d61 = Typed.g-pre 𝓤 H A W 𝓣 E G8 G9 b44 Δ0 (Typed.pass T8 T9 (s7 bs)) (at60 bs) (Scalar.g-room 𝓤 H A W E G8 10 (Syntax.tyInt Syntax.w64) (Scalar.room-sc 𝓤 H A W (Row.sInt
-              Syntax.w64))) d60
+          d63 : Typed.Typed 𝓤 H A 𝓣 E G8 b46 Δ0 (at63 bs)
+          d63 = Typed.g-pre 𝓤 H A W 𝓣 E G8 G9 b46 Δ0 (Typed.pass T8 T9 (s7 bs)) (at62 bs) (Scalar.g-room 𝓤 H A W E G8 11 (Syntax.tyInt Syntax.w64) (Scalar.room-sc 𝓤 H A W (Row.sInt
+              Syntax.w64))) d62
 
-          d62 : Typed.Typed 𝓤 H A 𝓣 E G7 b45 Δ0 (at62 bs)
-          d62 = Typed.s-seq 𝓤 H A W 𝓣 E G7 G8 b3 b44 Δ0 (Typed.pass T7 T8 (s6 bs)) (at61 bs) (Scalar.t-use 𝓤 H A W E 𝓣 G7 (Scalar.oAt 10 (Syntax.tyInt Syntax.w64) (Row.valS
-              (Row.sInt Syntax.w64))) 11 (Rows.sc-here (Row.sInt Syntax.w64)) (Syntax.tyInt Syntax.w64) (Row.valS (Row.sInt Syntax.w64)) (Row.sInt Syntax.w64 .of) (
+          d64 : Typed.Typed 𝓤 H A 𝓣 E G7 b47 Δ0 (at64 bs)
+          d64 = Typed.s-seq 𝓤 H A W 𝓣 E G7 G8 b3 b46 Δ0 (Typed.pass T7 T8 (s6 bs)) (at63 bs) (Scalar.t-use 𝓤 H A W E 𝓣 G7 (Scalar.oAt 11 (Syntax.tyInt Syntax.w64) (Row.valS
+              (Row.sInt Syntax.w64))) 12 (Rows.sc-here (Row.sInt Syntax.w64)) (Syntax.tyInt Syntax.w64) (Row.valS (Row.sInt Syntax.w64)) (Row.sInt Syntax.w64 .of) (
                 Scalar.reads-sc
                     𝓤 H A W (Row.sInt Syntax.w64),
                 Path'.refl,
               ) (Reads'.room-gone 𝓤 H A (Syntax.tyInt Syntax.w64)) (Scalar.holds-sc 𝓤 H A W (Row.sInt Syntax.w64)) Path'.refl (λ u.
-              Path'.refl) λ u. tt) d61
+              Path'.refl) λ u. tt) d63
 
-          d63 : Typed.Typed 𝓤 H A 𝓣 E G6 b46 Δ0 (at63 bs)
-          d63 = Typed.s-seq 𝓤 H A W 𝓣 E G6 G7 b2 b45 Δ0 (Typed.pass T6 T7 (s5 bs)) (at62 bs) (Scalar.t-use 𝓤 H A W E 𝓣 G6 (Scalar.oFld 4 (List._∷_ (Syntax.field 1) List.[])
-              (Syntax.tyInt Syntax.w64) 8 Shared.lenV) 10 (Rows.sc-here (Row.sInt Syntax.w64)) (Syntax.tyInt Syntax.w64) (Row.valS (Row.sInt Syntax.w64)) (Row.sInt Syntax.w64 .of)
+          d65 : Typed.Typed 𝓤 H A 𝓣 E G6 b48 Δ0 (at65 bs)
+          d65 = Typed.s-seq 𝓤 H A W 𝓣 E G6 G7 b2 b47 Δ0 (Typed.pass T6 T7 (s5 bs)) (at64 bs) (Scalar.t-use 𝓤 H A W E 𝓣 G6 (Scalar.oFld 4 (List._∷_ (Syntax.field 1) List.[])
+              (Syntax.tyInt Syntax.w64) 8 Shared.lenV) 11 (Rows.sc-here (Row.sInt Syntax.w64)) (Syntax.tyInt Syntax.w64) (Row.valS (Row.sInt Syntax.w64)) (Row.sInt Syntax.w64 .of)
               (Mut.reads-mslice-len 𝓤 H A W (Referent.rtF (Referent.fInt Syntax.w8)) (Syntax.tyRef (Syntax.named 2) Syntax.mut (Syntax.tyInt Syntax.w8)) 2 8 Path'.refl, Path'.refl)
-              (Reads'.room-gone 𝓤 H A (Syntax.tyInt Syntax.w64)) (Scalar.holds-sc 𝓤 H A W (Row.sInt Syntax.w64)) Path'.refl (λ u. Path'.refl) λ u. tt) d62
+              (Reads'.room-gone 𝓤 H A (Syntax.tyInt Syntax.w64)) (Scalar.holds-sc 𝓤 H A W (Row.sInt Syntax.w64)) Path'.refl (λ u. Path'.refl) λ u. tt) d64
 
-          d64 : Typed.Typed 𝓤 H A 𝓣 E G5 b46 Δ0 (at64 bs)
-          d64 = Typed.g-pre 𝓤 H A W 𝓣 E G5 G6 b46 Δ0 (Typed.pass T5 T6 (s4 bs)) (at63 bs) (Scalar.g-room 𝓤 H A W E G5 8 (Syntax.tyInt Syntax.w64) (Scalar.room-sc 𝓤 H A W (Row.sInt
-              Syntax.w64))) d63
+          d66 : Typed.Typed 𝓤 H A 𝓣 E G5 b48 Δ0 (at66 bs)
+          d66 = Typed.g-pre 𝓤 H A W 𝓣 E G5 G6 b48 Δ0 (Typed.pass T5 T6 (s4 bs)) (at65 bs) (Scalar.g-room 𝓤 H A W E G5 9 (Syntax.tyInt Syntax.w64) (Scalar.room-sc 𝓤 H A W (Row.sInt
+              Syntax.w64))) d65
 
-          d65 : Typed.Typed 𝓤 H A 𝓣 E G4 b47 Δ0 (at65 bs)
-          d65 = Typed.s-seq 𝓤 H A W 𝓣 E G4 G5 b1 b46 Δ0 (Typed.pass T4 T5 (s3 bs)) (at64 bs) (Scalar.t-use 𝓤 H A W E 𝓣 G4 (Scalar.oAt 8 (Syntax.tyInt Syntax.w64) (Row.valS
-              (Row.sInt Syntax.w64))) 9 (Rows.sc-here (Row.sInt Syntax.w64)) (Syntax.tyInt Syntax.w64) (Row.valS (Row.sInt Syntax.w64)) (Row.sInt Syntax.w64 .of) (
-                Scalar.reads-sc 𝓤
-                    H A W (Row.sInt Syntax.w64),
+          d67 : Typed.Typed 𝓤 H A 𝓣 E G4 b49 Δ0 (at67 bs)
+          d67 = Typed.s-seq 𝓤 H A W 𝓣 E G4 G5 b1 b48 Δ0 (Typed.pass T4 T5 (s3 bs)) (at66 bs) (Scalar.t-use 𝓤 H A W E 𝓣 G4 (Scalar.oAt 9 (Syntax.tyInt Syntax.w64) (Row.valS
+              (Row.sInt Syntax.w64))) 10 (Rows.sc-here (Row.sInt Syntax.w64)) (Syntax.tyInt Syntax.w64) (Row.valS (Row.sInt Syntax.w64)) (Row.sInt Syntax.w64 .of) (
+                Scalar.reads-sc
+                    𝓤 H A W (Row.sInt Syntax.w64),
                 Path'.refl,
               ) (Reads'.room-gone 𝓤 H A (Syntax.tyInt Syntax.w64)) (Scalar.holds-sc 𝓤 H A W (Row.sInt Syntax.w64)) Path'.refl (λ u.
-              Path'.refl) λ u. tt) d64
+              Path'.refl) λ u. tt) d66
 
-          d66 : Typed.Typed 𝓤 H A 𝓣 E G3 b48 Δ0 (at66 bs)
-          d66 = Typed.s-seq 𝓤 H A W 𝓣 E G3 G4 b0 b47 Δ0 (Typed.pass T3 T4 (s2 bs)) (at65 bs) (Scalar.t-use 𝓤 H A W E 𝓣 G3 (Scalar.oFld 3 (List._∷_ (Syntax.field 1) List.[])
-              (Syntax.tyInt Syntax.w64) 8 Shared.lenV) 8 (Rows.sc-here (Row.sInt Syntax.w64)) (Syntax.tyInt Syntax.w64) (Row.valS (Row.sInt Syntax.w64)) (Row.sInt Syntax.w64 .of)
+          d68 : Typed.Typed 𝓤 H A 𝓣 E G3 b50 Δ0 (at68 bs)
+          d68 = Typed.s-seq 𝓤 H A W 𝓣 E G3 G4 b0 b49 Δ0 (Typed.pass T3 T4 (s2 bs)) (at67 bs) (Scalar.t-use 𝓤 H A W E 𝓣 G3 (Scalar.oFld 3 (List._∷_ (Syntax.field 1) List.[])
+              (Syntax.tyInt Syntax.w64) 8 Shared.lenV) 9 (Rows.sc-here (Row.sInt Syntax.w64)) (Syntax.tyInt Syntax.w64) (Row.valS (Row.sInt Syntax.w64)) (Row.sInt Syntax.w64 .of)
               (Mut.reads-mslice-len 𝓤 H A W LentTilePartEntry.row (Syntax.tyRef (Syntax.named 1) Syntax.mut LentTilePartEntry.pointee) 1 8 Path'.refl, Path'.refl) (Reads'.room-gone
-              𝓤 H A (Syntax.tyInt Syntax.w64)) (Scalar.holds-sc 𝓤 H A W (Row.sInt Syntax.w64)) Path'.refl (λ u. Path'.refl) λ u. tt) d65
+              𝓤 H A (Syntax.tyInt Syntax.w64)) (Scalar.holds-sc 𝓤 H A W (Row.sInt Syntax.w64)) Path'.refl (λ u. Path'.refl) λ u. tt) d67
 
-          d67 : Typed.Typed 𝓤 H A 𝓣 E G2 b48 Δ0 (at67 bs)
-          d67 = Typed.g-pre 𝓤 H A W 𝓣 E G2 G3 b48 Δ0 (Typed.give (s1 bs)) (at66 bs) (Know.g-sl-known 𝓤 H A W (Referent.fInt Syntax.w8) E G2 4 2 (Syntax.tyRef (Syntax.named 2)
+          d69 : Typed.Typed 𝓤 H A 𝓣 E G2 b50 Δ0 (at69 bs)
+          d69 = Typed.g-pre 𝓤 H A W 𝓣 E G2 G3 b50 Δ0 (Typed.give (s1 bs)) (at68 bs) (Know.g-sl-known 𝓤 H A W (Referent.fInt Syntax.w8) E G2 4 2 (Syntax.tyRef (Syntax.named 2)
               Syntax.mut (Syntax.tyInt Syntax.w8)) (Row.lease (κs .1 .1 .0) (qs .1 .1 .0)) 0 (λ x. x) record { fits = Dec'.lit< tt } (Reads'.as-is 𝓤 H A (Mut.mslice (Referent.rtF
-              (Referent.fInt Syntax.w8)) (Syntax.tyRef (Syntax.named 2) Syntax.mut (Syntax.tyInt Syntax.w8)) 2)) Path'.refl tt) d66
+              (Referent.fInt Syntax.w8)) (Syntax.tyRef (Syntax.named 2) Syntax.mut (Syntax.tyInt Syntax.w8)) 2)) Path'.refl tt) d68
 
-          d68 : Typed.Typed 𝓤 H A 𝓣 E G0 b48 Δ0 (at68 bs)
-          d68 = Typed.g-pre 𝓤 H A W 𝓣 E G0 G2 b48 Δ0 (Typed.give (s0 bs)) (at67 bs) (Know.g-shs-known 𝓤 H A W (Referent.fInt Syntax.w8) E G0 1 0 (Syntax.tyRef (Syntax.named 0)
+          d70 : Typed.Typed 𝓤 H A 𝓣 E G0 b50 Δ0 (at70 bs)
+          d70 = Typed.g-pre 𝓤 H A W 𝓣 E G0 G2 b50 Δ0 (Typed.give (s0 bs)) (at69 bs) (Know.g-shs-known 𝓤 H A W (Referent.fInt Syntax.w8) E G0 1 0 (Syntax.tyRef (Syntax.named 0)
               Syntax.imm (Syntax.tyInt Syntax.w8)) (Row.lease (κs .0) (qs .0)) 0 (λ x. x) record { fits = Dec'.lit< tt } (Reads'.as-is 𝓤 H A (Rows.sslice (Referent.rtF
-              (Referent.fInt Syntax.w8)) (Syntax.tyRef (Syntax.named 0) Syntax.imm (Syntax.tyInt Syntax.w8)) 0)) Path'.refl tt) d67
+              (Referent.fInt Syntax.w8)) (Syntax.tyRef (Syntax.named 0) Syntax.imm (Syntax.tyInt Syntax.w8)) 0)) Path'.refl tt) d69
 
-          pub typed : Typed.Typed 𝓤 H A 𝓣 E (Function.Γin 3 ps r xs m κs qs) b48 (Function.Δret 3 ps r xs m κs qs) (Φ bs)
-          typed = d68
+          pub typed : Typed.Typed 𝓤 H A 𝓣 E (Function.Γin 3 ps r xs m κs qs) b50 (Function.Δret 3 ps r xs m κs qs) (Φ bs)
+          typed = d70
 
       module _ (κs : Lifetimes.Lfts 3) where
         pub record Args : Type 0 where
           pub codestream : Kinds.Den {n = 3} κs (ShrSlice.pShrS (Referent.rtF (Referent.fInt Syntax.w8)) 0 tt)
-          pub numbering : Kinds.Den {n = 3} κs (Value.pVal record {
-            ty = Declared.row Numbering.the-type;
+          pub reading : Kinds.Den {n = 3} κs (Value.pVal record {
+            ty = Declared'.row Reading.the-type;
             one = Path'.refl;
-            val = Laws'4.val Numbering.the-type Laws.the-laws;
-            tells
-                = Laws'4.tells Numbering.the-type Laws.the-laws;
-            still = Laws'4.still Numbering.the-type Laws.the-copy Exit.yes;
-            row = Rows.whole (Declared.row Numbering.the-type);
-            rd = λ x. x;
+            val = Laws'7.val Reading.the-type Laws'3.the-laws;
+            tells =
+                Laws'7.tells Reading.the-type Laws'3.the-laws;
+            still = Laws'7.still Reading.the-type Laws'3.the-copy Exit.yes;
+            row = Rows.whole (Declared'.row Reading.the-type);
+            rd =
+                λ x. x;
             mk = λ x. x;
           } λ M 𝓤 H A W. record {
-            copies = Laws'4.copy Numbering.the-type Laws.the-copy 𝓤 H A W;
-            lawful = Laws'4.lawful Numbering.the-type
-                Laws.the-laws 𝓤 H A W tt;
-            makes = Laws'4.makes Numbering.the-type Laws.the-plain 𝓤 H A;
-            in-mem = Local.mem-whole 𝓤 H A W (Declared.row Numbering.the-type);
-            of-mem =
-                Local.whole-mem 𝓤 H A W (Declared.row Numbering.the-type);
+            copies = Laws'7.copy Reading.the-type Laws'3.the-copy 𝓤 H A W;
+            lawful = Laws'7.lawful Reading.the-type Laws'3.the-laws 𝓤
+                H A W;
+            makes = Laws'7.makes Reading.the-type Laws'3.the-plain 𝓤 H A;
+            in-mem = Local.mem-whole 𝓤 H A W (Declared'.row Reading.the-type);
+            of-mem = Local.whole-mem 𝓤 H A
+                W (Declared'.row Reading.the-type);
           })
           pub table : Kinds.Den {n = 3} κs (MutSlice.pMutS LentTilePartEntry.row 1 tt)
           pub out : Kinds.Den {n = 3} κs (MutSlice.pMutS (Referent.rtF (Referent.fInt Syntax.w8)) 2 tt)
 
         abbrev pub dens : (a : Args) → Kinds.Dens κs ps
-        dens = λ a. (a .codestream, (a .numbering, (a .table, (a .out, tt))))
+        dens = λ a. (a .codestream, (a .reading, (a .table, (a .out, tt))))
 
       abbrev pub m0 : (κs : Lifetimes.Lfts 3) → (args : Args κs) → (blocks : List.List Nat.ℕ) → Typed.Mo T0
       m0 = λ κs args blocks. (tt, Enter.partsP κs 1 ps xs (dens κs args))
@@ -5046,7 +5373,7 @@ module _ (claims· : Claims) where
         abbrev pub After-decide·own : Type 0
         After-decide·own = Called.Called ps·0 r·0 (claims· .1) T9 (
           record { pos = 1; ty = Syntax.tyRef (Syntax.named 0) Syntax.imm (Syntax.tyInt Syntax.w8); ref = λ x. x },
-          (record { pos = 2; st = List.[]; d = 0; at = λ x. x }, (Num.vAt 9 λ x. x, (Num.vAt 11 λ x. x, tt))),
+          (record { pos = 2; st = List.[]; d = 0; at = λ x. x }, (Num.vAt 10 λ x. x, (Num.vAt 12 λ x. x, tt))),
         ) (m8 (before· .before) (before· .slice-known .given))
 
       pub record After-decide : Type 0 where
@@ -5056,11 +5383,11 @@ module _ (claims· : Claims) where
       abbrev pub After-decide·gave : (c : After-decide) → s8 (c .before .before .before .blocks) .gives (m8 (c .before .before) (c .before .slice-known .given))
       After-decide·gave = λ c. Called.given ps·0 r·0 (claims· .1) T9 (
         record { pos = 1; ty = Syntax.tyRef (Syntax.named 0) Syntax.imm (Syntax.tyInt Syntax.w8); ref = λ x. x },
-        (record { pos = 2; st = List.[]; d = 0; at = λ x. x }, (Num.vAt 9 λ x. x, (Num.vAt 11 λ x. x, tt))),
+        (record { pos = 2; st = List.[]; d = 0; at = λ x. x }, (Num.vAt 10 λ x. x, (Num.vAt 12 λ x. x, tt))),
       ) (m8 (c .before .before) (c .before .slice-known .given)) (c .decide)
 
       abbrev W1 : (before : After-slice-known) → (given : s8 (before .before .before .blocks) .gives (m8 (before .before) (before .slice-known .given))) → Typed.Want O1
-      W1 = λ before given. Typed.wantNext T11 O0 (at58 (before .before .before .blocks) (W0 (before .before .before .κs) (before .before .before .args) (before .before .before
+      W1 = λ before given. Typed.wantNext T11 O0 (at60 (before .before .before .blocks) (W0 (before .before .before .κs) (before .before .before .args) (before .before .before
           .blocks))) (W0 (before .before .before .κs) (before .before .before .args) (before .before .before .blocks))
 
       abbrev pub m10 : (before : After-slice-known) → (given : s8 (before .before .before .blocks) .gives (m8 (before .before) (before .slice-known .given))) → Typed.Mo T12
@@ -5188,7 +5515,7 @@ module _ (claims· : Claims) where
 
       abbrev W2 : (before : After-struct-known) → (given : s21 (before .before .before .before .before .before .before .before .before .blocks) .gives (m21 (before .before) (before
           .struct-known .given))) → Typed.Want O2
-      W2 = λ before given. Typed.wantNext T26 O0 (at53 (before .before .before .before .before .before .before .before .before .blocks) (W0 (before .before .before .before .before
+      W2 = λ before given. Typed.wantNext T26 O0 (at55 (before .before .before .before .before .before .before .before .before .blocks) (W0 (before .before .before .before .before
           .before .before .before .before .κs) (before .before .before .before .before .before .before .before .before .args) (before .before .before .before .before .before
           .before .before .before .blocks))) (W0 (before .before .before .before .before .before .before .before .before .κs) (before .before .before .before .before .before
           .before .before .before .args) (before .before .before .before .before .before .before .before .before .blocks))
@@ -5274,7 +5601,7 @@ module _ (claims· : Claims) where
         abbrev pub After-append·own : Type 0
         After-append·own = Called.Called ps·2 r·2 (claims· .5) T34 (
           record { pos = 1; ty = Syntax.tyRef (Syntax.named 0) Syntax.imm (Syntax.tyInt Syntax.w8); ref = λ x. x },
-          (Num.vLit 0, (Num.vAt 14 λ x. x, (record { pos = 16; ty = Syntax.tyRef Syntax.erased Syntax.mut (Syntax.tyInt Syntax.w8); ref = λ x. x }, (Num.vLit 0, tt)))),
+          (Num.vLit 0, (Num.vAt 15 λ x. x, (record { pos = 17; ty = Syntax.tyRef Syntax.erased Syntax.mut (Syntax.tyInt Syntax.w8); ref = λ x. x }, (Num.vLit 0, tt)))),
         ) (m30
             (before· .before) (before· .append-arg .given))
 
@@ -5286,7 +5613,7 @@ module _ (claims· : Claims) where
           .gives (m30 (c .before .before) (c .before .append-arg .given))
       After-append·gave = λ c. Called.given ps·2 r·2 (claims· .5) T34 (
         record { pos = 1; ty = Syntax.tyRef (Syntax.named 0) Syntax.imm (Syntax.tyInt Syntax.w8); ref = λ x. x },
-        (Num.vLit 0, (Num.vAt 14 λ x. x, (record { pos = 16; ty = Syntax.tyRef Syntax.erased Syntax.mut (Syntax.tyInt Syntax.w8); ref = λ x. x }, (Num.vLit 0, tt)))),
+        (Num.vLit 0, (Num.vAt 15 λ x. x, (record { pos = 17; ty = Syntax.tyRef Syntax.erased Syntax.mut (Syntax.tyInt Syntax.w8); ref = λ x. x }, (Num.vLit 0, tt)))),
       ) (m30 (c
           .before .before) (c .before .append-arg .given)) (c .append)
 
@@ -5363,42 +5690,48 @@ module _ (claims· : Claims) where
       abbrev pub m38 : (before : After-struct-known2) → Typed.Mo T44
       m38 = λ before. s40 (before .before .before .before .before .before .before .before .before .before .blocks) (m24 (before .before) (before .struct-known2 .given))
 
-      abbrev pub m39 : (before : Else1) → (given : s42 (before .before .before .before .before .before .before .before .before .before .before .blocks) .gives (m38 (before
-          .before))) → Typed.Mo T46
-      m39 = λ before given. s42 (before .before .before .before .before .before .before .before .before .before .before .blocks) .next (m38 (before .before)) given
+      abbrev pub m39 : (before : After-struct-known2) → Typed.Mo T45
+      m39 = λ before. s41 (before .before .before .before .before .before .before .before .before .before .blocks) (m38 before)
 
-      abbrev pub m40 : (before : Else1) → (given : s42 (before .before .before .before .before .before .before .before .before .before .before .blocks) .gives (m38 (before
-          .before))) → Typed.Mo T47
-      m40 = λ before given. s43 (before .before .before .before .before .before .before .before .before .before .before .blocks) .next (m39 before given)
+      abbrev pub m40 : (before : After-struct-known2) → Typed.Mo T46
+      m40 = λ before. s42 (before .before .before .before .before .before .before .before .before .before .blocks) (m39 before)
+
+      abbrev pub m41 : (before : Else1) → (given : s44 (before .before .before .before .before .before .before .before .before .before .before .blocks) .gives (m40 (before
+          .before))) → Typed.Mo T48
+      m41 = λ before given. s44 (before .before .before .before .before .before .before .before .before .before .before .blocks) .next (m40 (before .before)) given
+
+      abbrev pub m42 : (before : Else1) → (given : s44 (before .before .before .before .before .before .before .before .before .before .before .blocks) .gives (m40 (before
+          .before))) → Typed.Mo T49
+      m42 = λ before given. s45 (before .before .before .before .before .before .before .before .before .before .before .blocks) .next (m41 before given)
 
       module _ (before· : Else1) where
         pub record After-fill-table-arg·own : Type 0 where
-          pub given : s42 (before· .before .before .before .before .before .before .before .before .before .before .blocks) .gives (m38 (before· .before))
+          pub given : s44 (before· .before .before .before .before .before .before .before .before .before .before .blocks) .gives (m40 (before· .before))
 
       pub record After-fill-table-arg : Type 0 where
         pub before : Else1
         pub fill-table-arg : After-fill-table-arg·own before
 
       abbrev pub Need-fill-table-requires : Type 0
-      Need-fill-table-requires = (c : After-fill-table-arg) → s44 (c .before .before .before .before .before .before .before .before .before .before .before .blocks) .asks (m40 (c
+      Need-fill-table-requires = (c : After-fill-table-arg) → s46 (c .before .before .before .before .before .before .before .before .before .before .before .blocks) .asks (m42 (c
           .before) (c .fill-table-arg .given))
 
-      abbrev pub m41 : (before : After-fill-table-arg) → (given : s44 (before .before .before .before .before .before .before .before .before .before .before .before .blocks)
-          .gives (m40 (before .before) (before .fill-table-arg .given))) → Typed.Mo T48
-      m41 = λ before given. s44 (before .before .before .before .before .before .before .before .before .before .before .before .blocks) .next (m40 (before .before) (before
+      abbrev pub m43 : (before : After-fill-table-arg) → (given : s46 (before .before .before .before .before .before .before .before .before .before .before .before .blocks)
+          .gives (m42 (before .before) (before .fill-table-arg .given))) → Typed.Mo T50
+      m43 = λ before given. s46 (before .before .before .before .before .before .before .before .before .before .before .before .blocks) .next (m42 (before .before) (before
           .fill-table-arg .given)) given
 
       module _ (before· : After-fill-table-arg) where
         abbrev pub After-fill-table·own : Type 0
-        After-fill-table·own = Called.Called ps·3 r·3 (claims· .7) T47 (
+        After-fill-table·own = Called.Called ps·3 r·3 (claims· .7) T49 (
           record { pos = 1; ty = Syntax.tyRef (Syntax.named 0) Syntax.imm (Syntax.tyInt Syntax.w8); ref = λ x. x },
           (
-            record { pos = 2; st = List.[]; d = 0; at = λ x. x },
+            record { pos = 8; st = List.[]; d = 0; at = λ x. x },
             (
               record { pos = 7; st = List.[]; d = 0; at = λ x. x },
               (
                 record {
-                  pos = 19;
+                  pos = 20;
                   ty = Syntax.tyRef Syntax.erased
                       Syntax.mut LentTilePartEntry.pointee;
                   ref = λ x. x;
@@ -5407,27 +5740,27 @@ module _ (claims· : Claims) where
               ),
             ),
           ),
-        ) (m40 (before· .before) (before· .fill-table-arg .given))
+        ) (m42 (before· .before) (before· .fill-table-arg .given))
 
       pub record After-fill-table : Type 0 where
         pub before : After-fill-table-arg
         pub fill-table : After-fill-table·own before
 
-      abbrev pub After-fill-table·gave : (c : After-fill-table) → s44 (c .before .before .before .before .before .before .before .before .before .before .before .before .blocks)
-          .gives (m40 (c .before .before) (c .before .fill-table-arg .given))
-      After-fill-table·gave = λ c. Called.given ps·3 r·3 (claims· .7) T47 (
+      abbrev pub After-fill-table·gave : (c : After-fill-table) → s46 (c .before .before .before .before .before .before .before .before .before .before .before .before .blocks)
+          .gives (m42 (c .before .before) (c .before .fill-table-arg .given))
+      After-fill-table·gave = λ c. Called.given ps·3 r·3 (claims· .7) T49 (
         record {
           pos = 1;
           ty = Syntax.tyRef (Syntax.named 0) Syntax.imm (Syntax.tyInt Syntax.w8);
           ref = λ x. x;
         },
         (
-          record { pos = 2; st = List.[]; d = 0; at = λ x. x },
+          record { pos = 8; st = List.[]; d = 0; at = λ x. x },
           (
             record { pos = 7; st = List.[]; d = 0; at = λ x. x },
             (
               record {
-                pos = 19;
+                pos = 20;
                 ty = Syntax.tyRef Syntax.erased
                     Syntax.mut LentTilePartEntry.pointee;
                 ref = λ x. x;
@@ -5436,46 +5769,46 @@ module _ (claims· : Claims) where
             ),
           ),
         ),
-      ) (m40 (c .before .before) (c .before .fill-table-arg .given)) (c .fill-table)
+      ) (m42 (c .before .before) (c .before .fill-table-arg .given)) (c .fill-table)
 
-      abbrev pub m42 : (before : After-fill-table-arg) → (given : s44 (before .before .before .before .before .before .before .before .before .before .before .before .blocks)
-          .gives (m40 (before .before) (before .fill-table-arg .given))) → Typed.Mo T49
-      m42 = λ before given. s45 (before .before .before .before .before .before .before .before .before .before .before .before .blocks) (m41 before given)
-
-      abbrev pub m43 : (before : After-fill-table-arg) → (given : s44 (before .before .before .before .before .before .before .before .before .before .before .before .blocks)
-          .gives (m40 (before .before) (before .fill-table-arg .given))) → Typed.Mo T50
-      m43 = λ before given. s46 (before .before .before .before .before .before .before .before .before .before .before .before .blocks) (m42 before given)
-
-      abbrev pub m44 : (before : After-fill-table-arg) → (given : s44 (before .before .before .before .before .before .before .before .before .before .before .before .blocks)
-          .gives (m40 (before .before) (before .fill-table-arg .given))) → Typed.Mo T51
+      abbrev pub m44 : (before : After-fill-table-arg) → (given : s46 (before .before .before .before .before .before .before .before .before .before .before .before .blocks)
+          .gives (m42 (before .before) (before .fill-table-arg .given))) → Typed.Mo T51
       m44 = λ before given. s47 (before .before .before .before .before .before .before .before .before .before .before .before .blocks) (m43 before given)
 
-      abbrev pub m45 : (before : After-fill-table) → (given : s49 (before .before .before .before .before .before .before .before .before .before .before .before .before .blocks)
-          .gives (m44 (before .before) (After-fill-table·gave before))) → Typed.Mo T53
-      m45 = λ before given. s49 (before .before .before .before .before .before .before .before .before .before .before .before .before .blocks) .next (m44 (before .before)
+      abbrev pub m45 : (before : After-fill-table-arg) → (given : s46 (before .before .before .before .before .before .before .before .before .before .before .before .blocks)
+          .gives (m42 (before .before) (before .fill-table-arg .given))) → Typed.Mo T52
+      m45 = λ before given. s48 (before .before .before .before .before .before .before .before .before .before .before .before .blocks) (m44 before given)
+
+      abbrev pub m46 : (before : After-fill-table-arg) → (given : s46 (before .before .before .before .before .before .before .before .before .before .before .before .blocks)
+          .gives (m42 (before .before) (before .fill-table-arg .given))) → Typed.Mo T53
+      m46 = λ before given. s49 (before .before .before .before .before .before .before .before .before .before .before .before .blocks) (m45 before given)
+
+      abbrev pub m47 : (before : After-fill-table) → (given : s51 (before .before .before .before .before .before .before .before .before .before .before .before .before .blocks)
+          .gives (m46 (before .before) (After-fill-table·gave before))) → Typed.Mo T55
+      m47 = λ before given. s51 (before .before .before .before .before .before .before .before .before .before .before .before .before .blocks) .next (m46 (before .before)
           (After-fill-table·gave before)) given
 
       module _ (before· : After-fill-table) where
         pub record After-table·own : Type 0 where
-          pub given : s49 (before· .before .before .before .before .before .before .before .before .before .before .before .before .blocks) .gives (m44 (before· .before)
+          pub given : s51 (before· .before .before .before .before .before .before .before .before .before .before .before .before .blocks) .gives (m46 (before· .before)
               (After-fill-table·gave before·))
 
       pub record After-table : Type 0 where
         pub before : After-fill-table
         pub table : After-table·own before
 
-      abbrev pub m46 : (before : After-table) → (given : s52 (before .before .before .before .before .before .before .before .before .before .before .before .before .before
-          .blocks) .gives (m45 (before .before) (before .table .given))) → Typed.Mo T56
-      m46 = λ before given. s52 (before .before .before .before .before .before .before .before .before .before .before .before .before .before .blocks) .next (m45 (before .before)
+      abbrev pub m48 : (before : After-table) → (given : s54 (before .before .before .before .before .before .before .before .before .before .before .before .before .before
+          .blocks) .gives (m47 (before .before) (before .table .given))) → Typed.Mo T58
+      m48 = λ before given. s54 (before .before .before .before .before .before .before .before .before .before .before .before .before .before .blocks) .next (m47 (before .before)
           (before .table .given)) given
 
-      abbrev pub m47 : (before : After-table) → (given : s52 (before .before .before .before .before .before .before .before .before .before .before .before .before .before
-          .blocks) .gives (m45 (before .before) (before .table .given))) → Typed.Mo T57
-      m47 = λ before given. s53 (before .before .before .before .before .before .before .before .before .before .before .before .before .before .blocks) .next (m46 before given)
+      abbrev pub m49 : (before : After-table) → (given : s54 (before .before .before .before .before .before .before .before .before .before .before .before .before .before
+          .blocks) .gives (m47 (before .before) (before .table .given))) → Typed.Mo T59
+      m49 = λ before given. s55 (before .before .before .before .before .before .before .before .before .before .before .before .before .before .blocks) .next (m48 before given)
 
       module _ (before· : After-table) where
         pub record After-strip-arg·own : Type 0 where
-          pub given : s52 (before· .before .before .before .before .before .before .before .before .before .before .before .before .before .blocks) .gives (m45 (before· .before)
+          pub given : s54 (before· .before .before .before .before .before .before .before .before .before .before .before .before .before .blocks) .gives (m47 (before· .before)
               (before· .table .given))
 
       pub record After-strip-arg : Type 0 where
@@ -5483,82 +5816,82 @@ module _ (claims· : Claims) where
         pub strip-arg : After-strip-arg·own before
 
       abbrev pub Need-strip-requires : Type 0
-      Need-strip-requires = (c : After-strip-arg) → s54 (c .before .before .before .before .before .before .before .before .before .before .before .before .before .before .blocks)
-          .asks (m47 (c .before) (c .strip-arg .given))
+      Need-strip-requires = (c : After-strip-arg) → s56 (c .before .before .before .before .before .before .before .before .before .before .before .before .before .before .blocks)
+          .asks (m49 (c .before) (c .strip-arg .given))
 
-      abbrev pub m48 : (before : After-strip-arg) → (given : s54 (before .before .before .before .before .before .before .before .before .before .before .before .before .before
-          .before .blocks) .gives (m47 (before .before) (before .strip-arg .given))) → Typed.Mo T58
-      m48 = λ before given. s54 (before .before .before .before .before .before .before .before .before .before .before .before .before .before .before .blocks) .next (m47 (before
+      abbrev pub m50 : (before : After-strip-arg) → (given : s56 (before .before .before .before .before .before .before .before .before .before .before .before .before .before
+          .before .blocks) .gives (m49 (before .before) (before .strip-arg .given))) → Typed.Mo T60
+      m50 = λ before given. s56 (before .before .before .before .before .before .before .before .before .before .before .before .before .before .before .blocks) .next (m49 (before
           .before) (before .strip-arg .given)) given
 
       module _ (before· : After-strip-arg) where
         abbrev pub After-strip·own : Type 0
-        After-strip·own = Called.Called ps·4 r·4 (claims· .9) T57 (
+        After-strip·own = Called.Called ps·4 r·4 (claims· .9) T59 (
           record { pos = 1; ty = Syntax.tyRef (Syntax.named 0) Syntax.imm (Syntax.tyInt Syntax.w8); ref = λ x. x },
-          (record { pos = 21; ty = Syntax.tyRef Syntax.erased Syntax.mut (Syntax.tyInt Syntax.w8); ref = λ x. x }, tt),
-        ) (m47 (before· .before) (before· .strip-arg .given))
+          (record { pos = 22; ty = Syntax.tyRef Syntax.erased Syntax.mut (Syntax.tyInt Syntax.w8); ref = λ x. x }, tt),
+        ) (m49 (before· .before) (before· .strip-arg .given))
 
       pub record After-strip : Type 0 where
         pub before : After-strip-arg
         pub strip : After-strip·own before
 
-      abbrev pub After-strip·gave : (c : After-strip) → s54 (c .before .before .before .before .before .before .before .before .before .before .before .before .before .before
-          .before .blocks) .gives (m47 (c .before .before) (c .before .strip-arg .given))
-      After-strip·gave = λ c. Called.given ps·4 r·4 (claims· .9) T57 (
+      abbrev pub After-strip·gave : (c : After-strip) → s56 (c .before .before .before .before .before .before .before .before .before .before .before .before .before .before
+          .before .blocks) .gives (m49 (c .before .before) (c .before .strip-arg .given))
+      After-strip·gave = λ c. Called.given ps·4 r·4 (claims· .9) T59 (
         record { pos = 1; ty = Syntax.tyRef (Syntax.named 0) Syntax.imm (Syntax.tyInt Syntax.w8); ref = λ x. x },
-        (record { pos = 21; ty = Syntax.tyRef Syntax.erased Syntax.mut (Syntax.tyInt Syntax.w8); ref = λ x. x }, tt),
-      ) (m47 (c .before .before) (c .before .strip-arg .given)) (c
+        (record { pos = 22; ty = Syntax.tyRef Syntax.erased Syntax.mut (Syntax.tyInt Syntax.w8); ref = λ x. x }, tt),
+      ) (m49 (c .before .before) (c .before .strip-arg .given)) (c
           .strip)
 
-      abbrev pub m49 : (before : After-strip-arg) → (given : s54 (before .before .before .before .before .before .before .before .before .before .before .before .before .before
-          .before .blocks) .gives (m47 (before .before) (before .strip-arg .given))) → Typed.Mo T59
-      m49 = λ before given. s55 (before .before .before .before .before .before .before .before .before .before .before .before .before .before .before .blocks) (m48 before given)
+      abbrev pub m51 : (before : After-strip-arg) → (given : s56 (before .before .before .before .before .before .before .before .before .before .before .before .before .before
+          .before .blocks) .gives (m49 (before .before) (before .strip-arg .given))) → Typed.Mo T61
+      m51 = λ before given. s57 (before .before .before .before .before .before .before .before .before .before .before .before .before .before .before .blocks) (m50 before given)
 
-      abbrev pub m50 : (before : After-strip) → (given : s57 (before .before .before .before .before .before .before .before .before .before .before .before .before .before .before
-          .before .blocks) .gives (m49 (before .before) (After-strip·gave before))) → Typed.Mo T61
-      m50 = λ before given. s57 (before .before .before .before .before .before .before .before .before .before .before .before .before .before .before .before .blocks) .next (m49
+      abbrev pub m52 : (before : After-strip) → (given : s59 (before .before .before .before .before .before .before .before .before .before .before .before .before .before .before
+          .before .blocks) .gives (m51 (before .before) (After-strip·gave before))) → Typed.Mo T63
+      m52 = λ before given. s59 (before .before .before .before .before .before .before .before .before .before .before .before .before .before .before .before .blocks) .next (m51
           (before .before) (After-strip·gave before)) given
 
       module _ (before· : After-strip) where
         pub record After-out2·own : Type 0 where
-          pub given : s57 (before· .before .before .before .before .before .before .before .before .before .before .before .before .before .before .before .blocks) .gives (m49
+          pub given : s59 (before· .before .before .before .before .before .before .before .before .before .before .before .before .before .before .before .blocks) .gives (m51
               (before· .before) (After-strip·gave before·))
 
       pub record After-out2 : Type 0 where
         pub before : After-strip
         pub out2 : After-out2·own before
 
-      abbrev pub m51 : (before : After-out2) → (given : s58 (before .before .before .before .before .before .before .before .before .before .before .before .before .before .before
-          .before .before .blocks) .gives (m50 (before .before) (before .out2 .given))) → Typed.Mo T62
-      m51 = λ before given. s58 (before .before .before .before .before .before .before .before .before .before .before .before .before .before .before .before .before .blocks)
-          .next (m50 (before .before) (before .out2 .given)) given
+      abbrev pub m53 : (before : After-out2) → (given : s60 (before .before .before .before .before .before .before .before .before .before .before .before .before .before .before
+          .before .before .blocks) .gives (m52 (before .before) (before .out2 .given))) → Typed.Mo T64
+      m53 = λ before given. s60 (before .before .before .before .before .before .before .before .before .before .before .before .before .before .before .before .before .blocks)
+          .next (m52 (before .before) (before .out2 .given)) given
 
-      abbrev pub m52 : (before : After-out2) → (given : s58 (before .before .before .before .before .before .before .before .before .before .before .before .before .before .before
-          .before .before .blocks) .gives (m50 (before .before) (before .out2 .given))) → Typed.Mo T64
-      m52 = λ before given. s60 (before .before .before .before .before .before .before .before .before .before .before .before .before .before .before .before .before .blocks)
-          (m51 before given)
+      abbrev pub m54 : (before : After-out2) → (given : s60 (before .before .before .before .before .before .before .before .before .before .before .before .before .before .before
+          .before .before .blocks) .gives (m52 (before .before) (before .out2 .given))) → Typed.Mo T66
+      m54 = λ before given. s62 (before .before .before .before .before .before .before .before .before .before .before .before .before .before .before .before .before .blocks)
+          (m53 before given)
 
-      abbrev pub m53 : (before : After-out2) → (given : s58 (before .before .before .before .before .before .before .before .before .before .before .before .before .before .before
-          .before .before .blocks) .gives (m50 (before .before) (before .out2 .given))) → Typed.Mo T65
-      m53 = λ before given. s61 (before .before .before .before .before .before .before .before .before .before .before .before .before .before .before .before .before .blocks)
-          (m52 before given)
+      abbrev pub m55 : (before : After-out2) → (given : s60 (before .before .before .before .before .before .before .before .before .before .before .before .before .before .before
+          .before .before .blocks) .gives (m52 (before .before) (before .out2 .given))) → Typed.Mo T67
+      m55 = λ before given. s63 (before .before .before .before .before .before .before .before .before .before .before .before .before .before .before .before .before .blocks)
+          (m54 before given)
 
       module _ (before· : After-out2) where
         pub record After-slice-known3·own : Type 0 where
-          pub given : s58 (before· .before .before .before .before .before .before .before .before .before .before .before .before .before .before .before .before .blocks) .gives
-              (m50 (before· .before) (before· .out2 .given))
+          pub given : s60 (before· .before .before .before .before .before .before .before .before .before .before .before .before .before .before .before .before .blocks) .gives
+              (m52 (before· .before) (before· .out2 .given))
 
       pub record After-slice-known3 : Type 0 where
         pub before : After-out2
         pub slice-known3 : After-slice-known3·own before
 
       abbrev pub Need-same-length-2 : Type 0
-      Need-same-length-2 = (c : After-slice-known3) → MutSlice.SameLen (Row.get 3 (T65 .locals) (m53 (c .before) (c .slice-known3 .given))) (dens (c .before .before .before .before
+      Need-same-length-2 = (c : After-slice-known3) → MutSlice.SameLen (Row.get 3 (T67 .locals) (m55 (c .before) (c .slice-known3 .given))) (dens (c .before .before .before .before
           .before .before .before .before .before .before .before .before .before .before .before .before .before .κs) (c .before .before .before .before .before .before .before
           .before .before .before .before .before .before .before .before .before .before .args) .1 .1 .0)
 
       abbrev pub Need-same-length-3 : Type 0
-      Need-same-length-3 = (c : After-slice-known3) → MutSlice.SameLen (Row.get 4 (T65 .locals) (m53 (c .before) (c .slice-known3 .given))) (dens (c .before .before .before .before
+      Need-same-length-3 = (c : After-slice-known3) → MutSlice.SameLen (Row.get 4 (T67 .locals) (m55 (c .before) (c .slice-known3 .given))) (dens (c .before .before .before .before
           .before .before .before .before .before .before .before .before .before .before .before .before .before .κs) (c .before .before .before .before .before .before .before
           .before .before .before .before .before .before .before .before .before .before .args) .1 .1 .1 .0)
 
@@ -5566,13 +5899,13 @@ module _ (claims· : Claims) where
       Need-returns-3 = (c : After-slice-known3) → Post· (c .before .before .before .before .before .before .before .before .before .before .before .before .before .before .before
           .before .before .κs) (dens (c .before .before .before .before .before .before .before .before .before .before .before .before .before .before .before .before .before .κs)
           (c .before .before .before .before .before .before .before .before .before .before .before .before .before .before .before .before .before .args)) (Function.resV r (c
-          .before .before .before .before .before .before .before .before .before .before .before .before .before .before .before .before .before .κs) (m53 (c .before) (c
+          .before .before .before .before .before .before .before .before .before .before .before .before .before .before .before .before .before .κs) (m55 (c .before) (c
           .slice-known3 .given) .0)) (Clauses.atExit (Kinds.endedOf 3 ps r) (c .before .before .before .before .before .before .before .before .before .before .before .before
           .before .before .before .before .before .κs) (dens (c .before .before .before .before .before .before .before .before .before .before .before .before .before .before
           .before .before .before .κs) (c .before .before .before .before .before .before .before .before .before .before .before .before .before .before .before .before .before
           .args)) (Enter.lastsP (c .before .before .before .before .before .before .before .before .before .before .before .before .before .before .before .before .before .κs) 1 ps
           xs (dens (c .before .before .before .before .before .before .before .before .before .before .before .before .before .before .before .before .before .κs) (c .before
-          .before .before .before .before .before .before .before .before .before .before .before .before .before .before .before .before .args)) (m53 (c .before) (c .slice-known3
+          .before .before .before .before .before .before .before .before .before .before .before .before .before .before .before .before .args)) (m55 (c .before) (c .slice-known3
           .given) .1)))
 
       module _ (decide-requires : Need-decide-requires) (enum-known-answer : Need-enum-known-answer) (enum-told : Need-enum-told) (returns : Need-returns) (position-requires :
@@ -5582,7 +5915,7 @@ module _ (claims· : Claims) where
           lay9 : (c : After-strip) → at39 (c .before .before .before .before .before .before .before .before .before .before .before .before .before .before .before .blocks) (W0 (c
               .before .before .before .before .before .before .before .before .before .before .before .before .before .before .before .κs) (c .before .before .before .before .before
               .before .before .before .before .before .before .before .before .before .before .args) (c .before .before .before .before .before .before .before .before .before
-              .before .before .before .before .before .before .blocks)) (m48 (c .before) (After-strip·gave c))
+              .before .before .before .before .before .before .blocks)) (m50 (c .before) (After-strip·gave c))
           lay9 = λ c. (
             Path'.refl,
             λ g. λ g'. (
@@ -5591,11 +5924,11 @@ module _ (claims· : Claims) where
                 (
                   tt,
                   (
-                    MutSlice.fix-len (Row.get 3 (T65 .locals) (m53 record {
+                    MutSlice.fix-len (Row.get 3 (T67 .locals) (m55 record {
                       before = record { before = c .before; strip = c .strip };
                       out2 = record { given = g };
-                    } g') .ptr) (Row.get 3 (T65 .locals) (m53 record { before = record { before = c .before; strip = c .strip }; out2 = record { given = g } }
-                        g') .name) (Row.get 3 (T65 .locals) (m53 record { before = record { before = c .before; strip = c .strip }; out2 = record { given = g } } g') .now) (dens (c .before
+                    } g') .ptr) (Row.get 3 (T67 .locals) (m55 record { before = record { before = c .before; strip = c .strip }; out2 = record { given = g } }
+                        g') .name) (Row.get 3 (T67 .locals) (m55 record { before = record { before = c .before; strip = c .strip }; out2 = record { given = g } } g') .now) (dens (c .before
                         .before .before .before .before .before .before .before .before .before .before .before .before .before .before .κs) (c .before .before .before .before .before .before
                         .before .before .before .before .before .before .before .before .before .args) .1 .1 .0 .now) (same-length-2 record {
                           before = record {
@@ -5609,17 +5942,17 @@ module _ (claims· : Claims) where
                           slice-known3 = record { given = g' };
                         }),
                     (
-                      MutSlice.fix-len (Row.get 4 (T65 .locals) (m53 record {
+                      MutSlice.fix-len (Row.get 4 (T67 .locals) (m55 record {
                         before =
                             record { before = c .before; strip = c .strip };
                         out2 = record { given = g };
-                      } g') .ptr) (Row.get 4 (T65 .locals) (m53 record {
+                      } g') .ptr) (Row.get 4 (T67 .locals) (m55 record {
                         before = record {
                           before = c .before;
                           strip = c .strip;
                         };
                         out2 = record { given = g };
-                      } g') .name) (Row.get 4 (T65 .locals) (m53 record {
+                      } g') .name) (Row.get 4 (T67 .locals) (m55 record {
                         before = record { before = c .before; strip = c .strip };
                         out2 =
                             record { given = g };
@@ -5637,7 +5970,7 @@ module _ (claims· : Claims) where
 
           lay8 : (c : After-fill-table) → at49 (c .before .before .before .before .before .before .before .before .before .before .before .before .blocks) (W0 (c .before .before
               .before .before .before .before .before .before .before .before .before .before .κs) (c .before .before .before .before .before .before .before .before .before .before
-              .before .before .args) (c .before .before .before .before .before .before .before .before .before .before .before .before .blocks)) (m41 (c .before)
+              .before .before .args) (c .before .before .before .before .before .before .before .before .before .before .before .before .blocks)) (m43 (c .before)
               (After-fill-table·gave c))
           lay8 = λ c. (
             Path'.refl,
@@ -5664,7 +5997,7 @@ module _ (claims· : Claims) where
                     };
                     strip-arg = record { given = g' };
                   };
-                  strip = Called.called ps·4 r·4 (claims· .9) T57 (
+                  strip = Called.called ps·4 r·4 (claims· .9) T59 (
                     record {
                       pos = 1;
                       ty =
@@ -5673,20 +6006,20 @@ module _ (claims· : Claims) where
                     },
                     (
                       record {
-                        pos = 21;
+                        pos = 22;
                         ty = Syntax.tyRef Syntax.erased Syntax.mut (Syntax.tyInt
                             Syntax.w8);
                         ref = λ x. x;
                       },
                       tt,
                     ),
-                  ) (m47 record { before = record { before = c .before; fill-table = c .fill-table }; table = record { given = g } } g') g'';
+                  ) (m49 record { before = record { before = c .before; fill-table = c .fill-table }; table = record { given = g } } g') g'';
                 },
               ),
             ),
           )
 
-          lay7 : (c : Else1) → at53 (c .before .before .before .before .before .before .before .before .before .before .blocks) (W0 (c .before .before .before .before .before .before
+          lay7 : (c : Else1) → at55 (c .before .before .before .before .before .before .before .before .before .before .blocks) (W0 (c .before .before .before .before .before .before
               .before .before .before .before .κs) (c .before .before .before .before .before .before .before .before .before .before .args) (c .before .before .before .before
               .before .before .before .before .before .before .blocks)) (m38 (c .before))
           lay7 = λ c. λ g. (
@@ -5697,11 +6030,11 @@ module _ (claims· : Claims) where
                   record {
                     before = record { before = record { before = c .before; if1 = c .if1 }; fill-table-arg = record { given = g } };
                     fill-table = Called.called ps·3 r·3 (claims·
-                        .7) T47 (
+                        .7) T49 (
                           record { pos = 1; ty = Syntax.tyRef (Syntax.named 0) Syntax.imm (Syntax.tyInt Syntax.w8); ref = λ x. x },
                           (
                             record {
-                              pos = 2;
+                              pos = 8;
                               st = List.[];
                               d = 0;
                               at = λ x. x;
@@ -5709,12 +6042,12 @@ module _ (claims· : Claims) where
                             (
                               record { pos = 7; st = List.[]; d = 0; at = λ x. x },
                               (
-                                record { pos = 19; ty = Syntax.tyRef Syntax.erased Syntax.mut LentTilePartEntry.pointee; ref = λ x. x },
+                                record { pos = 20; ty = Syntax.tyRef Syntax.erased Syntax.mut LentTilePartEntry.pointee; ref = λ x. x },
                                 tt,
                               ),
                             ),
                           ),
-                        ) (m40 record { before = c .before; if1 = c .if1 } g) g';
+                        ) (m42 record { before = c .before; if1 = c .if1 } g) g';
                   },
             ),
           )
@@ -5793,10 +6126,10 @@ module _ (claims· : Claims) where
                           (
                             Num.vLit 0,
                             (
-                              Num.vAt 14 λ x. x,
+                              Num.vAt 15 λ x. x,
                               (
                                 record {
-                                  pos = 16;
+                                  pos = 17;
                                   ty = Syntax.tyRef Syntax.erased Syntax.mut (Syntax.tyInt Syntax.w8);
                                   ref = λ x. x;
                                 },
@@ -5824,7 +6157,7 @@ module _ (claims· : Claims) where
             },
           )
 
-          lay2 : (c : After-known-told) → at58 (c .before .before .before .before .before .before .blocks) (W0 (c .before .before .before .before .before .before .κs) (c .before
+          lay2 : (c : After-known-told) → at60 (c .before .before .before .before .before .before .blocks) (W0 (c .before .before .before .before .before .before .κs) (c .before
               .before .before .before .before .before .args) (c .before .before .before .before .before .before .blocks)) (m15 (c .before) (c .known-told .given))
           lay2 = λ c. (
             tt,
@@ -5909,7 +6242,7 @@ module _ (claims· : Claims) where
             ),
           )
 
-          lay1 : (c : After-decide) → at59 (c .before .before .before .blocks) (W0 (c .before .before .before .κs) (c .before .before .before .args) (c .before .before .before
+          lay1 : (c : After-decide) → at61 (c .before .before .before .blocks) (W0 (c .before .before .before .κs) (c .before .before .before .args) (c .before .before .before
               .blocks)) (m9 (c .before) (After-decide·gave c))
           lay1 = λ c. (
             λ k. (
@@ -5944,7 +6277,7 @@ module _ (claims· : Claims) where
             ),
           )
 
-          pub laid : (c : Start) → at68 (c .blocks) (W0 (c .κs) (c .args) (c .blocks)) (m0 (c .κs) (c .args) (c .blocks))
+          pub laid : (c : Start) → at70 (c .blocks) (W0 (c .κs) (c .args) (c .blocks)) (m0 (c .κs) (c .args) (c .blocks))
           laid = λ c. λ g. λ g'. (
             decide-requires record { before = record { before = c; shared-slice-known = record { given = g } }; slice-known = record { given = g' } },
             λ g''.
@@ -5961,7 +6294,7 @@ module _ (claims· : Claims) where
                             d = 0;
                             at = λ x. x;
                           },
-                          (Num.vAt 9 λ x. x, (Num.vAt 11 λ x. x, tt)),
+                          (Num.vAt 10 λ x. x, (Num.vAt 12 λ x. x, tt)),
                         ),
                       ) (m8 record { before = c; shared-slice-known = record { given = g } } g') g'';
                 },
@@ -5972,7 +6305,7 @@ module _ (claims· : Claims) where
                 (Function.init 3 ps r xs m κs qs a)
             asked = λ a good pre bs. laid record {
               κs = κs;
-              args = record { codestream = a .0; numbering = a .1 .0; table = a .1 .1 .0; out = a .1 .1 .1 .0 };
+              args = record { codestream = a .0; reading = a .1 .0; table = a .1 .1 .0; out = a .1 .1 .1 .0 };
               blocks = bs;
               good =
                   good;

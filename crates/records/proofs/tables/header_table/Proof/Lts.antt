@@ -1,10 +1,10 @@
 -- `Lts` of `records::tables/header_table`, written by tools/twin.py from twins/records.twin: change that, and not this.
 use Rattle.types.proofs.lent.TilePartEntry as LentTilePartEntry
 use Prim.Native.Nat
-use Rattle.header.proofs.numbering.Numbering
-use Rattle.header.proofs.numbering.Numbering.Laws
 use Rattle.header.proofs.parse.MainHeader
-use Rattle.header.proofs.parse.MainHeader.Laws as Laws'
+use Rattle.header.proofs.parse.MainHeader.Laws
+use Rattle.header.proofs.reading.Reading
+use Rattle.header.proofs.reading.Reading.Laws as Laws'
 use Rattle.records.proofs.tables.HeaderTable
 use Rattle.records.proofs.tables.HeaderTable.Laws as Laws''
 use borrow.Author.Called
@@ -60,23 +60,24 @@ use types.Kit
 
 abbrev pub ps : List.List (Kinds.PK 2)
 ps = List._∷_ (ShrSlice.pShrS (Referent.rtF (Referent.fInt Syntax.w8)) 0 tt) (List._∷_ (Value.pVal record {
-  ty = Declared.row Numbering.the-type;
+  ty = Declared'.row Reading.the-type;
   one = Path'.refl;
-  val = Laws'3.val
-      Numbering.the-type Laws.the-laws;
-  tells = Laws'3.tells Numbering.the-type Laws.the-laws;
-  still = Laws'3.still Numbering.the-type Laws.the-copy Exit.yes;
+  val = Laws'4.val
+      Reading.the-type Laws'.the-laws;
+  tells = Laws'4.tells Reading.the-type Laws'.the-laws;
+  still = Laws'4.still Reading.the-type Laws'.the-copy Exit.yes;
   row = Rows'.whole
-      (Declared.row Numbering.the-type);
+      (Declared'.row Reading.the-type);
   rd = λ x. x;
   mk = λ x. x;
 } λ M 𝓤 H A W. record {
-  copies = Laws'3.copy Numbering.the-type Laws.the-copy 𝓤 H A W;
-  lawful = Laws'3.lawful
-      Numbering.the-type Laws.the-laws 𝓤 H A W tt;
-  makes = Laws'3.makes Numbering.the-type Laws.the-plain 𝓤 H A;
-  in-mem = Local.mem-whole 𝓤 H A W (Declared.row Numbering.the-type);
-  of-mem = Local.whole-mem 𝓤 H A W (Declared.row Numbering.the-type);
+  copies = Laws'4.copy Reading.the-type Laws'.the-copy 𝓤 H A W;
+  lawful = Laws'4.lawful
+      Reading.the-type Laws'.the-laws 𝓤 H A W;
+  makes = Laws'4.makes Reading.the-type Laws'.the-plain 𝓤 H A;
+  in-mem = Local.mem-whole 𝓤 H A W (Declared'.row Reading.the-type);
+  of-mem
+      = Local.whole-mem 𝓤 H A W (Declared'.row Reading.the-type);
 }) (List._∷_ (MutSlice.pMutS (Referent.rtF (Referent.fInt Syntax.w8)) 1 tt) List.[]))
 
 abbrev pub r : Kinds.RK 2
@@ -129,24 +130,24 @@ r·0 = Array.rArr LentTilePartEntry.elem LentTilePartEntry.elem-laws 2048
 
 abbrev pub ps·1 : List.List (Kinds.PK 3)
 ps·1 = List._∷_ (ShrSlice.pShrS (Referent.rtF (Referent.fInt Syntax.w8)) 0 tt) (List._∷_ (Value.pVal record {
-  ty = Declared.row Numbering.the-type;
+  ty = Declared'.row Reading.the-type;
   one = Path'.refl;
   val =
-      Laws'3.val Numbering.the-type Laws.the-laws;
-  tells = Laws'3.tells Numbering.the-type Laws.the-laws;
-  still = Laws'3.still Numbering.the-type Laws.the-copy Exit.yes;
+      Laws'4.val Reading.the-type Laws'.the-laws;
+  tells = Laws'4.tells Reading.the-type Laws'.the-laws;
+  still = Laws'4.still Reading.the-type Laws'.the-copy Exit.yes;
   row =
-      Rows'.whole (Declared.row Numbering.the-type);
+      Rows'.whole (Declared'.row Reading.the-type);
   rd = λ x. x;
   mk = λ x. x;
 } λ M 𝓤 H A W. record {
-  copies = Laws'3.copy Numbering.the-type Laws.the-copy 𝓤 H A W;
+  copies = Laws'4.copy Reading.the-type Laws'.the-copy 𝓤 H A W;
   lawful =
-      Laws'3.lawful Numbering.the-type Laws.the-laws 𝓤 H A W tt;
-  makes = Laws'3.makes Numbering.the-type Laws.the-plain 𝓤 H A;
-  in-mem = Local.mem-whole 𝓤 H A W (Declared.row
-      Numbering.the-type);
-  of-mem = Local.whole-mem 𝓤 H A W (Declared.row Numbering.the-type);
+      Laws'4.lawful Reading.the-type Laws'.the-laws 𝓤 H A W;
+  makes = Laws'4.makes Reading.the-type Laws'.the-plain 𝓤 H A;
+  in-mem = Local.mem-whole 𝓤 H A W (Declared'.row
+      Reading.the-type);
+  of-mem = Local.whole-mem 𝓤 H A W (Declared'.row Reading.the-type);
 }) (List._∷_ (MutSlice.pMutS LentTilePartEntry.row 1 tt) (List._∷_ (MutSlice.pMutS
     (Referent.rtF (Referent.fInt Syntax.w8)) 2 tt) List.[])))
 
@@ -154,19 +155,19 @@ abbrev pub r·1 : Kinds.RK 3
 r·1 = Value.rVal record {
   ty = Declared.row MainHeader.the-type;
   one = Path'.refl;
-  val = Laws'3.val MainHeader.the-type Laws'.the-laws;
+  val = Laws'3.val MainHeader.the-type Laws.the-laws;
   tells = Laws'3.tells MainHeader.the-type
-      Laws'.the-laws;
-  still = Laws'3.still MainHeader.the-type Laws'.the-copy Exit.yes;
+      Laws.the-laws;
+  still = Laws'3.still MainHeader.the-type Laws.the-copy Exit.yes;
   row = Rows'.whole (Declared.row MainHeader.the-type);
   rd = λ x. x;
   mk = λ x. x;
 } λ M 𝓤 H A W.
     record {
-      copies = Laws'3.copy MainHeader.the-type Laws'.the-copy 𝓤 H A W;
-      lawful = Laws'3.lawful MainHeader.the-type Laws'.the-laws 𝓤 H A W tt;
+      copies = Laws'3.copy MainHeader.the-type Laws.the-copy 𝓤 H A W;
+      lawful = Laws'3.lawful MainHeader.the-type Laws.the-laws 𝓤 H A W tt;
       makes = Laws'3.makes
-          MainHeader.the-type Laws'.the-plain 𝓤 H A;
+          MainHeader.the-type Laws.the-plain 𝓤 H A;
       in-mem = Local.mem-whole 𝓤 H A W (Declared.row MainHeader.the-type);
       of-mem = Local.whole-mem 𝓤 H A W (Declared.row
           MainHeader.the-type);
@@ -176,19 +177,19 @@ abbrev pub ps·2 : List.List (Kinds.PK 0)
 ps·2 = List._∷_ (Value.pVal record {
   ty = Declared.row MainHeader.the-type;
   one = Path'.refl;
-  val = Laws'3.val MainHeader.the-type Laws'.the-laws;
+  val = Laws'3.val MainHeader.the-type Laws.the-laws;
   tells = Laws'3.tells
-      MainHeader.the-type Laws'.the-laws;
-  still = Laws'3.still MainHeader.the-type Laws'.the-copy Exit.yes;
+      MainHeader.the-type Laws.the-laws;
+  still = Laws'3.still MainHeader.the-type Laws.the-copy Exit.yes;
   row = Rows'.whole (Declared.row MainHeader.the-type);
   rd = λ x. x;
-  mk = λ
-      x. x;
+  mk = λ x.
+      x;
 } λ M 𝓤 H A W. record {
-  copies = Laws'3.copy MainHeader.the-type Laws'.the-copy 𝓤 H A W;
-  lawful = Laws'3.lawful MainHeader.the-type Laws'.the-laws 𝓤 H A W tt;
+  copies = Laws'3.copy MainHeader.the-type Laws.the-copy 𝓤 H A W;
+  lawful = Laws'3.lawful MainHeader.the-type Laws.the-laws 𝓤 H A W tt;
   makes =
-      Laws'3.makes MainHeader.the-type Laws'.the-plain 𝓤 H A;
+      Laws'3.makes MainHeader.the-type Laws.the-plain 𝓤 H A;
   in-mem = Local.mem-whole 𝓤 H A W (Declared.row MainHeader.the-type);
   of-mem = Local.whole-mem 𝓤 H A W (Declared.row
       MainHeader.the-type);
@@ -309,7 +310,7 @@ t0 = List._∷_ (
   1,
   Rows'.sslice (Referent.rtF (Referent.fInt Syntax.w8))
       (Syntax.tyRef (Syntax.named 0) Syntax.imm (Syntax.tyInt Syntax.w8)) 0,
-) (List._∷_ (2, Rows'.whole (Declared.row Numbering.the-type)) (List._∷_ (
+) (List._∷_ (2, Rows'.whole (Declared'.row Reading.the-type)) (List._∷_ (
   3,
   Mut.mslice (Referent.rtF
       (Referent.fInt Syntax.w8)) (Syntax.tyRef (Syntax.named 1) Syntax.mut (Syntax.tyInt Syntax.w8)) 1,
@@ -348,44 +349,47 @@ t1 = List._∷_ (0, Rows'.whole (Declared'.row HeaderTable.the-type)) (List._∷
       (Syntax.tyInt Syntax.w8)) 0,
 ) (List._∷_ (
   2,
-  Rows'.any-gone (Syntax.tyEnum (List._∷_ 104 (List._∷_ 101 (List._∷_ 97 (List._∷_ 100 (List._∷_ 101 (List._∷_ 114 (List._∷_ 58
-      (List._∷_ 58 (List._∷_ 110 (List._∷_ 117 (List._∷_ 109 (List._∷_ 98 (List._∷_ 101 (List._∷_ 114 (List._∷_ 105 (List._∷_ 110 (List._∷_ 103 (List._∷_ 58 (List._∷_ 58 (List._∷_ 78
-      (List._∷_ 117 (List._∷_ 109 (List._∷_ 98 (List._∷_ 101 (List._∷_ 114 (List._∷_ 105 (List._∷_ 110 (List._∷_ 103 List.[])))))))))))))))))))))))))))) (Syntax.ttcons Syntax.tnil
-      (Syntax.ttcons Syntax.tnil Syntax.ttnil))),
+  Rows'.any-gone (Syntax.tyStruct (List._∷_ 104 (List._∷_ 101 (List._∷_ 97 (List._∷_ 100 (List._∷_ 101 (List._∷_ 114 (List._∷_ 58
+      (List._∷_ 58 (List._∷_ 114 (List._∷_ 101 (List._∷_ 97 (List._∷_ 100 (List._∷_ 105 (List._∷_ 110 (List._∷_ 103 (List._∷_ 58 (List._∷_ 58 (List._∷_ 82 (List._∷_ 101 (List._∷_ 97
+      (List._∷_ 100 (List._∷_ 105 (List._∷_ 110 (List._∷_ 103 List.[])))))))))))))))))))))))) (Syntax.tcons (Syntax.tyEnum (List._∷_ 104 (List._∷_ 101 (List._∷_ 97 (List._∷_ 100
+      (List._∷_ 101 (List._∷_ 114 (List._∷_ 58 (List._∷_ 58 (List._∷_ 110 (List._∷_ 117 (List._∷_ 109 (List._∷_ 98 (List._∷_ 101 (List._∷_ 114 (List._∷_ 105 (List._∷_ 110 (List._∷_
+      103 (List._∷_ 58 (List._∷_ 58 (List._∷_ 78 (List._∷_ 117 (List._∷_ 109 (List._∷_ 98 (List._∷_ 101 (List._∷_ 114 (List._∷_ 105 (List._∷_ 110 (List._∷_ 103
+      List.[])))))))))))))))))))))))))))) (Syntax.ttcons Syntax.tnil (Syntax.ttcons Syntax.tnil Syntax.ttnil))) (Syntax.tcons (Syntax.tyEnum (List._∷_ 104 (List._∷_ 101 (List._∷_ 97
+      (List._∷_ 100 (List._∷_ 101 (List._∷_ 114 (List._∷_ 58 (List._∷_ 58 (List._∷_ 101 (List._∷_ 100 (List._∷_ 105 (List._∷_ 116 (List._∷_ 105 (List._∷_ 111 (List._∷_ 110 (List._∷_
+      58 (List._∷_ 58 (List._∷_ 69 (List._∷_ 100 (List._∷_ 105 (List._∷_ 116 (List._∷_ 105 (List._∷_ 111 (List._∷_ 110 List.[])))))))))))))))))))))))) (Syntax.ttcons Syntax.tnil
+      (Syntax.ttcons Syntax.tnil Syntax.ttnil))) Syntax.tnil))),
 ) (List._∷_ (
   3,
-  Mut.mslice (Referent.rtF (Referent.fInt Syntax.w8)) (Syntax.tyRef (Syntax.named 1) Syntax.mut (Syntax.tyInt
-      Syntax.w8)) 1,
+  Mut.mslice (Referent.rtF (Referent.fInt Syntax.w8)) (Syntax.tyRef (Syntax.named 1) Syntax.mut
+      (Syntax.tyInt Syntax.w8)) 1,
 ) (List._∷_ (4, Rows'.any-gone (Syntax.tyArray LentTilePartEntry.spelled 2048)) (List._∷_ (
   5,
-  Rows'.any-gone (Syntax.tyEnum (List._∷_ 104 (List._∷_ 101 (List._∷_
-      97 (List._∷_ 100 (List._∷_ 101 (List._∷_ 114 (List._∷_ 58 (List._∷_ 58 (List._∷_ 112 (List._∷_ 97 (List._∷_ 114 (List._∷_ 115 (List._∷_ 101 (List._∷_ 58 (List._∷_ 58 (List._∷_
-      77 (List._∷_ 97 (List._∷_ 105 (List._∷_ 110 (List._∷_ 72 (List._∷_ 101 (List._∷_ 97 (List._∷_ 100 (List._∷_ 101 (List._∷_ 114 List.[]))))))))))))))))))))))))) (Syntax.ttcons
-      (Syntax.tcons (Syntax.tyStruct (List._∷_ 104 (List._∷_ 101 (List._∷_ 97 (List._∷_ 100 (List._∷_ 101 (List._∷_ 114 (List._∷_ 58 (List._∷_ 58 (List._∷_ 112 (List._∷_ 97 (List._∷_
-      114 (List._∷_ 115 (List._∷_ 101 (List._∷_ 58 (List._∷_ 58 (List._∷_ 77 (List._∷_ 97 (List._∷_ 105 (List._∷_ 110 (List._∷_ 72 (List._∷_ 101 (List._∷_ 97 (List._∷_ 100 (List._∷_
-      101 (List._∷_ 114 (List._∷_ 73 (List._∷_ 110 (List._∷_ 102 (List._∷_ 111 List.[]))))))))))))))))))))))))))))) (Syntax.tcons (Syntax.tyStruct (List._∷_ 116 (List._∷_ 121
-      (List._∷_ 112 (List._∷_ 101 (List._∷_ 115 (List._∷_ 58 (List._∷_ 58 (List._∷_ 67 (List._∷_ 111 (List._∷_ 100 (List._∷_ 101 (List._∷_ 115 (List._∷_ 116 (List._∷_ 114 (List._∷_
-      101 (List._∷_ 97 (List._∷_ 109 (List._∷_ 79 (List._∷_ 102 (List._∷_ 102 (List._∷_ 115 (List._∷_ 101 (List._∷_ 116 List.[]))))))))))))))))))))))) (Syntax.tcons (Syntax.tyInt
-      Syntax.w64) Syntax.tnil)) (Syntax.tcons (Syntax.tyInt Syntax.w64) (Syntax.tcons (Syntax.tyInt Syntax.w64) (Syntax.tcons (Syntax.tyInt Syntax.w64) Syntax.tnil))))) Syntax.tnil)
-      (Syntax.ttcons (Syntax.tcons (Syntax.tyStruct (List._∷_ 116 (List._∷_ 121 (List._∷_ 112 (List._∷_ 101 (List._∷_ 115 (List._∷_ 58 (List._∷_ 58 (List._∷_ 82 (List._∷_ 101
-      (List._∷_ 102 (List._∷_ 117 (List._∷_ 115 (List._∷_ 97 (List._∷_ 108 List.[])))))))))))))) (Syntax.tcons (Syntax.tyInt Syntax.w32) (Syntax.tcons (Syntax.tyInt Syntax.w64)
-      Syntax.tnil))) Syntax.tnil) Syntax.ttnil))),
+  Rows'.any-gone (Syntax.tyEnum (List._∷_ 104 (List._∷_
+      101 (List._∷_ 97 (List._∷_ 100 (List._∷_ 101 (List._∷_ 114 (List._∷_ 58 (List._∷_ 58 (List._∷_ 112 (List._∷_ 97 (List._∷_ 114 (List._∷_ 115 (List._∷_ 101 (List._∷_ 58 (List._∷_
+      58 (List._∷_ 77 (List._∷_ 97 (List._∷_ 105 (List._∷_ 110 (List._∷_ 72 (List._∷_ 101 (List._∷_ 97 (List._∷_ 100 (List._∷_ 101 (List._∷_ 114 List.[])))))))))))))))))))))))))
+      (Syntax.ttcons (Syntax.tcons (Syntax.tyStruct (List._∷_ 104 (List._∷_ 101 (List._∷_ 97 (List._∷_ 100 (List._∷_ 101 (List._∷_ 114 (List._∷_ 58 (List._∷_ 58 (List._∷_ 112
+      (List._∷_ 97 (List._∷_ 114 (List._∷_ 115 (List._∷_ 101 (List._∷_ 58 (List._∷_ 58 (List._∷_ 77 (List._∷_ 97 (List._∷_ 105 (List._∷_ 110 (List._∷_ 72 (List._∷_ 101 (List._∷_ 97
+      (List._∷_ 100 (List._∷_ 101 (List._∷_ 114 (List._∷_ 73 (List._∷_ 110 (List._∷_ 102 (List._∷_ 111 List.[]))))))))))))))))))))))))))))) (Syntax.tcons (Syntax.tyStruct (List._∷_
+      116 (List._∷_ 121 (List._∷_ 112 (List._∷_ 101 (List._∷_ 115 (List._∷_ 58 (List._∷_ 58 (List._∷_ 67 (List._∷_ 111 (List._∷_ 100 (List._∷_ 101 (List._∷_ 115 (List._∷_ 116
+      (List._∷_ 114 (List._∷_ 101 (List._∷_ 97 (List._∷_ 109 (List._∷_ 79 (List._∷_ 102 (List._∷_ 102 (List._∷_ 115 (List._∷_ 101 (List._∷_ 116 List.[])))))))))))))))))))))))
+      (Syntax.tcons (Syntax.tyInt Syntax.w64) Syntax.tnil)) (Syntax.tcons (Syntax.tyInt Syntax.w64) (Syntax.tcons (Syntax.tyInt Syntax.w64) (Syntax.tcons (Syntax.tyInt Syntax.w64)
+      Syntax.tnil))))) Syntax.tnil) (Syntax.ttcons (Syntax.tcons (Syntax.tyStruct (List._∷_ 116 (List._∷_ 121 (List._∷_ 112 (List._∷_ 101 (List._∷_ 115 (List._∷_ 58 (List._∷_ 58
+      (List._∷_ 82 (List._∷_ 101 (List._∷_ 102 (List._∷_ 117 (List._∷_ 115 (List._∷_ 97 (List._∷_ 108 List.[])))))))))))))) (Syntax.tcons (Syntax.tyInt Syntax.w32) (Syntax.tcons
+      (Syntax.tyInt Syntax.w64) Syntax.tnil))) Syntax.tnil) Syntax.ttnil))),
 ) (List._∷_ (6, Rows'.any-gone (Syntax.tyArray LentTilePartEntry.spelled 2048)) (List._∷_ (
   7,
-  Rows'.any-gone (Syntax.tyRef
-      Syntax.erased Syntax.mut (Syntax.tyArray LentTilePartEntry.pointee 2048)),
+  Rows'.any-gone (Syntax.tyRef Syntax.erased Syntax.mut (Syntax.tyArray LentTilePartEntry.pointee 2048)),
 ) (List._∷_ (
   8,
-  Rows'.any-gone (Syntax.tyStruct (List._∷_ 38 (List._∷_ 91 (List._∷_ 93 List.[])))
-      (Syntax.tcons (Syntax.tyRef Syntax.erased Syntax.mut LentTilePartEntry.pointee) (Syntax.tcons (Syntax.tyInt Syntax.w64) Syntax.tnil))),
+  Rows'.any-gone (Syntax.tyStruct (List._∷_ 38 (List._∷_ 91
+      (List._∷_ 93 List.[]))) (Syntax.tcons (Syntax.tyRef Syntax.erased Syntax.mut LentTilePartEntry.pointee) (Syntax.tcons (Syntax.tyInt Syntax.w64) Syntax.tnil))),
 ) (List._∷_ (
   9,
-  Rows'.any-gone
-      (Syntax.tyRef Syntax.erased Syntax.mut (Syntax.tyInt Syntax.w8)),
+  Rows'.any-gone (Syntax.tyRef Syntax.erased Syntax.mut (Syntax.tyInt Syntax.w8)),
 ) (List._∷_ (
   10,
-  Rows'.any-gone (Syntax.tyStruct (List._∷_ 38 (List._∷_ 91 (List._∷_ 93 List.[]))) (Syntax.tcons
-      (Syntax.tyRef Syntax.erased Syntax.mut (Syntax.tyInt Syntax.w8)) (Syntax.tcons (Syntax.tyInt Syntax.w64) Syntax.tnil))),
+  Rows'.any-gone (Syntax.tyStruct (List._∷_ 38 (List._∷_ 91 (List._∷_ 93
+      List.[]))) (Syntax.tcons (Syntax.tyRef Syntax.erased Syntax.mut (Syntax.tyInt Syntax.w8)) (Syntax.tcons (Syntax.tyInt Syntax.w64) Syntax.tnil))),
 ) List.[]))))))))))
 
 abbrev pub t2 : List.List Row.Entry
@@ -414,7 +418,7 @@ t2 = List._∷_ (
   1,
   Rows'.sslice (Referent.rtF (Referent.fInt Syntax.w8))
       (Syntax.tyRef (Syntax.named 0) Syntax.imm (Syntax.tyInt Syntax.w8)) 0,
-) (List._∷_ (2, Rows'.whole (Declared.row Numbering.the-type)) (List._∷_ (
+) (List._∷_ (2, Rows'.whole (Declared'.row Reading.the-type)) (List._∷_ (
   3,
   Mut.mslice (Referent.rtF
       (Referent.fInt Syntax.w8)) (Syntax.tyRef (Syntax.named 1) Syntax.mut (Syntax.tyInt Syntax.w8)) 1,
@@ -474,7 +478,7 @@ t3 = List._∷_ (
   1,
   Rows'.sslice (Referent.rtF (Referent.fInt Syntax.w8))
       (Syntax.tyRef (Syntax.named 0) Syntax.imm (Syntax.tyInt Syntax.w8)) 0,
-) (List._∷_ (2, Rows'.whole (Declared.row Numbering.the-type)) (List._∷_ (
+) (List._∷_ (2, Rows'.whole (Declared'.row Reading.the-type)) (List._∷_ (
   3,
   Mut.mslice (Referent.rtF
       (Referent.fInt Syntax.w8)) (Syntax.tyRef (Syntax.named 1) Syntax.mut (Syntax.tyInt Syntax.w8)) 1,
@@ -533,7 +537,7 @@ t4 = List._∷_ (
   1,
   Rows'.sslice (Referent.rtF (Referent.fInt Syntax.w8))
       (Syntax.tyRef (Syntax.named 0) Syntax.imm (Syntax.tyInt Syntax.w8)) 0,
-) (List._∷_ (2, Rows'.whole (Declared.row Numbering.the-type)) (List._∷_ (
+) (List._∷_ (2, Rows'.whole (Declared'.row Reading.the-type)) (List._∷_ (
   3,
   Mut.mslice (Referent.rtF
       (Referent.fInt Syntax.w8)) (Syntax.tyRef (Syntax.named 1) Syntax.mut (Syntax.tyInt Syntax.w8)) 1,
@@ -590,7 +594,7 @@ t5 = List._∷_ (
   1,
   Rows'.sslice (Referent.rtF (Referent.fInt Syntax.w8))
       (Syntax.tyRef (Syntax.named 0) Syntax.imm (Syntax.tyInt Syntax.w8)) 0,
-) (List._∷_ (2, Rows'.whole (Declared.row Numbering.the-type)) (List._∷_ (
+) (List._∷_ (2, Rows'.whole (Declared'.row Reading.the-type)) (List._∷_ (
   3,
   Mut.mslice (Referent.rtF
       (Referent.fInt Syntax.w8)) (Syntax.tyRef (Syntax.named 1) Syntax.mut (Syntax.tyInt Syntax.w8)) 1,
@@ -655,7 +659,7 @@ t6 = List._∷_ (
   1,
   Rows'.sslice (Referent.rtF (Referent.fInt Syntax.w8))
       (Syntax.tyRef (Syntax.named 0) Syntax.imm (Syntax.tyInt Syntax.w8)) 0,
-) (List._∷_ (2, Rows'.whole (Declared.row Numbering.the-type)) (List._∷_ (
+) (List._∷_ (2, Rows'.whole (Declared'.row Reading.the-type)) (List._∷_ (
   3,
   Mut.mslice (Referent.rtF
       (Referent.fInt Syntax.w8)) (Syntax.tyRef (Syntax.named 1) Syntax.mut (Syntax.tyInt Syntax.w8)) 1,
@@ -713,7 +717,7 @@ t7 = List._∷_ (
   1,
   Rows'.sslice (Referent.rtF (Referent.fInt Syntax.w8))
       (Syntax.tyRef (Syntax.named 0) Syntax.imm (Syntax.tyInt Syntax.w8)) 0,
-) (List._∷_ (2, Rows'.whole (Declared.row Numbering.the-type)) (List._∷_ (
+) (List._∷_ (2, Rows'.whole (Declared'.row Reading.the-type)) (List._∷_ (
   3,
   Relend.mslice-owed
       (Referent.rtF (Referent.fInt Syntax.w8)) (Syntax.tyRef (Syntax.named 1) Syntax.mut (Syntax.tyInt Syntax.w8)) 1 3 Row.off,
@@ -775,7 +779,7 @@ t8 = List._∷_ (
   1,
   Rows'.sslice (Referent.rtF (Referent.fInt Syntax.w8))
       (Syntax.tyRef (Syntax.named 0) Syntax.imm (Syntax.tyInt Syntax.w8)) 0,
-) (List._∷_ (2, Rows'.whole (Declared.row Numbering.the-type)) (List._∷_ (
+) (List._∷_ (2, Rows'.whole (Declared'.row Reading.the-type)) (List._∷_ (
   3,
   Relend.mslice-owed
       (Referent.rtF (Referent.fInt Syntax.w8)) (Syntax.tyRef (Syntax.named 1) Syntax.mut (Syntax.tyInt Syntax.w8)) 1 3 Row.off,
@@ -834,7 +838,7 @@ t9 = List._∷_ (
   1,
   Rows'.sslice (Referent.rtF (Referent.fInt Syntax.w8))
       (Syntax.tyRef (Syntax.named 0) Syntax.imm (Syntax.tyInt Syntax.w8)) 0,
-) (List._∷_ (2, Rows'.whole (Declared.row Numbering.the-type)) (List._∷_ (
+) (List._∷_ (2, Rows'.whole (Declared'.row Reading.the-type)) (List._∷_ (
   3,
   Relend.mslice-owed
       (Referent.rtF (Referent.fInt Syntax.w8)) (Syntax.tyRef (Syntax.named 1) Syntax.mut (Syntax.tyInt Syntax.w8)) 1 3 Row.off,
@@ -884,24 +888,29 @@ t10 = List._∷_ (
       (Syntax.tyRef (Syntax.named 0) Syntax.imm (Syntax.tyInt Syntax.w8)) 0,
 ) (List._∷_ (
   2,
-  Rows'.any-gone (Syntax.tyEnum (List._∷_ 104 (List._∷_ 101 (List._∷_ 97 (List._∷_ 100
-      (List._∷_ 101 (List._∷_ 114 (List._∷_ 58 (List._∷_ 58 (List._∷_ 110 (List._∷_ 117 (List._∷_ 109 (List._∷_ 98 (List._∷_ 101 (List._∷_ 114 (List._∷_ 105 (List._∷_ 110 (List._∷_
-      103 (List._∷_ 58 (List._∷_ 58 (List._∷_ 78 (List._∷_ 117 (List._∷_ 109 (List._∷_ 98 (List._∷_ 101 (List._∷_ 114 (List._∷_ 105 (List._∷_ 110 (List._∷_ 103
-      List.[])))))))))))))))))))))))))))) (Syntax.ttcons Syntax.tnil (Syntax.ttcons Syntax.tnil Syntax.ttnil))),
+  Rows'.any-gone (Syntax.tyStruct (List._∷_ 104 (List._∷_ 101 (List._∷_ 97 (List._∷_ 100
+      (List._∷_ 101 (List._∷_ 114 (List._∷_ 58 (List._∷_ 58 (List._∷_ 114 (List._∷_ 101 (List._∷_ 97 (List._∷_ 100 (List._∷_ 105 (List._∷_ 110 (List._∷_ 103 (List._∷_ 58 (List._∷_ 58
+      (List._∷_ 82 (List._∷_ 101 (List._∷_ 97 (List._∷_ 100 (List._∷_ 105 (List._∷_ 110 (List._∷_ 103 List.[])))))))))))))))))))))))) (Syntax.tcons (Syntax.tyEnum (List._∷_ 104
+      (List._∷_ 101 (List._∷_ 97 (List._∷_ 100 (List._∷_ 101 (List._∷_ 114 (List._∷_ 58 (List._∷_ 58 (List._∷_ 110 (List._∷_ 117 (List._∷_ 109 (List._∷_ 98 (List._∷_ 101 (List._∷_
+      114 (List._∷_ 105 (List._∷_ 110 (List._∷_ 103 (List._∷_ 58 (List._∷_ 58 (List._∷_ 78 (List._∷_ 117 (List._∷_ 109 (List._∷_ 98 (List._∷_ 101 (List._∷_ 114 (List._∷_ 105
+      (List._∷_ 110 (List._∷_ 103 List.[])))))))))))))))))))))))))))) (Syntax.ttcons Syntax.tnil (Syntax.ttcons Syntax.tnil Syntax.ttnil))) (Syntax.tcons (Syntax.tyEnum (List._∷_ 104
+      (List._∷_ 101 (List._∷_ 97 (List._∷_ 100 (List._∷_ 101 (List._∷_ 114 (List._∷_ 58 (List._∷_ 58 (List._∷_ 101 (List._∷_ 100 (List._∷_ 105 (List._∷_ 116 (List._∷_ 105 (List._∷_
+      111 (List._∷_ 110 (List._∷_ 58 (List._∷_ 58 (List._∷_ 69 (List._∷_ 100 (List._∷_ 105 (List._∷_ 116 (List._∷_ 105 (List._∷_ 111 (List._∷_ 110 List.[]))))))))))))))))))))))))
+      (Syntax.ttcons Syntax.tnil (Syntax.ttcons Syntax.tnil Syntax.ttnil))) Syntax.tnil))),
 ) (List._∷_ (
   3,
-  Relend.mslice-owed (Referent.rtF (Referent.fInt
-      Syntax.w8)) (Syntax.tyRef (Syntax.named 1) Syntax.mut (Syntax.tyInt Syntax.w8)) 1 3 Row.off,
+  Relend.mslice-owed (Referent.rtF (Referent.fInt Syntax.w8)) (Syntax.tyRef
+      (Syntax.named 1) Syntax.mut (Syntax.tyInt Syntax.w8)) 1 3 Row.off,
 ) (List._∷_ (4, Rows.arr-owed LentTilePartEntry.row 2048 2) (List._∷_ (
   5,
-  Rows'.whole
-      (Declared.row MainHeader.the-type),
+  Rows'.whole (Declared.row
+      MainHeader.the-type),
 ) (List._∷_ (6, Rows'.any-gone (Syntax.tyArray LentTilePartEntry.spelled 2048)) (List._∷_ (
   7,
-  Rows'.any-gone (Syntax.tyRef Syntax.erased
-      Syntax.mut (Syntax.tyArray LentTilePartEntry.pointee 2048)),
-) (List._∷_ (8, Mut.msleft LentTilePartEntry.row (Syntax.tyRef Syntax.erased Syntax.mut LentTilePartEntry.pointee))
-    (List._∷_ (9, Rows'.any-gone (Syntax.tyRef Syntax.erased Syntax.mut (Syntax.tyInt Syntax.w8))) (List._∷_ (
+  Rows'.any-gone (Syntax.tyRef Syntax.erased Syntax.mut
+      (Syntax.tyArray LentTilePartEntry.pointee 2048)),
+) (List._∷_ (8, Mut.msleft LentTilePartEntry.row (Syntax.tyRef Syntax.erased Syntax.mut LentTilePartEntry.pointee)) (List._∷_
+    (9, Rows'.any-gone (Syntax.tyRef Syntax.erased Syntax.mut (Syntax.tyInt Syntax.w8))) (List._∷_ (
       10,
       Mut.msleft (Referent.rtF (Referent.fInt Syntax.w8)) (Syntax.tyRef
           Syntax.erased Syntax.mut (Syntax.tyInt Syntax.w8)),
@@ -935,35 +944,37 @@ t11 = List._∷_ (
       (Syntax.tyRef (Syntax.named 0) Syntax.imm (Syntax.tyInt Syntax.w8)) 0,
 ) (List._∷_ (
   2,
-  Rows'.any-gone (Syntax.tyEnum (List._∷_ 104 (List._∷_ 101 (List._∷_ 97 (List._∷_ 100
-      (List._∷_ 101 (List._∷_ 114 (List._∷_ 58 (List._∷_ 58 (List._∷_ 110 (List._∷_ 117 (List._∷_ 109 (List._∷_ 98 (List._∷_ 101 (List._∷_ 114 (List._∷_ 105 (List._∷_ 110 (List._∷_
-      103 (List._∷_ 58 (List._∷_ 58 (List._∷_ 78 (List._∷_ 117 (List._∷_ 109 (List._∷_ 98 (List._∷_ 101 (List._∷_ 114 (List._∷_ 105 (List._∷_ 110 (List._∷_ 103
-      List.[])))))))))))))))))))))))))))) (Syntax.ttcons Syntax.tnil (Syntax.ttcons Syntax.tnil Syntax.ttnil))),
+  Rows'.any-gone (Syntax.tyStruct (List._∷_ 104 (List._∷_ 101 (List._∷_ 97 (List._∷_ 100
+      (List._∷_ 101 (List._∷_ 114 (List._∷_ 58 (List._∷_ 58 (List._∷_ 114 (List._∷_ 101 (List._∷_ 97 (List._∷_ 100 (List._∷_ 105 (List._∷_ 110 (List._∷_ 103 (List._∷_ 58 (List._∷_ 58
+      (List._∷_ 82 (List._∷_ 101 (List._∷_ 97 (List._∷_ 100 (List._∷_ 105 (List._∷_ 110 (List._∷_ 103 List.[])))))))))))))))))))))))) (Syntax.tcons (Syntax.tyEnum (List._∷_ 104
+      (List._∷_ 101 (List._∷_ 97 (List._∷_ 100 (List._∷_ 101 (List._∷_ 114 (List._∷_ 58 (List._∷_ 58 (List._∷_ 110 (List._∷_ 117 (List._∷_ 109 (List._∷_ 98 (List._∷_ 101 (List._∷_
+      114 (List._∷_ 105 (List._∷_ 110 (List._∷_ 103 (List._∷_ 58 (List._∷_ 58 (List._∷_ 78 (List._∷_ 117 (List._∷_ 109 (List._∷_ 98 (List._∷_ 101 (List._∷_ 114 (List._∷_ 105
+      (List._∷_ 110 (List._∷_ 103 List.[])))))))))))))))))))))))))))) (Syntax.ttcons Syntax.tnil (Syntax.ttcons Syntax.tnil Syntax.ttnil))) (Syntax.tcons (Syntax.tyEnum (List._∷_ 104
+      (List._∷_ 101 (List._∷_ 97 (List._∷_ 100 (List._∷_ 101 (List._∷_ 114 (List._∷_ 58 (List._∷_ 58 (List._∷_ 101 (List._∷_ 100 (List._∷_ 105 (List._∷_ 116 (List._∷_ 105 (List._∷_
+      111 (List._∷_ 110 (List._∷_ 58 (List._∷_ 58 (List._∷_ 69 (List._∷_ 100 (List._∷_ 105 (List._∷_ 116 (List._∷_ 105 (List._∷_ 111 (List._∷_ 110 List.[]))))))))))))))))))))))))
+      (Syntax.ttcons Syntax.tnil (Syntax.ttcons Syntax.tnil Syntax.ttnil))) Syntax.tnil))),
 ) (List._∷_ (
   3,
-  Relend.mslice-owed (Referent.rtF (Referent.fInt
-      Syntax.w8)) (Syntax.tyRef (Syntax.named 1) Syntax.mut (Syntax.tyInt Syntax.w8)) 1 3 Row.off,
+  Relend.mslice-owed (Referent.rtF (Referent.fInt Syntax.w8)) (Syntax.tyRef
+      (Syntax.named 1) Syntax.mut (Syntax.tyInt Syntax.w8)) 1 3 Row.off,
 ) (List._∷_ (4, Rows.arrF LentTilePartEntry.row 2048 0) (List._∷_ (
   5,
-  Rows'.whole
-      (Declared.row MainHeader.the-type),
+  Rows'.whole (Declared.row
+      MainHeader.the-type),
 ) (List._∷_ (6, Rows'.any-gone (Syntax.tyArray LentTilePartEntry.spelled 2048)) (List._∷_ (
   7,
-  Rows'.any-gone (Syntax.tyRef Syntax.erased
-      Syntax.mut (Syntax.tyArray LentTilePartEntry.pointee 2048)),
+  Rows'.any-gone (Syntax.tyRef Syntax.erased Syntax.mut
+      (Syntax.tyArray LentTilePartEntry.pointee 2048)),
 ) (List._∷_ (
   8,
-  Rows'.any-gone (Syntax.tyStruct (List._∷_ 38 (List._∷_ 91 (List._∷_ 93 List.[]))) (Syntax.tcons
-      (Syntax.tyRef Syntax.erased Syntax.mut LentTilePartEntry.pointee) (Syntax.tcons (Syntax.tyInt Syntax.w64) Syntax.tnil))),
+  Rows'.any-gone (Syntax.tyStruct (List._∷_ 38 (List._∷_ 91 (List._∷_ 93 List.[]))) (Syntax.tcons (Syntax.tyRef
+      Syntax.erased Syntax.mut LentTilePartEntry.pointee) (Syntax.tcons (Syntax.tyInt Syntax.w64) Syntax.tnil))),
 ) (List._∷_ (
   9,
-  Rows'.any-gone (Syntax.tyRef
-      Syntax.erased Syntax.mut (Syntax.tyInt Syntax.w8)),
-) (List._∷_ (
-  10,
-  Mut.msleft (Referent.rtF (Referent.fInt Syntax.w8)) (Syntax.tyRef Syntax.erased Syntax.mut (Syntax.tyInt
-      Syntax.w8)),
-) List.[]))))))))))
+  Rows'.any-gone (Syntax.tyRef Syntax.erased Syntax.mut
+      (Syntax.tyInt Syntax.w8)),
+) (List._∷_ (10, Mut.msleft (Referent.rtF (Referent.fInt Syntax.w8)) (Syntax.tyRef Syntax.erased Syntax.mut (Syntax.tyInt Syntax.w8)))
+    List.[]))))))))))
 
 abbrev pub t12 : List.List Row.Entry
 t12 = List._∷_ (
@@ -993,35 +1004,37 @@ t12 = List._∷_ (
       (Syntax.tyRef (Syntax.named 0) Syntax.imm (Syntax.tyInt Syntax.w8)) 0,
 ) (List._∷_ (
   2,
-  Rows'.any-gone (Syntax.tyEnum (List._∷_ 104 (List._∷_ 101 (List._∷_ 97 (List._∷_ 100
-      (List._∷_ 101 (List._∷_ 114 (List._∷_ 58 (List._∷_ 58 (List._∷_ 110 (List._∷_ 117 (List._∷_ 109 (List._∷_ 98 (List._∷_ 101 (List._∷_ 114 (List._∷_ 105 (List._∷_ 110 (List._∷_
-      103 (List._∷_ 58 (List._∷_ 58 (List._∷_ 78 (List._∷_ 117 (List._∷_ 109 (List._∷_ 98 (List._∷_ 101 (List._∷_ 114 (List._∷_ 105 (List._∷_ 110 (List._∷_ 103
-      List.[])))))))))))))))))))))))))))) (Syntax.ttcons Syntax.tnil (Syntax.ttcons Syntax.tnil Syntax.ttnil))),
+  Rows'.any-gone (Syntax.tyStruct (List._∷_ 104 (List._∷_ 101 (List._∷_ 97 (List._∷_ 100
+      (List._∷_ 101 (List._∷_ 114 (List._∷_ 58 (List._∷_ 58 (List._∷_ 114 (List._∷_ 101 (List._∷_ 97 (List._∷_ 100 (List._∷_ 105 (List._∷_ 110 (List._∷_ 103 (List._∷_ 58 (List._∷_ 58
+      (List._∷_ 82 (List._∷_ 101 (List._∷_ 97 (List._∷_ 100 (List._∷_ 105 (List._∷_ 110 (List._∷_ 103 List.[])))))))))))))))))))))))) (Syntax.tcons (Syntax.tyEnum (List._∷_ 104
+      (List._∷_ 101 (List._∷_ 97 (List._∷_ 100 (List._∷_ 101 (List._∷_ 114 (List._∷_ 58 (List._∷_ 58 (List._∷_ 110 (List._∷_ 117 (List._∷_ 109 (List._∷_ 98 (List._∷_ 101 (List._∷_
+      114 (List._∷_ 105 (List._∷_ 110 (List._∷_ 103 (List._∷_ 58 (List._∷_ 58 (List._∷_ 78 (List._∷_ 117 (List._∷_ 109 (List._∷_ 98 (List._∷_ 101 (List._∷_ 114 (List._∷_ 105
+      (List._∷_ 110 (List._∷_ 103 List.[])))))))))))))))))))))))))))) (Syntax.ttcons Syntax.tnil (Syntax.ttcons Syntax.tnil Syntax.ttnil))) (Syntax.tcons (Syntax.tyEnum (List._∷_ 104
+      (List._∷_ 101 (List._∷_ 97 (List._∷_ 100 (List._∷_ 101 (List._∷_ 114 (List._∷_ 58 (List._∷_ 58 (List._∷_ 101 (List._∷_ 100 (List._∷_ 105 (List._∷_ 116 (List._∷_ 105 (List._∷_
+      111 (List._∷_ 110 (List._∷_ 58 (List._∷_ 58 (List._∷_ 69 (List._∷_ 100 (List._∷_ 105 (List._∷_ 116 (List._∷_ 105 (List._∷_ 111 (List._∷_ 110 List.[]))))))))))))))))))))))))
+      (Syntax.ttcons Syntax.tnil (Syntax.ttcons Syntax.tnil Syntax.ttnil))) Syntax.tnil))),
 ) (List._∷_ (
   3,
-  Mut.mslice (Referent.rtF (Referent.fInt Syntax.w8))
-      (Syntax.tyRef (Syntax.named 1) Syntax.mut (Syntax.tyInt Syntax.w8)) 1,
-) (List._∷_ (4, Rows.arrF LentTilePartEntry.row 2048 0) (List._∷_ (
-  5,
-  Rows'.whole (Declared.row
-      MainHeader.the-type),
-) (List._∷_ (6, Rows'.any-gone (Syntax.tyArray LentTilePartEntry.spelled 2048)) (List._∷_ (
-  7,
-  Rows'.any-gone (Syntax.tyRef Syntax.erased Syntax.mut
-      (Syntax.tyArray LentTilePartEntry.pointee 2048)),
-) (List._∷_ (
-  8,
-  Rows'.any-gone (Syntax.tyStruct (List._∷_ 38 (List._∷_ 91 (List._∷_ 93 List.[]))) (Syntax.tcons (Syntax.tyRef
-      Syntax.erased Syntax.mut LentTilePartEntry.pointee) (Syntax.tcons (Syntax.tyInt Syntax.w64) Syntax.tnil))),
-) (List._∷_ (
-  9,
-  Rows'.any-gone (Syntax.tyRef Syntax.erased Syntax.mut
-      (Syntax.tyInt Syntax.w8)),
-) (List._∷_ (
-  10,
-  Rows'.any-gone (Syntax.tyStruct (List._∷_ 38 (List._∷_ 91 (List._∷_ 93 List.[]))) (Syntax.tcons (Syntax.tyRef Syntax.erased Syntax.mut
-      (Syntax.tyInt Syntax.w8)) (Syntax.tcons (Syntax.tyInt Syntax.w64) Syntax.tnil))),
-) List.[]))))))))))
+  Mut.mslice (Referent.rtF (Referent.fInt Syntax.w8)) (Syntax.tyRef
+      (Syntax.named 1) Syntax.mut (Syntax.tyInt Syntax.w8)) 1,
+) (List._∷_ (4, Rows.arrF LentTilePartEntry.row 2048 0) (List._∷_ (5, Rows'.whole (Declared.row MainHeader.the-type))
+    (List._∷_ (6, Rows'.any-gone (Syntax.tyArray LentTilePartEntry.spelled 2048)) (List._∷_ (
+      7,
+      Rows'.any-gone (Syntax.tyRef Syntax.erased Syntax.mut (Syntax.tyArray
+          LentTilePartEntry.pointee 2048)),
+    ) (List._∷_ (
+      8,
+      Rows'.any-gone (Syntax.tyStruct (List._∷_ 38 (List._∷_ 91 (List._∷_ 93 List.[]))) (Syntax.tcons (Syntax.tyRef Syntax.erased
+          Syntax.mut LentTilePartEntry.pointee) (Syntax.tcons (Syntax.tyInt Syntax.w64) Syntax.tnil))),
+    ) (List._∷_ (
+      9,
+      Rows'.any-gone (Syntax.tyRef Syntax.erased Syntax.mut (Syntax.tyInt
+          Syntax.w8)),
+    ) (List._∷_ (
+      10,
+      Rows'.any-gone (Syntax.tyStruct (List._∷_ 38 (List._∷_ 91 (List._∷_ 93 List.[]))) (Syntax.tcons (Syntax.tyRef Syntax.erased Syntax.mut (Syntax.tyInt
+          Syntax.w8)) (Syntax.tcons (Syntax.tyInt Syntax.w64) Syntax.tnil))),
+    ) List.[]))))))))))
 
 abbrev pub t13 : List.List Row.Entry
 t13 = List._∷_ (
@@ -1051,35 +1064,30 @@ t13 = List._∷_ (
       (Syntax.tyRef (Syntax.named 0) Syntax.imm (Syntax.tyInt Syntax.w8)) 0,
 ) (List._∷_ (
   2,
-  Rows'.any-gone (Syntax.tyEnum (List._∷_ 104 (List._∷_ 101 (List._∷_ 97 (List._∷_ 100
-      (List._∷_ 101 (List._∷_ 114 (List._∷_ 58 (List._∷_ 58 (List._∷_ 110 (List._∷_ 117 (List._∷_ 109 (List._∷_ 98 (List._∷_ 101 (List._∷_ 114 (List._∷_ 105 (List._∷_ 110 (List._∷_
-      103 (List._∷_ 58 (List._∷_ 58 (List._∷_ 78 (List._∷_ 117 (List._∷_ 109 (List._∷_ 98 (List._∷_ 101 (List._∷_ 114 (List._∷_ 105 (List._∷_ 110 (List._∷_ 103
-      List.[])))))))))))))))))))))))))))) (Syntax.ttcons Syntax.tnil (Syntax.ttcons Syntax.tnil Syntax.ttnil))),
+  Rows'.any-gone (Syntax.tyStruct (List._∷_ 104 (List._∷_ 101 (List._∷_ 97 (List._∷_ 100
+      (List._∷_ 101 (List._∷_ 114 (List._∷_ 58 (List._∷_ 58 (List._∷_ 114 (List._∷_ 101 (List._∷_ 97 (List._∷_ 100 (List._∷_ 105 (List._∷_ 110 (List._∷_ 103 (List._∷_ 58 (List._∷_ 58
+      (List._∷_ 82 (List._∷_ 101 (List._∷_ 97 (List._∷_ 100 (List._∷_ 105 (List._∷_ 110 (List._∷_ 103 List.[])))))))))))))))))))))))) (Syntax.tcons (Syntax.tyEnum (List._∷_ 104
+      (List._∷_ 101 (List._∷_ 97 (List._∷_ 100 (List._∷_ 101 (List._∷_ 114 (List._∷_ 58 (List._∷_ 58 (List._∷_ 110 (List._∷_ 117 (List._∷_ 109 (List._∷_ 98 (List._∷_ 101 (List._∷_
+      114 (List._∷_ 105 (List._∷_ 110 (List._∷_ 103 (List._∷_ 58 (List._∷_ 58 (List._∷_ 78 (List._∷_ 117 (List._∷_ 109 (List._∷_ 98 (List._∷_ 101 (List._∷_ 114 (List._∷_ 105
+      (List._∷_ 110 (List._∷_ 103 List.[])))))))))))))))))))))))))))) (Syntax.ttcons Syntax.tnil (Syntax.ttcons Syntax.tnil Syntax.ttnil))) (Syntax.tcons (Syntax.tyEnum (List._∷_ 104
+      (List._∷_ 101 (List._∷_ 97 (List._∷_ 100 (List._∷_ 101 (List._∷_ 114 (List._∷_ 58 (List._∷_ 58 (List._∷_ 101 (List._∷_ 100 (List._∷_ 105 (List._∷_ 116 (List._∷_ 105 (List._∷_
+      111 (List._∷_ 110 (List._∷_ 58 (List._∷_ 58 (List._∷_ 69 (List._∷_ 100 (List._∷_ 105 (List._∷_ 116 (List._∷_ 105 (List._∷_ 111 (List._∷_ 110 List.[]))))))))))))))))))))))))
+      (Syntax.ttcons Syntax.tnil (Syntax.ttcons Syntax.tnil Syntax.ttnil))) Syntax.tnil))),
 ) (List._∷_ (
   3,
-  Mut.mslice (Referent.rtF (Referent.fInt Syntax.w8))
-      (Syntax.tyRef (Syntax.named 1) Syntax.mut (Syntax.tyInt Syntax.w8)) 1,
-) (List._∷_ (4, Rows.arrF LentTilePartEntry.row 2048 0) (List._∷_ (
-  5,
-  Rows'.whole (Declared.row
-      MainHeader.the-type),
-) (List._∷_ (6, Rows.arrF LentTilePartEntry.row 2048 0) (List._∷_ (
-  7,
-  Rows'.any-gone (Syntax.tyRef Syntax.erased Syntax.mut (Syntax.tyArray
-      LentTilePartEntry.pointee 2048)),
-) (List._∷_ (
-  8,
-  Rows'.any-gone (Syntax.tyStruct (List._∷_ 38 (List._∷_ 91 (List._∷_ 93 List.[]))) (Syntax.tcons (Syntax.tyRef Syntax.erased
-      Syntax.mut LentTilePartEntry.pointee) (Syntax.tcons (Syntax.tyInt Syntax.w64) Syntax.tnil))),
-) (List._∷_ (
-  9,
-  Rows'.any-gone (Syntax.tyRef Syntax.erased Syntax.mut (Syntax.tyInt
-      Syntax.w8)),
-) (List._∷_ (
-  10,
-  Rows'.any-gone (Syntax.tyStruct (List._∷_ 38 (List._∷_ 91 (List._∷_ 93 List.[]))) (Syntax.tcons (Syntax.tyRef Syntax.erased Syntax.mut (Syntax.tyInt
-      Syntax.w8)) (Syntax.tcons (Syntax.tyInt Syntax.w64) Syntax.tnil))),
-) List.[]))))))))))
+  Mut.mslice (Referent.rtF (Referent.fInt Syntax.w8)) (Syntax.tyRef
+      (Syntax.named 1) Syntax.mut (Syntax.tyInt Syntax.w8)) 1,
+) (List._∷_ (4, Rows.arrF LentTilePartEntry.row 2048 0) (List._∷_ (5, Rows'.whole (Declared.row MainHeader.the-type))
+    (List._∷_ (6, Rows.arrF LentTilePartEntry.row 2048 0) (List._∷_ (7, Rows'.any-gone (Syntax.tyRef Syntax.erased Syntax.mut (Syntax.tyArray LentTilePartEntry.pointee 2048)))
+    (List._∷_ (
+      8,
+      Rows'.any-gone (Syntax.tyStruct (List._∷_ 38 (List._∷_ 91 (List._∷_ 93 List.[]))) (Syntax.tcons (Syntax.tyRef Syntax.erased Syntax.mut LentTilePartEntry.pointee)
+          (Syntax.tcons (Syntax.tyInt Syntax.w64) Syntax.tnil))),
+    ) (List._∷_ (9, Rows'.any-gone (Syntax.tyRef Syntax.erased Syntax.mut (Syntax.tyInt Syntax.w8))) (List._∷_ (
+      10,
+      Rows'.any-gone (Syntax.tyStruct (List._∷_ 38 (List._∷_ 91 (List._∷_ 93 List.[]))) (Syntax.tcons (Syntax.tyRef Syntax.erased Syntax.mut (Syntax.tyInt Syntax.w8)) (Syntax.tcons
+          (Syntax.tyInt Syntax.w64) Syntax.tnil))),
+    ) List.[]))))))))))
 
 abbrev pub t14 : List.List Row.Entry
 t14 = List._∷_ (
@@ -1109,18 +1117,23 @@ t14 = List._∷_ (
       (Syntax.tyRef (Syntax.named 0) Syntax.imm (Syntax.tyInt Syntax.w8)) 0,
 ) (List._∷_ (
   2,
-  Rows'.any-gone (Syntax.tyEnum (List._∷_ 104 (List._∷_ 101 (List._∷_ 97 (List._∷_ 100
-      (List._∷_ 101 (List._∷_ 114 (List._∷_ 58 (List._∷_ 58 (List._∷_ 110 (List._∷_ 117 (List._∷_ 109 (List._∷_ 98 (List._∷_ 101 (List._∷_ 114 (List._∷_ 105 (List._∷_ 110 (List._∷_
-      103 (List._∷_ 58 (List._∷_ 58 (List._∷_ 78 (List._∷_ 117 (List._∷_ 109 (List._∷_ 98 (List._∷_ 101 (List._∷_ 114 (List._∷_ 105 (List._∷_ 110 (List._∷_ 103
-      List.[])))))))))))))))))))))))))))) (Syntax.ttcons Syntax.tnil (Syntax.ttcons Syntax.tnil Syntax.ttnil))),
+  Rows'.any-gone (Syntax.tyStruct (List._∷_ 104 (List._∷_ 101 (List._∷_ 97 (List._∷_ 100
+      (List._∷_ 101 (List._∷_ 114 (List._∷_ 58 (List._∷_ 58 (List._∷_ 114 (List._∷_ 101 (List._∷_ 97 (List._∷_ 100 (List._∷_ 105 (List._∷_ 110 (List._∷_ 103 (List._∷_ 58 (List._∷_ 58
+      (List._∷_ 82 (List._∷_ 101 (List._∷_ 97 (List._∷_ 100 (List._∷_ 105 (List._∷_ 110 (List._∷_ 103 List.[])))))))))))))))))))))))) (Syntax.tcons (Syntax.tyEnum (List._∷_ 104
+      (List._∷_ 101 (List._∷_ 97 (List._∷_ 100 (List._∷_ 101 (List._∷_ 114 (List._∷_ 58 (List._∷_ 58 (List._∷_ 110 (List._∷_ 117 (List._∷_ 109 (List._∷_ 98 (List._∷_ 101 (List._∷_
+      114 (List._∷_ 105 (List._∷_ 110 (List._∷_ 103 (List._∷_ 58 (List._∷_ 58 (List._∷_ 78 (List._∷_ 117 (List._∷_ 109 (List._∷_ 98 (List._∷_ 101 (List._∷_ 114 (List._∷_ 105
+      (List._∷_ 110 (List._∷_ 103 List.[])))))))))))))))))))))))))))) (Syntax.ttcons Syntax.tnil (Syntax.ttcons Syntax.tnil Syntax.ttnil))) (Syntax.tcons (Syntax.tyEnum (List._∷_ 104
+      (List._∷_ 101 (List._∷_ 97 (List._∷_ 100 (List._∷_ 101 (List._∷_ 114 (List._∷_ 58 (List._∷_ 58 (List._∷_ 101 (List._∷_ 100 (List._∷_ 105 (List._∷_ 116 (List._∷_ 105 (List._∷_
+      111 (List._∷_ 110 (List._∷_ 58 (List._∷_ 58 (List._∷_ 69 (List._∷_ 100 (List._∷_ 105 (List._∷_ 116 (List._∷_ 105 (List._∷_ 111 (List._∷_ 110 List.[]))))))))))))))))))))))))
+      (Syntax.ttcons Syntax.tnil (Syntax.ttcons Syntax.tnil Syntax.ttnil))) Syntax.tnil))),
 ) (List._∷_ (
   3,
-  Mut.mslice (Referent.rtF (Referent.fInt Syntax.w8))
-      (Syntax.tyRef (Syntax.named 1) Syntax.mut (Syntax.tyInt Syntax.w8)) 1,
+  Mut.mslice (Referent.rtF (Referent.fInt Syntax.w8)) (Syntax.tyRef
+      (Syntax.named 1) Syntax.mut (Syntax.tyInt Syntax.w8)) 1,
 ) (List._∷_ (4, Rows'.any-gone (Syntax.tyArray LentTilePartEntry.spelled 2048)) (List._∷_ (
   5,
-  Rows'.whole
-      (Declared.row MainHeader.the-type),
+  Rows'.whole (Declared.row
+      MainHeader.the-type),
 ) (List._∷_ (6, Rows.arrF LentTilePartEntry.row 2048 0) (List._∷_ (
   7,
   Rows'.any-gone (Syntax.tyRef Syntax.erased Syntax.mut (Syntax.tyArray
@@ -1146,27 +1159,30 @@ t15 = List._∷_ (0, Rows'.whole (Declared'.row HeaderTable.the-type)) (List._�
       (Syntax.tyInt Syntax.w8)) 0,
 ) (List._∷_ (
   2,
-  Rows'.any-gone (Syntax.tyEnum (List._∷_ 104 (List._∷_ 101 (List._∷_ 97 (List._∷_ 100 (List._∷_ 101 (List._∷_ 114 (List._∷_ 58
-      (List._∷_ 58 (List._∷_ 110 (List._∷_ 117 (List._∷_ 109 (List._∷_ 98 (List._∷_ 101 (List._∷_ 114 (List._∷_ 105 (List._∷_ 110 (List._∷_ 103 (List._∷_ 58 (List._∷_ 58 (List._∷_ 78
-      (List._∷_ 117 (List._∷_ 109 (List._∷_ 98 (List._∷_ 101 (List._∷_ 114 (List._∷_ 105 (List._∷_ 110 (List._∷_ 103 List.[])))))))))))))))))))))))))))) (Syntax.ttcons Syntax.tnil
-      (Syntax.ttcons Syntax.tnil Syntax.ttnil))),
+  Rows'.any-gone (Syntax.tyStruct (List._∷_ 104 (List._∷_ 101 (List._∷_ 97 (List._∷_ 100 (List._∷_ 101 (List._∷_ 114 (List._∷_ 58
+      (List._∷_ 58 (List._∷_ 114 (List._∷_ 101 (List._∷_ 97 (List._∷_ 100 (List._∷_ 105 (List._∷_ 110 (List._∷_ 103 (List._∷_ 58 (List._∷_ 58 (List._∷_ 82 (List._∷_ 101 (List._∷_ 97
+      (List._∷_ 100 (List._∷_ 105 (List._∷_ 110 (List._∷_ 103 List.[])))))))))))))))))))))))) (Syntax.tcons (Syntax.tyEnum (List._∷_ 104 (List._∷_ 101 (List._∷_ 97 (List._∷_ 100
+      (List._∷_ 101 (List._∷_ 114 (List._∷_ 58 (List._∷_ 58 (List._∷_ 110 (List._∷_ 117 (List._∷_ 109 (List._∷_ 98 (List._∷_ 101 (List._∷_ 114 (List._∷_ 105 (List._∷_ 110 (List._∷_
+      103 (List._∷_ 58 (List._∷_ 58 (List._∷_ 78 (List._∷_ 117 (List._∷_ 109 (List._∷_ 98 (List._∷_ 101 (List._∷_ 114 (List._∷_ 105 (List._∷_ 110 (List._∷_ 103
+      List.[])))))))))))))))))))))))))))) (Syntax.ttcons Syntax.tnil (Syntax.ttcons Syntax.tnil Syntax.ttnil))) (Syntax.tcons (Syntax.tyEnum (List._∷_ 104 (List._∷_ 101 (List._∷_ 97
+      (List._∷_ 100 (List._∷_ 101 (List._∷_ 114 (List._∷_ 58 (List._∷_ 58 (List._∷_ 101 (List._∷_ 100 (List._∷_ 105 (List._∷_ 116 (List._∷_ 105 (List._∷_ 111 (List._∷_ 110 (List._∷_
+      58 (List._∷_ 58 (List._∷_ 69 (List._∷_ 100 (List._∷_ 105 (List._∷_ 116 (List._∷_ 105 (List._∷_ 111 (List._∷_ 110 List.[])))))))))))))))))))))))) (Syntax.ttcons Syntax.tnil
+      (Syntax.ttcons Syntax.tnil Syntax.ttnil))) Syntax.tnil))),
 ) (List._∷_ (
   3,
-  Mut.mslice (Referent.rtF (Referent.fInt Syntax.w8)) (Syntax.tyRef (Syntax.named 1) Syntax.mut (Syntax.tyInt
-      Syntax.w8)) 1,
-) (List._∷_ (4, Rows'.any-gone (Syntax.tyArray LentTilePartEntry.spelled 2048)) (List._∷_ (5, Rows'.whole (Declared.row MainHeader.the-type)) (List._∷_ (
-  6,
-  Rows.arrF LentTilePartEntry.row 2048 0,
-) (List._∷_ (7, Rows'.any-gone (Syntax.tyRef Syntax.erased Syntax.mut (Syntax.tyArray LentTilePartEntry.pointee 2048))) (List._∷_ (
-  8,
-  Rows'.any-gone (Syntax.tyStruct (List._∷_ 38 (List._∷_ 91 (List._∷_ 93 List.[]))) (Syntax.tcons (Syntax.tyRef Syntax.erased Syntax.mut LentTilePartEntry.pointee) (Syntax.tcons
-      (Syntax.tyInt Syntax.w64) Syntax.tnil))),
-) (List._∷_ (9, Rows'.any-gone (Syntax.tyRef Syntax.erased Syntax.mut (Syntax.tyInt Syntax.w8))) (List._∷_ (
-  10,
-  Rows'.any-gone
-      (Syntax.tyStruct (List._∷_ 38 (List._∷_ 91 (List._∷_ 93 List.[]))) (Syntax.tcons (Syntax.tyRef Syntax.erased Syntax.mut (Syntax.tyInt Syntax.w8)) (Syntax.tcons (Syntax.tyInt
-      Syntax.w64) Syntax.tnil))),
-) List.[]))))))))))
+  Mut.mslice (Referent.rtF (Referent.fInt Syntax.w8)) (Syntax.tyRef (Syntax.named 1) Syntax.mut
+      (Syntax.tyInt Syntax.w8)) 1,
+) (List._∷_ (4, Rows'.any-gone (Syntax.tyArray LentTilePartEntry.spelled 2048)) (List._∷_ (5, Rows'.whole (Declared.row MainHeader.the-type))
+    (List._∷_ (6, Rows.arrF LentTilePartEntry.row 2048 0) (List._∷_ (7, Rows'.any-gone (Syntax.tyRef Syntax.erased Syntax.mut (Syntax.tyArray LentTilePartEntry.pointee 2048)))
+    (List._∷_ (
+      8,
+      Rows'.any-gone (Syntax.tyStruct (List._∷_ 38 (List._∷_ 91 (List._∷_ 93 List.[]))) (Syntax.tcons (Syntax.tyRef Syntax.erased Syntax.mut LentTilePartEntry.pointee)
+          (Syntax.tcons (Syntax.tyInt Syntax.w64) Syntax.tnil))),
+    ) (List._∷_ (9, Rows'.any-gone (Syntax.tyRef Syntax.erased Syntax.mut (Syntax.tyInt Syntax.w8))) (List._∷_ (
+      10,
+      Rows'.any-gone (Syntax.tyStruct (List._∷_ 38 (List._∷_ 91 (List._∷_ 93 List.[]))) (Syntax.tcons (Syntax.tyRef Syntax.erased Syntax.mut (Syntax.tyInt Syntax.w8)) (Syntax.tcons
+          (Syntax.tyInt Syntax.w64) Syntax.tnil))),
+    ) List.[]))))))))))
 
 abbrev pub t16 : List.List Row.Entry
 t16 = List._∷_ (0, Rows'.whole (Declared'.row HeaderTable.the-type)) (List._∷_ (
@@ -1175,44 +1191,49 @@ t16 = List._∷_ (0, Rows'.whole (Declared'.row HeaderTable.the-type)) (List._�
       (Syntax.tyInt Syntax.w8)) 0,
 ) (List._∷_ (
   2,
-  Rows'.any-gone (Syntax.tyEnum (List._∷_ 104 (List._∷_ 101 (List._∷_ 97 (List._∷_ 100 (List._∷_ 101 (List._∷_ 114 (List._∷_ 58
-      (List._∷_ 58 (List._∷_ 110 (List._∷_ 117 (List._∷_ 109 (List._∷_ 98 (List._∷_ 101 (List._∷_ 114 (List._∷_ 105 (List._∷_ 110 (List._∷_ 103 (List._∷_ 58 (List._∷_ 58 (List._∷_ 78
-      (List._∷_ 117 (List._∷_ 109 (List._∷_ 98 (List._∷_ 101 (List._∷_ 114 (List._∷_ 105 (List._∷_ 110 (List._∷_ 103 List.[])))))))))))))))))))))))))))) (Syntax.ttcons Syntax.tnil
-      (Syntax.ttcons Syntax.tnil Syntax.ttnil))),
+  Rows'.any-gone (Syntax.tyStruct (List._∷_ 104 (List._∷_ 101 (List._∷_ 97 (List._∷_ 100 (List._∷_ 101 (List._∷_ 114 (List._∷_ 58
+      (List._∷_ 58 (List._∷_ 114 (List._∷_ 101 (List._∷_ 97 (List._∷_ 100 (List._∷_ 105 (List._∷_ 110 (List._∷_ 103 (List._∷_ 58 (List._∷_ 58 (List._∷_ 82 (List._∷_ 101 (List._∷_ 97
+      (List._∷_ 100 (List._∷_ 105 (List._∷_ 110 (List._∷_ 103 List.[])))))))))))))))))))))))) (Syntax.tcons (Syntax.tyEnum (List._∷_ 104 (List._∷_ 101 (List._∷_ 97 (List._∷_ 100
+      (List._∷_ 101 (List._∷_ 114 (List._∷_ 58 (List._∷_ 58 (List._∷_ 110 (List._∷_ 117 (List._∷_ 109 (List._∷_ 98 (List._∷_ 101 (List._∷_ 114 (List._∷_ 105 (List._∷_ 110 (List._∷_
+      103 (List._∷_ 58 (List._∷_ 58 (List._∷_ 78 (List._∷_ 117 (List._∷_ 109 (List._∷_ 98 (List._∷_ 101 (List._∷_ 114 (List._∷_ 105 (List._∷_ 110 (List._∷_ 103
+      List.[])))))))))))))))))))))))))))) (Syntax.ttcons Syntax.tnil (Syntax.ttcons Syntax.tnil Syntax.ttnil))) (Syntax.tcons (Syntax.tyEnum (List._∷_ 104 (List._∷_ 101 (List._∷_ 97
+      (List._∷_ 100 (List._∷_ 101 (List._∷_ 114 (List._∷_ 58 (List._∷_ 58 (List._∷_ 101 (List._∷_ 100 (List._∷_ 105 (List._∷_ 116 (List._∷_ 105 (List._∷_ 111 (List._∷_ 110 (List._∷_
+      58 (List._∷_ 58 (List._∷_ 69 (List._∷_ 100 (List._∷_ 105 (List._∷_ 116 (List._∷_ 105 (List._∷_ 111 (List._∷_ 110 List.[])))))))))))))))))))))))) (Syntax.ttcons Syntax.tnil
+      (Syntax.ttcons Syntax.tnil Syntax.ttnil))) Syntax.tnil))),
 ) (List._∷_ (
   3,
-  Mut.mslice (Referent.rtF (Referent.fInt Syntax.w8)) (Syntax.tyRef (Syntax.named 1) Syntax.mut (Syntax.tyInt
-      Syntax.w8)) 1,
+  Mut.mslice (Referent.rtF (Referent.fInt Syntax.w8)) (Syntax.tyRef (Syntax.named 1) Syntax.mut
+      (Syntax.tyInt Syntax.w8)) 1,
 ) (List._∷_ (4, Rows'.any-gone (Syntax.tyArray LentTilePartEntry.spelled 2048)) (List._∷_ (
   5,
-  Rows'.any-gone (Syntax.tyEnum (List._∷_ 104 (List._∷_ 101 (List._∷_
-      97 (List._∷_ 100 (List._∷_ 101 (List._∷_ 114 (List._∷_ 58 (List._∷_ 58 (List._∷_ 112 (List._∷_ 97 (List._∷_ 114 (List._∷_ 115 (List._∷_ 101 (List._∷_ 58 (List._∷_ 58 (List._∷_
-      77 (List._∷_ 97 (List._∷_ 105 (List._∷_ 110 (List._∷_ 72 (List._∷_ 101 (List._∷_ 97 (List._∷_ 100 (List._∷_ 101 (List._∷_ 114 List.[]))))))))))))))))))))))))) (Syntax.ttcons
-      (Syntax.tcons (Syntax.tyStruct (List._∷_ 104 (List._∷_ 101 (List._∷_ 97 (List._∷_ 100 (List._∷_ 101 (List._∷_ 114 (List._∷_ 58 (List._∷_ 58 (List._∷_ 112 (List._∷_ 97 (List._∷_
-      114 (List._∷_ 115 (List._∷_ 101 (List._∷_ 58 (List._∷_ 58 (List._∷_ 77 (List._∷_ 97 (List._∷_ 105 (List._∷_ 110 (List._∷_ 72 (List._∷_ 101 (List._∷_ 97 (List._∷_ 100 (List._∷_
-      101 (List._∷_ 114 (List._∷_ 73 (List._∷_ 110 (List._∷_ 102 (List._∷_ 111 List.[]))))))))))))))))))))))))))))) (Syntax.tcons (Syntax.tyStruct (List._∷_ 116 (List._∷_ 121
-      (List._∷_ 112 (List._∷_ 101 (List._∷_ 115 (List._∷_ 58 (List._∷_ 58 (List._∷_ 67 (List._∷_ 111 (List._∷_ 100 (List._∷_ 101 (List._∷_ 115 (List._∷_ 116 (List._∷_ 114 (List._∷_
-      101 (List._∷_ 97 (List._∷_ 109 (List._∷_ 79 (List._∷_ 102 (List._∷_ 102 (List._∷_ 115 (List._∷_ 101 (List._∷_ 116 List.[]))))))))))))))))))))))) (Syntax.tcons (Syntax.tyInt
-      Syntax.w64) Syntax.tnil)) (Syntax.tcons (Syntax.tyInt Syntax.w64) (Syntax.tcons (Syntax.tyInt Syntax.w64) (Syntax.tcons (Syntax.tyInt Syntax.w64) Syntax.tnil))))) Syntax.tnil)
-      (Syntax.ttcons (Syntax.tcons (Syntax.tyStruct (List._∷_ 116 (List._∷_ 121 (List._∷_ 112 (List._∷_ 101 (List._∷_ 115 (List._∷_ 58 (List._∷_ 58 (List._∷_ 82 (List._∷_ 101
-      (List._∷_ 102 (List._∷_ 117 (List._∷_ 115 (List._∷_ 97 (List._∷_ 108 List.[])))))))))))))) (Syntax.tcons (Syntax.tyInt Syntax.w32) (Syntax.tcons (Syntax.tyInt Syntax.w64)
-      Syntax.tnil))) Syntax.tnil) Syntax.ttnil))),
+  Rows'.any-gone (Syntax.tyEnum (List._∷_ 104 (List._∷_
+      101 (List._∷_ 97 (List._∷_ 100 (List._∷_ 101 (List._∷_ 114 (List._∷_ 58 (List._∷_ 58 (List._∷_ 112 (List._∷_ 97 (List._∷_ 114 (List._∷_ 115 (List._∷_ 101 (List._∷_ 58 (List._∷_
+      58 (List._∷_ 77 (List._∷_ 97 (List._∷_ 105 (List._∷_ 110 (List._∷_ 72 (List._∷_ 101 (List._∷_ 97 (List._∷_ 100 (List._∷_ 101 (List._∷_ 114 List.[])))))))))))))))))))))))))
+      (Syntax.ttcons (Syntax.tcons (Syntax.tyStruct (List._∷_ 104 (List._∷_ 101 (List._∷_ 97 (List._∷_ 100 (List._∷_ 101 (List._∷_ 114 (List._∷_ 58 (List._∷_ 58 (List._∷_ 112
+      (List._∷_ 97 (List._∷_ 114 (List._∷_ 115 (List._∷_ 101 (List._∷_ 58 (List._∷_ 58 (List._∷_ 77 (List._∷_ 97 (List._∷_ 105 (List._∷_ 110 (List._∷_ 72 (List._∷_ 101 (List._∷_ 97
+      (List._∷_ 100 (List._∷_ 101 (List._∷_ 114 (List._∷_ 73 (List._∷_ 110 (List._∷_ 102 (List._∷_ 111 List.[]))))))))))))))))))))))))))))) (Syntax.tcons (Syntax.tyStruct (List._∷_
+      116 (List._∷_ 121 (List._∷_ 112 (List._∷_ 101 (List._∷_ 115 (List._∷_ 58 (List._∷_ 58 (List._∷_ 67 (List._∷_ 111 (List._∷_ 100 (List._∷_ 101 (List._∷_ 115 (List._∷_ 116
+      (List._∷_ 114 (List._∷_ 101 (List._∷_ 97 (List._∷_ 109 (List._∷_ 79 (List._∷_ 102 (List._∷_ 102 (List._∷_ 115 (List._∷_ 101 (List._∷_ 116 List.[])))))))))))))))))))))))
+      (Syntax.tcons (Syntax.tyInt Syntax.w64) Syntax.tnil)) (Syntax.tcons (Syntax.tyInt Syntax.w64) (Syntax.tcons (Syntax.tyInt Syntax.w64) (Syntax.tcons (Syntax.tyInt Syntax.w64)
+      Syntax.tnil))))) Syntax.tnil) (Syntax.ttcons (Syntax.tcons (Syntax.tyStruct (List._∷_ 116 (List._∷_ 121 (List._∷_ 112 (List._∷_ 101 (List._∷_ 115 (List._∷_ 58 (List._∷_ 58
+      (List._∷_ 82 (List._∷_ 101 (List._∷_ 102 (List._∷_ 117 (List._∷_ 115 (List._∷_ 97 (List._∷_ 108 List.[])))))))))))))) (Syntax.tcons (Syntax.tyInt Syntax.w32) (Syntax.tcons
+      (Syntax.tyInt Syntax.w64) Syntax.tnil))) Syntax.tnil) Syntax.ttnil))),
 ) (List._∷_ (6, Rows.arrF LentTilePartEntry.row 2048 0) (List._∷_ (
   7,
-  Rows'.any-gone (Syntax.tyRef Syntax.erased Syntax.mut
-      (Syntax.tyArray LentTilePartEntry.pointee 2048)),
+  Rows'.any-gone (Syntax.tyRef
+      Syntax.erased Syntax.mut (Syntax.tyArray LentTilePartEntry.pointee 2048)),
 ) (List._∷_ (
   8,
-  Rows'.any-gone (Syntax.tyStruct (List._∷_ 38 (List._∷_ 91 (List._∷_ 93 List.[]))) (Syntax.tcons (Syntax.tyRef
-      Syntax.erased Syntax.mut LentTilePartEntry.pointee) (Syntax.tcons (Syntax.tyInt Syntax.w64) Syntax.tnil))),
+  Rows'.any-gone (Syntax.tyStruct (List._∷_ 38 (List._∷_ 91 (List._∷_ 93 List.[])))
+      (Syntax.tcons (Syntax.tyRef Syntax.erased Syntax.mut LentTilePartEntry.pointee) (Syntax.tcons (Syntax.tyInt Syntax.w64) Syntax.tnil))),
 ) (List._∷_ (
   9,
-  Rows'.any-gone (Syntax.tyRef Syntax.erased Syntax.mut
-      (Syntax.tyInt Syntax.w8)),
+  Rows'.any-gone
+      (Syntax.tyRef Syntax.erased Syntax.mut (Syntax.tyInt Syntax.w8)),
 ) (List._∷_ (
   10,
-  Rows'.any-gone (Syntax.tyStruct (List._∷_ 38 (List._∷_ 91 (List._∷_ 93 List.[]))) (Syntax.tcons (Syntax.tyRef Syntax.erased Syntax.mut
-      (Syntax.tyInt Syntax.w8)) (Syntax.tcons (Syntax.tyInt Syntax.w64) Syntax.tnil))),
+  Rows'.any-gone (Syntax.tyStruct (List._∷_ 38 (List._∷_ 91 (List._∷_ 93 List.[]))) (Syntax.tcons
+      (Syntax.tyRef Syntax.erased Syntax.mut (Syntax.tyInt Syntax.w8)) (Syntax.tcons (Syntax.tyInt Syntax.w64) Syntax.tnil))),
 ) List.[]))))))))))
 
 abbrev pub T0 : Row.Cx
@@ -1347,10 +1368,15 @@ module _ (claims· : Claims) where
       (Syntax.tyInt Syntax.w32) (Syntax.tcons (Syntax.tyInt Syntax.w64) Syntax.tnil))) Syntax.tnil) Syntax.ttnil)))
 
   abbrev s12 : (bs : List.List Nat.ℕ) → Typed.Mo T13 → Typed.Mo T14
-  s12 = λ bs. Scalar.n-room T13 2 (Syntax.tyEnum (List._∷_ 104 (List._∷_ 101 (List._∷_ 97 (List._∷_ 100 (List._∷_ 101 (List._∷_ 114 (List._∷_ 58 (List._∷_ 58 (List._∷_ 110
-      (List._∷_ 117 (List._∷_ 109 (List._∷_ 98 (List._∷_ 101 (List._∷_ 114 (List._∷_ 105 (List._∷_ 110 (List._∷_ 103 (List._∷_ 58 (List._∷_ 58 (List._∷_ 78 (List._∷_ 117 (List._∷_
-      109 (List._∷_ 98 (List._∷_ 101 (List._∷_ 114 (List._∷_ 105 (List._∷_ 110 (List._∷_ 103 List.[])))))))))))))))))))))))))))) (Syntax.ttcons Syntax.tnil (Syntax.ttcons
-      Syntax.tnil Syntax.ttnil)))
+  s12 = λ bs. Scalar.n-room T13 2 (Syntax.tyStruct (List._∷_ 104 (List._∷_ 101 (List._∷_ 97 (List._∷_ 100 (List._∷_ 101 (List._∷_ 114 (List._∷_ 58 (List._∷_ 58 (List._∷_ 114
+      (List._∷_ 101 (List._∷_ 97 (List._∷_ 100 (List._∷_ 105 (List._∷_ 110 (List._∷_ 103 (List._∷_ 58 (List._∷_ 58 (List._∷_ 82 (List._∷_ 101 (List._∷_ 97 (List._∷_ 100 (List._∷_
+      105 (List._∷_ 110 (List._∷_ 103 List.[])))))))))))))))))))))))) (Syntax.tcons (Syntax.tyEnum (List._∷_ 104 (List._∷_ 101 (List._∷_ 97 (List._∷_ 100 (List._∷_ 101 (List._∷_
+      114 (List._∷_ 58 (List._∷_ 58 (List._∷_ 110 (List._∷_ 117 (List._∷_ 109 (List._∷_ 98 (List._∷_ 101 (List._∷_ 114 (List._∷_ 105 (List._∷_ 110 (List._∷_ 103 (List._∷_ 58
+      (List._∷_ 58 (List._∷_ 78 (List._∷_ 117 (List._∷_ 109 (List._∷_ 98 (List._∷_ 101 (List._∷_ 114 (List._∷_ 105 (List._∷_ 110 (List._∷_ 103 List.[]))))))))))))))))))))))))))))
+      (Syntax.ttcons Syntax.tnil (Syntax.ttcons Syntax.tnil Syntax.ttnil))) (Syntax.tcons (Syntax.tyEnum (List._∷_ 104 (List._∷_ 101 (List._∷_ 97 (List._∷_ 100 (List._∷_ 101
+      (List._∷_ 114 (List._∷_ 58 (List._∷_ 58 (List._∷_ 101 (List._∷_ 100 (List._∷_ 105 (List._∷_ 116 (List._∷_ 105 (List._∷_ 111 (List._∷_ 110 (List._∷_ 58 (List._∷_ 58 (List._∷_
+      69 (List._∷_ 100 (List._∷_ 105 (List._∷_ 116 (List._∷_ 105 (List._∷_ 111 (List._∷_ 110 List.[])))))))))))))))))))))))) (Syntax.ttcons Syntax.tnil (Syntax.ttcons Syntax.tnil
+      Syntax.ttnil))) Syntax.tnil)))
 
   abbrev s14 : (bs : List.List Nat.ℕ) → Typed.Both T14 T16
   s14 = λ bs. Borrow.k-back-arr LentTilePartEntry.row T14 8 4 2 2048 (Syntax.tyRef Syntax.erased Syntax.mut LentTilePartEntry.pointee) (λ x. x) λ x. x
@@ -1530,7 +1556,7 @@ module _ (claims· : Claims) where
           1,
           Rows'.sslice (Referent.rtF (Referent.fInt Syntax.w8)) (Syntax.tyRef
               (Syntax.named 0) Syntax.imm (Syntax.tyInt Syntax.w8)) 0,
-        ) (List._∷_ (2, Rows'.whole (Declared.row Numbering.the-type)) (List._∷_ (
+        ) (List._∷_ (2, Rows'.whole (Declared'.row Reading.the-type)) (List._∷_ (
           3,
           Relend.mslice-owed (Referent.rtF
               (Referent.fInt Syntax.w8)) (Syntax.tyRef (Syntax.named 1) Syntax.mut (Syntax.tyInt Syntax.w8)) 1 3 (Row.lease (κs .1 .0) (qs .1 .0)),
@@ -1594,7 +1620,7 @@ module _ (claims· : Claims) where
           1,
           Rows'.sslice (Referent.rtF (Referent.fInt Syntax.w8)) (Syntax.tyRef
               (Syntax.named 0) Syntax.imm (Syntax.tyInt Syntax.w8)) 0,
-        ) (List._∷_ (2, Rows'.whole (Declared.row Numbering.the-type)) (List._∷_ (
+        ) (List._∷_ (2, Rows'.whole (Declared'.row Reading.the-type)) (List._∷_ (
           3,
           Relend.mslice-owed (Referent.rtF
               (Referent.fInt Syntax.w8)) (Syntax.tyRef (Syntax.named 1) Syntax.mut (Syntax.tyInt Syntax.w8)) 1 3 (Row.lease (κs .1 .0) (qs .1 .0)),
@@ -1651,7 +1677,7 @@ module _ (claims· : Claims) where
           1,
           Rows'.sslice (Referent.rtF (Referent.fInt Syntax.w8)) (Syntax.tyRef
               (Syntax.named 0) Syntax.imm (Syntax.tyInt Syntax.w8)) 0,
-        ) (List._∷_ (2, Rows'.whole (Declared.row Numbering.the-type)) (List._∷_ (
+        ) (List._∷_ (2, Rows'.whole (Declared'.row Reading.the-type)) (List._∷_ (
           3,
           Relend.mslice-owed (Referent.rtF
               (Referent.fInt Syntax.w8)) (Syntax.tyRef (Syntax.named 1) Syntax.mut (Syntax.tyInt Syntax.w8)) 1 3 (Row.lease (κs .1 .0) (qs .1 .0)),
@@ -1703,29 +1729,35 @@ module _ (claims· : Claims) where
               (Syntax.named 0) Syntax.imm (Syntax.tyInt Syntax.w8)) 0,
         ) (List._∷_ (
           2,
-          Rows'.any-gone (Syntax.tyEnum (List._∷_ 104 (List._∷_ 101 (List._∷_ 97 (List._∷_ 100 (List._∷_
-              101 (List._∷_ 114 (List._∷_ 58 (List._∷_ 58 (List._∷_ 110 (List._∷_ 117 (List._∷_ 109 (List._∷_ 98 (List._∷_ 101 (List._∷_ 114 (List._∷_ 105 (List._∷_ 110 (List._∷_ 103
-              (List._∷_ 58 (List._∷_ 58 (List._∷_ 78 (List._∷_ 117 (List._∷_ 109 (List._∷_ 98 (List._∷_ 101 (List._∷_ 114 (List._∷_ 105 (List._∷_ 110 (List._∷_ 103
-              List.[])))))))))))))))))))))))))))) (Syntax.ttcons Syntax.tnil (Syntax.ttcons Syntax.tnil Syntax.ttnil))),
+          Rows'.any-gone (Syntax.tyStruct (List._∷_ 104 (List._∷_ 101 (List._∷_ 97 (List._∷_ 100 (List._∷_
+              101 (List._∷_ 114 (List._∷_ 58 (List._∷_ 58 (List._∷_ 114 (List._∷_ 101 (List._∷_ 97 (List._∷_ 100 (List._∷_ 105 (List._∷_ 110 (List._∷_ 103 (List._∷_ 58 (List._∷_ 58
+              (List._∷_ 82 (List._∷_ 101 (List._∷_ 97 (List._∷_ 100 (List._∷_ 105 (List._∷_ 110 (List._∷_ 103 List.[])))))))))))))))))))))))) (Syntax.tcons (Syntax.tyEnum (List._∷_
+              104 (List._∷_ 101 (List._∷_ 97 (List._∷_ 100 (List._∷_ 101 (List._∷_ 114 (List._∷_ 58 (List._∷_ 58 (List._∷_ 110 (List._∷_ 117 (List._∷_ 109 (List._∷_ 98 (List._∷_ 101
+              (List._∷_ 114 (List._∷_ 105 (List._∷_ 110 (List._∷_ 103 (List._∷_ 58 (List._∷_ 58 (List._∷_ 78 (List._∷_ 117 (List._∷_ 109 (List._∷_ 98 (List._∷_ 101 (List._∷_ 114
+              (List._∷_ 105 (List._∷_ 110 (List._∷_ 103 List.[])))))))))))))))))))))))))))) (Syntax.ttcons Syntax.tnil (Syntax.ttcons Syntax.tnil Syntax.ttnil))) (Syntax.tcons
+              (Syntax.tyEnum (List._∷_ 104 (List._∷_ 101 (List._∷_ 97 (List._∷_ 100 (List._∷_ 101 (List._∷_ 114 (List._∷_ 58 (List._∷_ 58 (List._∷_ 101 (List._∷_ 100 (List._∷_ 105
+              (List._∷_ 116 (List._∷_ 105 (List._∷_ 111 (List._∷_ 110 (List._∷_ 58 (List._∷_ 58 (List._∷_ 69 (List._∷_ 100 (List._∷_ 105 (List._∷_ 116 (List._∷_ 105 (List._∷_ 111
+              (List._∷_ 110 List.[])))))))))))))))))))))))) (Syntax.ttcons Syntax.tnil (Syntax.ttcons Syntax.tnil Syntax.ttnil))) Syntax.tnil))),
         ) (List._∷_ (
           3,
-          Relend.mslice-owed (Referent.rtF (Referent.fInt
-              Syntax.w8)) (Syntax.tyRef (Syntax.named 1) Syntax.mut (Syntax.tyInt Syntax.w8)) 1 3 (Row.lease (κs .1 .0) (qs .1 .0)),
+          Relend.mslice-owed
+              (Referent.rtF (Referent.fInt Syntax.w8)) (Syntax.tyRef (Syntax.named 1) Syntax.mut (Syntax.tyInt Syntax.w8)) 1 3 (Row.lease (κs .1 .0) (qs .1 .0)),
         ) (List._∷_ (
           4,
-          Rows.arr-owed LentTilePartEntry.row
-              2048 2,
-        ) (List._∷_ (5, Rows'.whole (Declared.row MainHeader.the-type)) (List._∷_ (6, Rows'.any-gone (Syntax.tyArray LentTilePartEntry.spelled 2048)) (List._∷_ (
-          7,
-          Rows'.any-gone (Syntax.tyRef Syntax.erased Syntax.mut (Syntax.tyArray LentTilePartEntry.pointee 2048)),
-        ) (List._∷_ (
+          Rows.arr-owed LentTilePartEntry.row 2048 2,
+        ) (List._∷_ (5, Rows'.whole (Declared.row MainHeader.the-type)) (List._∷_ (
+          6,
+          Rows'.any-gone (Syntax.tyArray
+              LentTilePartEntry.spelled 2048),
+        ) (List._∷_ (7, Rows'.any-gone (Syntax.tyRef Syntax.erased Syntax.mut (Syntax.tyArray LentTilePartEntry.pointee 2048))) (List._∷_ (
           8,
-          Mut.msleft LentTilePartEntry.row (Syntax.tyRef
-              Syntax.erased Syntax.mut LentTilePartEntry.pointee),
-        ) (List._∷_ (9, Rows'.any-gone (Syntax.tyRef Syntax.erased Syntax.mut (Syntax.tyInt Syntax.w8))) (List._∷_ (
-          10,
-          Mut.msleft (Referent.rtF (Referent.fInt Syntax.w8)) (Syntax.tyRef Syntax.erased Syntax.mut (Syntax.tyInt Syntax.w8)),
-        ) List.[]))))))))))
+          Mut.msleft LentTilePartEntry.row (Syntax.tyRef Syntax.erased Syntax.mut LentTilePartEntry.pointee),
+        ) (List._∷_ (
+          9,
+          Rows'.any-gone (Syntax.tyRef Syntax.erased Syntax.mut
+              (Syntax.tyInt Syntax.w8)),
+        ) (List._∷_ (10, Mut.msleft (Referent.rtF (Referent.fInt Syntax.w8)) (Syntax.tyRef Syntax.erased Syntax.mut (Syntax.tyInt Syntax.w8)))
+            List.[]))))))))))
 
         abbrev g11 : List.List Row.Entry
         g11 = List._∷_ (
@@ -1756,30 +1788,33 @@ module _ (claims· : Claims) where
               (Syntax.named 0) Syntax.imm (Syntax.tyInt Syntax.w8)) 0,
         ) (List._∷_ (
           2,
-          Rows'.any-gone (Syntax.tyEnum (List._∷_ 104 (List._∷_ 101 (List._∷_ 97 (List._∷_ 100 (List._∷_
-              101 (List._∷_ 114 (List._∷_ 58 (List._∷_ 58 (List._∷_ 110 (List._∷_ 117 (List._∷_ 109 (List._∷_ 98 (List._∷_ 101 (List._∷_ 114 (List._∷_ 105 (List._∷_ 110 (List._∷_ 103
-              (List._∷_ 58 (List._∷_ 58 (List._∷_ 78 (List._∷_ 117 (List._∷_ 109 (List._∷_ 98 (List._∷_ 101 (List._∷_ 114 (List._∷_ 105 (List._∷_ 110 (List._∷_ 103
-              List.[])))))))))))))))))))))))))))) (Syntax.ttcons Syntax.tnil (Syntax.ttcons Syntax.tnil Syntax.ttnil))),
+          Rows'.any-gone (Syntax.tyStruct (List._∷_ 104 (List._∷_ 101 (List._∷_ 97 (List._∷_ 100 (List._∷_
+              101 (List._∷_ 114 (List._∷_ 58 (List._∷_ 58 (List._∷_ 114 (List._∷_ 101 (List._∷_ 97 (List._∷_ 100 (List._∷_ 105 (List._∷_ 110 (List._∷_ 103 (List._∷_ 58 (List._∷_ 58
+              (List._∷_ 82 (List._∷_ 101 (List._∷_ 97 (List._∷_ 100 (List._∷_ 105 (List._∷_ 110 (List._∷_ 103 List.[])))))))))))))))))))))))) (Syntax.tcons (Syntax.tyEnum (List._∷_
+              104 (List._∷_ 101 (List._∷_ 97 (List._∷_ 100 (List._∷_ 101 (List._∷_ 114 (List._∷_ 58 (List._∷_ 58 (List._∷_ 110 (List._∷_ 117 (List._∷_ 109 (List._∷_ 98 (List._∷_ 101
+              (List._∷_ 114 (List._∷_ 105 (List._∷_ 110 (List._∷_ 103 (List._∷_ 58 (List._∷_ 58 (List._∷_ 78 (List._∷_ 117 (List._∷_ 109 (List._∷_ 98 (List._∷_ 101 (List._∷_ 114
+              (List._∷_ 105 (List._∷_ 110 (List._∷_ 103 List.[])))))))))))))))))))))))))))) (Syntax.ttcons Syntax.tnil (Syntax.ttcons Syntax.tnil Syntax.ttnil))) (Syntax.tcons
+              (Syntax.tyEnum (List._∷_ 104 (List._∷_ 101 (List._∷_ 97 (List._∷_ 100 (List._∷_ 101 (List._∷_ 114 (List._∷_ 58 (List._∷_ 58 (List._∷_ 101 (List._∷_ 100 (List._∷_ 105
+              (List._∷_ 116 (List._∷_ 105 (List._∷_ 111 (List._∷_ 110 (List._∷_ 58 (List._∷_ 58 (List._∷_ 69 (List._∷_ 100 (List._∷_ 105 (List._∷_ 116 (List._∷_ 105 (List._∷_ 111
+              (List._∷_ 110 List.[])))))))))))))))))))))))) (Syntax.ttcons Syntax.tnil (Syntax.ttcons Syntax.tnil Syntax.ttnil))) Syntax.tnil))),
         ) (List._∷_ (
           3,
-          Relend.mslice-owed (Referent.rtF (Referent.fInt
-              Syntax.w8)) (Syntax.tyRef (Syntax.named 1) Syntax.mut (Syntax.tyInt Syntax.w8)) 1 3 (Row.lease (κs .1 .0) (qs .1 .0)),
+          Relend.mslice-owed
+              (Referent.rtF (Referent.fInt Syntax.w8)) (Syntax.tyRef (Syntax.named 1) Syntax.mut (Syntax.tyInt Syntax.w8)) 1 3 (Row.lease (κs .1 .0) (qs .1 .0)),
         ) (List._∷_ (
           4,
-          Rows.arrF LentTilePartEntry.row
-              2048 0,
-        ) (List._∷_ (5, Rows'.whole (Declared.row MainHeader.the-type)) (List._∷_ (6, Rows'.any-gone (Syntax.tyArray LentTilePartEntry.spelled 2048)) (List._∷_ (
-          7,
-          Rows'.any-gone (Syntax.tyRef Syntax.erased Syntax.mut (Syntax.tyArray LentTilePartEntry.pointee 2048)),
-        ) (List._∷_ (
+          Rows.arrF LentTilePartEntry.row 2048 0,
+        ) (List._∷_ (5, Rows'.whole (Declared.row MainHeader.the-type)) (List._∷_ (
+          6,
+          Rows'.any-gone (Syntax.tyArray
+              LentTilePartEntry.spelled 2048),
+        ) (List._∷_ (7, Rows'.any-gone (Syntax.tyRef Syntax.erased Syntax.mut (Syntax.tyArray LentTilePartEntry.pointee 2048))) (List._∷_ (
           8,
-          Rows'.any-gone (Syntax.tyStruct (List._∷_ 38
-              (List._∷_ 91 (List._∷_ 93 List.[]))) (Syntax.tcons (Syntax.tyRef Syntax.erased Syntax.mut LentTilePartEntry.pointee) (Syntax.tcons (Syntax.tyInt Syntax.w64)
-              Syntax.tnil))),
+          Rows'.any-gone (Syntax.tyStruct (List._∷_ 38 (List._∷_ 91 (List._∷_ 93 List.[]))) (Syntax.tcons (Syntax.tyRef Syntax.erased Syntax.mut LentTilePartEntry.pointee)
+              (Syntax.tcons (Syntax.tyInt Syntax.w64) Syntax.tnil))),
         ) (List._∷_ (9, Rows'.any-gone (Syntax.tyRef Syntax.erased Syntax.mut (Syntax.tyInt Syntax.w8))) (List._∷_ (
           10,
-          Mut.msleft (Referent.rtF (Referent.fInt
-              Syntax.w8)) (Syntax.tyRef Syntax.erased Syntax.mut (Syntax.tyInt Syntax.w8)),
+          Mut.msleft (Referent.rtF (Referent.fInt Syntax.w8)) (Syntax.tyRef Syntax.erased Syntax.mut (Syntax.tyInt Syntax.w8)),
         ) List.[]))))))))))
 
         abbrev G0 : Row.Cx
@@ -1921,7 +1956,7 @@ module _ (claims· : Claims) where
               ) 0 List.[] (Call.sub-id 𝓤 H A W (G23 .slots)) (
                 (
                   Yields.yields-copy 𝓤 H A W (λ ρ. Unit) (Declared.row MainHeader.the-type) Path'.refl (Copies.cEnum
-                      MainHeader.the-type Laws'.the-laws Laws'.the-copy .copy 𝓤 H A W) (Rows'.whole (Declared.row MainHeader.the-type)) (λ x. x) (λ x. x) (λ ρ told. Local.mem-whole 𝓤 H A W
+                      MainHeader.the-type Laws.the-laws Laws.the-copy .copy 𝓤 H A W) (Rows'.whole (Declared.row MainHeader.the-type)) (λ x. x) (λ x. x) (λ ρ told. Local.mem-whole 𝓤 H A W
                       (Declared.row MainHeader.the-type) ρ) λ ρ told. Local.whole-mem 𝓤 H A W (Declared.row MainHeader.the-type) ρ,
                   Path'.refl,
                 ),
@@ -1998,14 +2033,24 @@ module _ (claims· : Claims) where
           d12 = Typed.g-pre 𝓤 H A W 𝓣 E G14 G15 b11 Δ0 (λ Ψ. Ψ) (at11 bs) (Lifetime.g-end 𝓤 H A W E G14 2 Path'.refl) d11
 
           d13 : Typed.Typed 𝓤 H A 𝓣 E G13 b11 Δ0 (at13 bs)
-          d13 = Typed.g-pre 𝓤 H A W 𝓣 E G13 G14 b11 Δ0 (Typed.pass T13 T14 (s12 bs)) (at12 bs) (Scalar.g-room 𝓤 H A W E G13 2 (Syntax.tyEnum (List._∷_ 104 (List._∷_ 101 (List._∷_
-              97 (List._∷_ 100 (List._∷_ 101 (List._∷_ 114 (List._∷_ 58 (List._∷_ 58 (List._∷_ 110 (List._∷_ 117 (List._∷_ 109 (List._∷_ 98 (List._∷_ 101 (List._∷_ 114 (List._∷_
-              105 (List._∷_ 110 (List._∷_ 103 (List._∷_ 58 (List._∷_ 58 (List._∷_ 78 (List._∷_ 117 (List._∷_ 109 (List._∷_ 98 (List._∷_ 101 (List._∷_ 114 (List._∷_ 105 (List._∷_
-              110 (List._∷_ 103 List.[])))))))))))))))))))))))))))) (Syntax.ttcons Syntax.tnil (Syntax.ttcons Syntax.tnil Syntax.ttnil))) (Local.room-whole 𝓤 H A W (Declared.row
-              Numbering.the-type) (Syntax.tyEnum (List._∷_ 104 (List._∷_ 101 (List._∷_ 97 (List._∷_ 100 (List._∷_ 101 (List._∷_ 114 (List._∷_ 58 (List._∷_ 58 (List._∷_ 110
-              (List._∷_ 117 (List._∷_ 109 (List._∷_ 98 (List._∷_ 101 (List._∷_ 114 (List._∷_ 105 (List._∷_ 110 (List._∷_ 103 (List._∷_ 58 (List._∷_ 58 (List._∷_ 78 (List._∷_ 117
-              (List._∷_ 109 (List._∷_ 98 (List._∷_ 101 (List._∷_ 114 (List._∷_ 105 (List._∷_ 110 (List._∷_ 103 List.[])))))))))))))))))))))))))))) (Syntax.ttcons Syntax.tnil
-              (Syntax.ttcons Syntax.tnil Syntax.ttnil))) Path'.refl)) d12
+          d13 = Typed.g-pre 𝓤 H A W 𝓣 E G13 G14 b11 Δ0 (Typed.pass T13 T14 (s12 bs)) (at12 bs) (Scalar.g-room 𝓤 H A W E G13 2 (Syntax.tyStruct (List._∷_ 104 (List._∷_ 101 (List._∷_
+              97 (List._∷_ 100 (List._∷_ 101 (List._∷_ 114 (List._∷_ 58 (List._∷_ 58 (List._∷_ 114 (List._∷_ 101 (List._∷_ 97 (List._∷_ 100 (List._∷_ 105 (List._∷_ 110 (List._∷_
+              103 (List._∷_ 58 (List._∷_ 58 (List._∷_ 82 (List._∷_ 101 (List._∷_ 97 (List._∷_ 100 (List._∷_ 105 (List._∷_ 110 (List._∷_ 103 List.[]))))))))))))))))))))))))
+              (Syntax.tcons (Syntax.tyEnum (List._∷_ 104 (List._∷_ 101 (List._∷_ 97 (List._∷_ 100 (List._∷_ 101 (List._∷_ 114 (List._∷_ 58 (List._∷_ 58 (List._∷_ 110 (List._∷_ 117
+              (List._∷_ 109 (List._∷_ 98 (List._∷_ 101 (List._∷_ 114 (List._∷_ 105 (List._∷_ 110 (List._∷_ 103 (List._∷_ 58 (List._∷_ 58 (List._∷_ 78 (List._∷_ 117 (List._∷_ 109
+              (List._∷_ 98 (List._∷_ 101 (List._∷_ 114 (List._∷_ 105 (List._∷_ 110 (List._∷_ 103 List.[])))))))))))))))))))))))))))) (Syntax.ttcons Syntax.tnil (Syntax.ttcons
+              Syntax.tnil Syntax.ttnil))) (Syntax.tcons (Syntax.tyEnum (List._∷_ 104 (List._∷_ 101 (List._∷_ 97 (List._∷_ 100 (List._∷_ 101 (List._∷_ 114 (List._∷_ 58 (List._∷_ 58
+              (List._∷_ 101 (List._∷_ 100 (List._∷_ 105 (List._∷_ 116 (List._∷_ 105 (List._∷_ 111 (List._∷_ 110 (List._∷_ 58 (List._∷_ 58 (List._∷_ 69 (List._∷_ 100 (List._∷_ 105
+              (List._∷_ 116 (List._∷_ 105 (List._∷_ 111 (List._∷_ 110 List.[])))))))))))))))))))))))) (Syntax.ttcons Syntax.tnil (Syntax.ttcons Syntax.tnil Syntax.ttnil)))
+              Syntax.tnil))) (Local.room-whole 𝓤 H A W (Declared'.row Reading.the-type) (Syntax.tyStruct (List._∷_ 104 (List._∷_ 101 (List._∷_ 97 (List._∷_ 100 (List._∷_ 101
+              (List._∷_ 114 (List._∷_ 58 (List._∷_ 58 (List._∷_ 114 (List._∷_ 101 (List._∷_ 97 (List._∷_ 100 (List._∷_ 105 (List._∷_ 110 (List._∷_ 103 (List._∷_ 58 (List._∷_ 58
+              (List._∷_ 82 (List._∷_ 101 (List._∷_ 97 (List._∷_ 100 (List._∷_ 105 (List._∷_ 110 (List._∷_ 103 List.[])))))))))))))))))))))))) (Syntax.tcons (Syntax.tyEnum (List._∷_
+              104 (List._∷_ 101 (List._∷_ 97 (List._∷_ 100 (List._∷_ 101 (List._∷_ 114 (List._∷_ 58 (List._∷_ 58 (List._∷_ 110 (List._∷_ 117 (List._∷_ 109 (List._∷_ 98 (List._∷_
+              101 (List._∷_ 114 (List._∷_ 105 (List._∷_ 110 (List._∷_ 103 (List._∷_ 58 (List._∷_ 58 (List._∷_ 78 (List._∷_ 117 (List._∷_ 109 (List._∷_ 98 (List._∷_ 101 (List._∷_
+              114 (List._∷_ 105 (List._∷_ 110 (List._∷_ 103 List.[])))))))))))))))))))))))))))) (Syntax.ttcons Syntax.tnil (Syntax.ttcons Syntax.tnil Syntax.ttnil))) (Syntax.tcons
+              (Syntax.tyEnum (List._∷_ 104 (List._∷_ 101 (List._∷_ 97 (List._∷_ 100 (List._∷_ 101 (List._∷_ 114 (List._∷_ 58 (List._∷_ 58 (List._∷_ 101 (List._∷_ 100 (List._∷_ 105
+              (List._∷_ 116 (List._∷_ 105 (List._∷_ 111 (List._∷_ 110 (List._∷_ 58 (List._∷_ 58 (List._∷_ 69 (List._∷_ 100 (List._∷_ 105 (List._∷_ 116 (List._∷_ 105 (List._∷_ 111
+              (List._∷_ 110 List.[])))))))))))))))))))))))) (Syntax.ttcons Syntax.tnil (Syntax.ttcons Syntax.tnil Syntax.ttnil))) Syntax.tnil))) Path'.refl)) d12
 
           d14 : Typed.Typed 𝓤 H A 𝓣 E G12 b12 Δ0 (at14 bs)
           d14 = Typed.s-seq 𝓤 H A W 𝓣 E G12 G13 b6 b11 Δ0 (Typed.both (s11 bs)) (at13 bs) (Plain.t-call-plain 𝓤 H A W 𝓣 3 ps·1 r·1 (claims· .2) (claims· .3)
@@ -2037,9 +2082,9 @@ module _ (claims· : Claims) where
                 Path'.refl,
                 (
                   (
-                    Yields.yields-copy 𝓤 H A W (λ ρ. Unit) (Declared.row Numbering.the-type) Path'.refl (Copies.cEnum Numbering.the-type Laws.the-laws Laws.the-copy
-                        .copy 𝓤 H A W) (Rows'.whole (Declared.row Numbering.the-type)) (λ x. x) (λ x. x) (λ ρ told. Local.mem-whole 𝓤 H A W (Declared.row Numbering.the-type) ρ) λ ρ told.
-                        Local.whole-mem 𝓤 H A W (Declared.row Numbering.the-type) ρ,
+                    Yields.yields-copy 𝓤 H A W (λ ρ. Unit) (Declared'.row Reading.the-type) Path'.refl (Copies.cStruct Reading.the-type Laws'.the-laws Laws'.the-copy
+                        .copy 𝓤 H A W) (Rows'.whole (Declared'.row Reading.the-type)) (λ x. x) (λ x. x) (λ ρ told. Local.mem-whole 𝓤 H A W (Declared'.row Reading.the-type) ρ) λ ρ told.
+                        Local.whole-mem 𝓤 H A W (Declared'.row Reading.the-type) ρ,
                     Path'.refl,
                   ),
                   (
@@ -2141,29 +2186,30 @@ module _ (claims· : Claims) where
       module _ (κs : Lifetimes.Lfts 2) where
         pub record Args : Type 0 where
           pub codestream : Kinds.Den {n = 2} κs (ShrSlice.pShrS (Referent.rtF (Referent.fInt Syntax.w8)) 0 tt)
-          pub numbering : Kinds.Den {n = 2} κs (Value.pVal record {
-            ty = Declared.row Numbering.the-type;
+          pub reading : Kinds.Den {n = 2} κs (Value.pVal record {
+            ty = Declared'.row Reading.the-type;
             one = Path'.refl;
-            val = Laws'3.val Numbering.the-type Laws.the-laws;
-            tells
-                = Laws'3.tells Numbering.the-type Laws.the-laws;
-            still = Laws'3.still Numbering.the-type Laws.the-copy Exit.yes;
-            row = Rows'.whole (Declared.row Numbering.the-type);
-            rd = λ x. x;
+            val = Laws'4.val Reading.the-type Laws'.the-laws;
+            tells =
+                Laws'4.tells Reading.the-type Laws'.the-laws;
+            still = Laws'4.still Reading.the-type Laws'.the-copy Exit.yes;
+            row = Rows'.whole (Declared'.row Reading.the-type);
+            rd =
+                λ x. x;
             mk = λ x. x;
           } λ M 𝓤 H A W. record {
-            copies = Laws'3.copy Numbering.the-type Laws.the-copy 𝓤 H A W;
-            lawful = Laws'3.lawful Numbering.the-type
-                Laws.the-laws 𝓤 H A W tt;
-            makes = Laws'3.makes Numbering.the-type Laws.the-plain 𝓤 H A;
-            in-mem = Local.mem-whole 𝓤 H A W (Declared.row Numbering.the-type);
-            of-mem =
-                Local.whole-mem 𝓤 H A W (Declared.row Numbering.the-type);
+            copies = Laws'4.copy Reading.the-type Laws'.the-copy 𝓤 H A W;
+            lawful = Laws'4.lawful Reading.the-type Laws'.the-laws 𝓤 H
+                A W;
+            makes = Laws'4.makes Reading.the-type Laws'.the-plain 𝓤 H A;
+            in-mem = Local.mem-whole 𝓤 H A W (Declared'.row Reading.the-type);
+            of-mem = Local.whole-mem 𝓤 H A W
+                (Declared'.row Reading.the-type);
           })
           pub out : Kinds.Den {n = 2} κs (MutSlice.pMutS (Referent.rtF (Referent.fInt Syntax.w8)) 1 tt)
 
         abbrev pub dens : (a : Args) → Kinds.Dens κs ps
-        dens = λ a. (a .codestream, (a .numbering, (a .out, tt)))
+        dens = λ a. (a .codestream, (a .reading, (a .out, tt)))
 
       abbrev pub m0 : (κs : Lifetimes.Lfts 2) → (args : Args κs) → (blocks : List.List Nat.ℕ) → Typed.Mo T0
       m0 = λ κs args blocks. (tt, Enter.partsP κs 1 ps xs (dens κs args))
@@ -2565,7 +2611,7 @@ module _ (claims· : Claims) where
         module _ (κs : Lifetimes.Lfts 2) (qs : Lifetimes.Shares 2) where
           pub asked : (a : Kinds.Dens κs ps) → (good : Kinds.GoodsP κs ps a) → (pre : Pre· κs a) → (bs : List.List Nat.ℕ) → Φ bs (Any.wantQ 2 ps r xs m κs qs a (Post· κs a))
               (Function.init 2 ps r xs m κs qs a)
-          asked = λ a good pre bs. laid record { κs = κs; args = record { codestream = a .0; numbering = a .1 .0; out = a .1 .1 .0 }; blocks = bs; good = good; pre = pre }
+          asked = λ a good pre bs. laid record { κs = κs; args = record { codestream = a .0; reading = a .1 .0; out = a .1 .1 .0 }; blocks = bs; good = good; pre = pre }
 
         module _ {M : Type 1} (𝓤 : URA.URA M) (H : Wp.Heap 𝓤) (A : Atoms.Atoms 𝓤) (W : Kit.Given 𝓤 H A) (𝓣 : Wp.Tables 𝓤 H) (known0 : Plain.Known 𝓤 H A W 𝓣 0 ps·0 r·0 (claims· .0)
             (claims· .1) "records::tables::new_table") (known1 : Plain.Known 𝓤 H A W 𝓣 3 ps·1 r·1 (claims· .2) (claims· .3) "records::main_header::parse_main_header") (known2 :

@@ -3,15 +3,15 @@ use Prim.Native.Nat.{_/_}
 use mathlib.Core.Path.{_≡_, ap, _∙_}
 use lib.ListN.{length}
 use borrow.Author.Needs.{needs}
-use Rattle.header.specs.Numbering.{numberingOf}
+use Rattle.header.specs.Reading.{readingOf}
 use Rattle.header.specs.Parse.{parsed, tableAfter, outAfter, headerNumber, headerFirst, headerLength, headerEntries, headerFillers}
-use Rattle.header.specs.declared.numbering.Numbering.{Numbering}
+use Rattle.header.specs.declared.reading.Reading.{Reading}
 use Rattle.header.specs.declared.parse.MainHeader.{MainHeader}
-use Rattle.host.proofs.parse.winterhasp_parse_main_header_by_numbering.Statement.{statement}
-use Rattle.host.proofs.parse.winterhasp_parse_main_header_by_numbering.Tie as tie
+use Rattle.host.proofs.parse.winterhasp_parse_main_header_by_reading.Statement.{statement}
+use Rattle.host.proofs.parse.winterhasp_parse_main_header_by_reading.Tie as tie
 
-numbering-of-requires : tie.Need-numbering-of-requires
-numbering-of-requires c κs = search needs
+reading-of-requires : tie.Need-reading-of-requires
+reading-of-requires c κs = search needs
 
 parse-main-header-requires : tie.Need-parse-main-header-requires
 parse-main-header-requires c κs = search needs
@@ -32,8 +32,8 @@ returns c =
     let a = named .before .before .before .before .args in
     let read = w .parse-main-header .ensures in
     let told = c .tell .ensures in
-    let n : named .numbering-of .result ≡ numberingOf (a .numbering) = named .numbering-of .ensures in
-    let answer = read .0 ∙ ap (λ (k : Numbering). parsed k (a .codestream .now) (length (a .table .now) / 18) (length (a .out .now))) n in (
+    let how : named .reading-of .result ≡ readingOf (a .reading) = named .reading-of .ensures in
+    let answer = read .0 ∙ ap (λ (k : Reading). parsed k (a .codestream .now) (length (a .table .now) / 18) (length (a .out .now))) how in (
       told .0 ∙ ap headerNumber answer,
       (
         told .1 .0 ∙ ap headerFirst answer,
@@ -44,7 +44,7 @@ returns c =
             (
               told .1 .1 .1 .1 ∙ ap (λ (m : MainHeader). headerFillers m (a .fillers .now)) answer,
               (
-                read .1 .0 ∙ (λ i. tableAfter (n i) (answer i) (a .codestream .now) (a .table .now)),
+                read .1 .0 ∙ (λ i. tableAfter (how i .numbering) (answer i) (a .codestream .now) (a .table .now)),
                 read .1 .1 ∙ ap (λ (m : MainHeader). outAfter m (a .codestream .now) (a .out .now)) answer,
               ),
             ),
@@ -53,7 +53,7 @@ returns c =
       ),
     )
 
-pub winterhasp-parse-main-header-by-numbering-spec : {M : Type 1} → statement M
-winterhasp-parse-main-header-by-numbering-spec =
+pub winterhasp-parse-main-header-by-reading-spec : {M : Type 1} → statement M
+winterhasp-parse-main-header-by-reading-spec =
     tie.close
-    (tie.spec numbering-of-requires parse-main-header-requires tell-requires same-length same-length-2 returns)
+    (tie.spec reading-of-requires parse-main-header-requires tell-requires same-length same-length-2 returns)
