@@ -1,7 +1,7 @@
 #!/usr/bin/env python3
 """The command, as the desk runs it: tests/command.py [--bin DIR] [NAME..]
 
-Runs `winterhasp` on files that are built here, bare and inside a JP2, on files of OpenJPEG and Grok, and on damaged ones, and
+Runs `winterhasp` on files that are built here, bare and inside a JP2, on files of OpenJPEG, Grok and OpenJPH, and on damaged ones, and
 holds standard output, standard error, the status and the files that are written to what they have to be. What refusals say is
 taken from the table of docs/RULES.md; what `list` prints is held to the listing program too, byte for byte. With names only the
 groups of these names are run. Status 1 if a run differs, 2 if the runs can't be made.
@@ -42,6 +42,10 @@ IN_PLACE, ANNEX_B, ORIGINAL = RULES_OF_TILES = ["in-place", "annex-b", "original
 
 # The first is the default.
 RESTARTING, CARRIED_ON = NUMBERINGS = ["restarting", "carried-on"]
+
+# The first is the default.
+OLDER, NEWER = EDITIONS = ["older", "newer"]
+NO_EDITION = {"name": OLDER, "cap": None, "newer_refuses": None}
 
 # What was in OUT before, where something was.
 KEPT = b"kept"
@@ -410,6 +414,25 @@ def filler_text(count):
     return f"{count} {delimiters} WITHOUT FF, which no edition of the standard allows" if count else "none"
 
 
+def cap(bits, words):
+    """CAP with these bits of Pcap and so many words."""
+    return segment(0xFF50, struct.pack(">I", bits) + bytes(2 * words))
+
+
+def announcing(content):
+    """With bit 14 of Rsiz, which lies at 6."""
+    return content[:6] + bytes([content[6] | 0x40]) + content[7:]
+
+
+def edition_text(place, start=0):
+    """Of a header whose CAP stands there, of one that has none, or of one that the newer refuses by that number, there."""
+    if place is None:
+        return "older: no capabilities (CAP) are announced"
+    if isinstance(place, tuple):
+        return f"older; THE NEWER REFUSES IT: {refused_line(*place)}"
+    return f"newer: capabilities (CAP) at byte {place} of the codestream, byte {start + place} of the file, as announced"
+
+
 def shown_sample(name, start, more=0, filler="none"):
     """Of sample A, bare or in a JP2, with so many bytes more in its header."""
     length = len(SAMPLE) + more
@@ -422,6 +445,7 @@ image       10 by 6, from 0, 0 on
 tiles       4 by 4, from 0, 0 on; 6 in a grid of 3 by 2
 components  1 of 8 bits, unsigned; 10 by 6, from 0, 0 on
 header      {57 + more} bytes, {45 + more} without TLM
+edition     {edition_text(None)}
 tlm         2 entries
 filler      {filler}
 tile-parts  2, 30 bytes, from byte {57 + more} of the codestream, byte {start + 57 + more} of the file on
@@ -785,7 +809,7 @@ class Runs:
     def filled(self, file, start, more, count):
         """Of sample A with so many bytes more, and so many fillers among them."""
         self.case(Case(["show", file], out=shown_sample(file, start, more, filler_text(count))))
-        header = {"length": 57 + more, "decode_length": 45 + more, "tlm_entries": 2, "fillers": count, "ppm": None}
+        header = {"length": 57 + more, "decode_length": 45 + more, "tlm_entries": 2, "edition": NO_EDITION, "fillers": count, "ppm": None}
         status, out, said = self.run("show", "--json", file)
         self.hold(f"show --json {file}", (status, json.loads(out)["header"], said), (0, header, ""))
         listed = [(tile, at + more, size) for tile, at, size in SAMPLE_LISTED]
@@ -855,6 +879,124 @@ class Runs:
             self.hold(f"tile 0 of {file}", (status, said, len((self.folder / OUT).read_bytes())), (0, "", size))
             status, _, said = self.run("grid", file, "-o", "out.svg")
             self.hold(f"grid {file}", (status, said), (0, ""))
+
+    def editions(self):
+        """Sample A with CAP between SIZ and TLM, bare and in a JP2, announced and not, sound and not: by the older edition, which is the
+        default, it is accepted, and by the newer where CAP stands as announced."""
+        one = cap(1 << 17, 1)
+        for name, between, announced, told in (
+            ("none", b"", False, None),
+            ("one", one, True, 45),
+            ("three", cap(0xE0000000, 3), True, 45),
+            ("missing", b"", True, (33, 2)),
+            ("unwanted", one, False, (33, 45)),
+            ("twice", one + one, True, (33, 45 + len(one))),
+            ("no-word", cap(1 << 17, 0), True, (34, 45)),
+            ("word-more", cap(0, 1), True, (34, 45)),
+        ):
+            content = SAMPLE[:45] + between + SAMPLE[45:]
+            content = announcing(content) if announced else content
+            for file, start in (f"cap-{name}.j2k", 0), (f"cap-{name}.jp2", START):
+                (self.folder / file).write_bytes(jp2(content) if start else content)
+                self.in_editions(file, content, start, told)
+        # 1 to 6 come before, and 26 in show
+        cut = announcing(SAMPLE[:45])
+        (self.folder / "cap-cut.j2k").write_bytes(cut)
+        for words in ["list"], ["show"]:
+            saw = [self.run(*words, "cap-cut.j2k", *more)[2] for more in ([], ["--edition", NEWER])]
+            self.hold(f"{words} cap-cut.j2k", saw, [about("cap-cut.j2k", sentence(6, 45))] * 2)
+        self.editions_of_openjph()
+
+    def in_editions(self, file, content, start, told):
+        """`told`: where CAP stands, or nothing, or the newer's refusal."""
+        refused = told if isinstance(told, tuple) else None
+        error = about(file, sentence(*refused, start)) if refused else ""
+        first = content.index(b"\xff\x90")
+        for words in [], ["--edition", OLDER]:
+            status, out, said = self.run("show", file, *words)
+            lines = out.splitlines()
+            saw = status, f"edition     {edition_text(told, start)}" in lines, said
+            self.hold(f"show {file} {words}", saw, (0, True, ""))
+            status, out, said = self.run("list", file, *words)
+            self.hold(f"list {file} {words}", (status, f"header {first} " in out, said), (0, True, ""))
+        if not start:
+            self.hold(f"{file}, the listing program", self.listing(content), out)
+        edition = json.loads(self.run("show", "--json", file)[1])["header"]["edition"]
+        named = edition["name"], edition["cap"], edition["newer_refuses"] and (
+            edition["newer_refuses"]["number"], edition["newer_refuses"]["place"], edition["newer_refuses"]["file_offset"]
+        )  # fmt: skip
+        if refused:
+            wanted = OLDER, None, (*refused, start + refused[1])
+        else:
+            wanted = (NEWER, {"offset": told, "file_offset": start + told}, None) if told else (OLDER, None, None)
+        self.hold(f"show --json {file}", named, wanted)
+        # what the newer accepts is told alike
+        newer = ["--edition", NEWER]
+        if not refused:
+            for words in ["show", file], ["show", "--json", file], ["list", file], ["list", "--json", file]:
+                self.hold(f"{words} {newer}", self.run(*words, *newer), self.run(*words))
+            return
+        self.case(Case(["list", file, *newer], 1, f"codestream {start} {len(content)}\nrefused {refused[0]} {refused[1]}\n", error))
+        status, out, said = self.run("show", file, *newer)
+        lines = out.splitlines()
+        # SIZ and the tile-parts are shown all the same
+        saw = lines[-1], any(line.startswith("image ") for line in lines), any(line.startswith("tile-parts ") for line in lines)
+        self.hold(f"show {file} {newer}", (status, *saw, said), (1, f"refused     {refused_line(*refused)}", True, True, error))
+
+    def editions_of_openjph(self):
+        """High-throughput files as OpenJPH writes them are of the newer edition, and so are the tiles that are cut out of them; with the
+        bit or the segment taken away, or another Pcap, the newer refuses them."""
+        self.slope()
+        width, height = 200, 150
+        colors = bytes(value % 256 for row in range(height) for column in range(width) for value in (column, row, column + row))
+        (self.folder / "colors.ppm").write_bytes(b"P6\n%d %d\n255\n" % (width, height) + colors)
+        for number, words in enumerate((
+            "slope.pgm", "slope.pgm -reversible true -block_size {32,32} -prog_order CPRL", "colors.ppm -num_decomps 3 -tile_size {64,64}",
+            "colors.ppm -reversible true -tile_size {64,64} -colour_trans false -prog_order LRCP", "slope.pgm -reversible true -tile_size {33,20} -image_offset {5,3}",
+        )):  # fmt: skip
+            image, *options = words.split()
+            file = f"high{number}.j2c"
+            made = subprocess.run(["ojph_compress", "-i", image, "-o", file, *options], cwd=self.folder, capture_output=True)
+            path = self.folder / file
+            if made.returncode or not path.exists():
+                self.hold(f"ojph_compress {words}", (made.returncode, path.exists()), (0, True))
+                continue
+            content = path.read_bytes()
+            place = content.index(struct.pack(">H", 0xFF50))
+            size = 2 + struct.unpack(">H", content[place + 2 : place + 4])[0]
+            self.in_editions(file, content, 0, place)
+            (self.folder / f"{file}.jp2").write_bytes(jp2(content))
+            self.in_editions(f"{file}.jp2", content, START, place)
+            changed = {
+                "bit": (content[:6] + bytes([content[6] & 0xBF]) + content[7:], (33, place)),
+                "segment": (content[:place] + content[place + size :], (33, 2)),
+                "again": (content[: place + size] + content[place:], (33, place + size)),
+                "pcap": (content[: place + 7] + b"\1" + content[place + 8 :], (34, place)),
+            }
+            for what, (altered, refused) in changed.items():
+                (self.folder / f"{what}-{file}").write_bytes(altered)
+                self.in_editions(f"{what}-{file}", altered, 0, refused)
+            tiles = json.loads(self.run("show", "--json", file)[1])["grid"]["tiles"]
+            for rule in RULES_OF_TILES:
+                for tile in {0, tiles // 2, tiles - 1}:
+                    if self.run("tile", file, str(tile), "-o", OUT, "--rule", rule)[0]:
+                        continue
+                    edition = json.loads(self.run("show", "--json", "--edition", NEWER, OUT)[1])["header"]["edition"]["name"]
+                    self.hold(f"tile {tile} of {file} {rule}, its edition", edition, NEWER)
+            if image == "colors.ppm" and "-reversible" in options:
+                self.tile_of_openjph(file, 6, colors, width)
+
+    def tile_of_openjph(self, file, tile, colors, width):
+        """A tile that was compressed without loss: OpenJPH and OpenJPEG decode it to the crop of the whole picture."""
+        left, top, right, bottom = json.loads(self.run("show", "--json", "--tile", str(tile), file)[1])["in_tile"]["area"].values()
+        wanted = b"".join(colors[3 * (row * width + left) : 3 * (row * width + right)] for row in range(top, bottom))
+        self.run("tile", file, str(tile), "-o", "high.j2c")
+        for program in "ojph_expand", "opj_decompress":
+            decoded = subprocess.run([program, "-i", "high.j2c", "-o", "high.ppm"], cwd=self.folder, capture_output=True)
+            picture = self.folder / "high.ppm"
+            saw = picture.read_bytes().split(b"255\n", 1)[1] if picture.exists() else None
+            self.hold(f"tile {tile} of {file} by {program}", (decoded.returncode, saw == wanted), (0, True))
+            picture.unlink(missing_ok=True)
 
     def fillers_of_openjpeg(self):
         """In a file of OpenJPEG, between two segments of its main header: it decodes none with a filler, whole or a tile of it, and
@@ -1057,7 +1199,7 @@ class Runs:
         _, out, _ = self.run("show", "--json", "a.jp2")
         found = json.loads(out)
         self.hold("show --json", found["grid"], {"columns": 3, "rows": 2, "tiles": 6})
-        header = {"length": 57, "decode_length": 45, "tlm_entries": 2, "fillers": 0, "ppm": None}
+        header = {"length": 57, "decode_length": 45, "tlm_entries": 2, "edition": NO_EDITION, "fillers": 0, "ppm": None}
         self.hold("show --json", found["header"], header)
         tiles = {"present": 2, "missing": 4, "missing_ranges": [[1, 4]], "outside_ranges": []}
         self.hold("show --json", found["tiles"], tiles)
@@ -1137,6 +1279,16 @@ class Runs:
             self.hold(f"--numbering {numbering}", (status, out, why), (2, "", True))
         for words in ["show"], ["tile", "a.j2k", "5"], ["grid"]:
             self.hold(f"{words} --numbering", self.run(*words, "a.j2k", "--numbering", RESTARTING)[0], 2)
+        for words in ["list"], ["show"]:
+            for edition in "x", "", "new", "Newer", "newest", "0", "1", b"\xff":
+                status, out, error = self.run(*words, "a.j2k", "--edition", edition)
+                why = "[possible values: older, newer]" in error or edition == b"\xff"
+                self.hold(f"{words} --edition {edition}", (status, out, why), (2, "", True))
+            help_text = self.run(*words, "--help")[1]
+            self.hold(f"{words} --help: edition", "[default: older]" in help_text, True)
+        for words in ["tile", "a.j2k", "5"], ["grid", "a.j2k"]:
+            self.hold(f"{words} --edition", self.run(*words, "--edition", NEWER)[0], 2)
+        self.hold("show --help: edition", f"  {edition_text(51)}\n" in self.run("show", "--help")[1], True)
         help_text = self.run("list", "--help")[1]
         for words in "carried-on    on over the segments in the order of the file", "[default: restarting]":
             self.hold(f"list --help: {words}", words in help_text, True)
@@ -1150,7 +1302,7 @@ class Runs:
             self.hold(f"{words} --help", (status, f"  winterhasp {words[0] if words else 'list'} " in out, error), (0, True, ""))
         status, out, _ = self.run("completions", "bash")
         judged = subprocess.run(["bash", "-n"], input=out.encode(), capture_output=True)
-        words = [*COMMANDS, "--rule", "in-place annex-b original", "--numbering", "restarting carried-on"]
+        words = [*COMMANDS, "--rule", "in-place annex-b original", "--numbering", "restarting carried-on", "--edition", "older newer"]
         self.hold("completions bash", (status, judged.returncode, [word for word in words if word not in out]), (0, 0, []))
 
     def not_written(self):
@@ -1407,7 +1559,7 @@ class Runs:
 
 
 GROUPS = [
-    Runs.accepted, Runs.refused, Runs.components, Runs.tiles, Runs.packed, Runs.fillers, Runs.numberings, Runs.rules,
+    Runs.accepted, Runs.refused, Runs.components, Runs.tiles, Runs.packed, Runs.fillers, Runs.numberings, Runs.editions, Runs.rules,
     Runs.never_over_the_input, Runs.machines, Runs.pictures, Runs.not_read, Runs.words, Runs.not_written, Runs.streams,
     Runs.damaged, Runs.folders, Runs.large, Runs.shrinking, Runs.encoders,
 ]  # fmt: skip
@@ -1415,9 +1567,9 @@ GROUPS = [
 
 def install():
     """Whether the encoders are there."""
-    if all(map(shutil.which, ["opj_compress", "grk_compress"])):
+    if all(map(shutil.which, ["opj_compress", "grk_compress", "ojph_compress"])):
         return True
-    for words in "update -q", "install -y -q --no-install-recommends libopenjp2-tools grokj2k-tools":
+    for words in "update -q", "install -y -q --no-install-recommends libopenjp2-tools grokj2k-tools openjph-tools":
         if subprocess.run(["apt-get", *words.split()]).returncode:
             return False
     return True
@@ -1434,7 +1586,7 @@ def main():
             print(f"{needed} is not there: {how}", file=sys.stderr)
             return 2
     if not install():
-        print("command: libopenjp2-tools and grokj2k-tools can't be installed", file=sys.stderr)
+        print("command: libopenjp2-tools, grokj2k-tools and openjph-tools can't be installed", file=sys.stderr)
         return 2
     with tempfile.TemporaryDirectory() as name:
         folder = Path(name)

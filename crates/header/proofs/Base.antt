@@ -19,6 +19,7 @@ use Rattle.header.specs.Extent.{extentEnd, extentOf}
 use Rattle.header.specs.Tlm.{tlmAt, placed}
 use Rattle.header.specs.Walk.{tlmStep, passedAt, walkStepOf, walkStepAt, WalkEnd, firstSot, refused, walkMove, walkAt, walkFrom}
 use Rattle.header.specs.Strip.{decodeHeader, tlmEntries}
+use Rattle.header.specs.Reading.{olderBy}
 use Rattle.header.specs.Parse.{readAs, frontOf, behindFront, judged, withRoom, parsed, tlmTable, tableAfter}
 use Rattle.header.specs.declared.step.Marker.{Marker}
 use Rattle.header.specs.declared.step.HeaderStep.{HeaderStep}
@@ -31,8 +32,6 @@ use Rattle.header.specs.declared.parse.MainHeader.{MainHeader}
 use Rattle.header.specs.declared.extent.MainHeaderExtent.the-variants.{Truncated}
 use Rattle.header.proofs.StepLaws.{Told, step-told}
 use Rattle.header.specs.declared.numbering.Numbering.the-variants.{Restarting}
-use Rattle.header.specs.declared.edition.Edition.the-variants.{Older}
-use Rattle.header.specs.declared.reading.Reading.{Reading}
 use Rattle.header.proofs.EditionLaws.{as-older}
 use Rattle.header.proofs.NumberingLaws.{judged-restart, table-restart}
 use Rattle.header.proofs.WalkLaws.{not-true-false, tlm-no-delimiter}
@@ -143,14 +142,10 @@ room-base rows room (main.Header h) =
     (λ e₁. rw e₁)
 room-base rows room (main.Refused r) = refl
 
--- read as before there was a choice
-abbrev pub before : Reading
-before = record { numbering = Restarting; edition = Older }
-
-pub parsed-base : (s : List ℕ) (rows room : ℕ) → base.withoutFillers (parsed before s rows room) ≡ base.withRoom rows room (base.behindFront s (frontOf s))
+pub parsed-base : (s : List ℕ) (rows room : ℕ) → base.withoutFillers (parsed (olderBy Restarting) s rows room) ≡ base.withRoom rows room (base.behindFront s (frontOf s))
 unfolding parsed
 parsed-base s rows room =
-    ap (λ (m : MainHeader). base.withoutFillers (withRoom rows room m)) (as-older before s refl ∙ judged-restart s) ∙ room-base rows room (judged s) ∙ ap (base.withRoom rows room) (judged-base s)
+    ap (λ (m : MainHeader). base.withoutFillers (withRoom rows room m)) (as-older (olderBy Restarting) s refl ∙ judged-restart s) ∙ room-base rows room (judged s) ∙ ap (base.withRoom rows room) (judged-base s)
 
 -- what is left in the table, numbered from 0 in each segment: the old text
 pub after-base : (h : MainHeaderInfo) (s table : List ℕ) → tableAfter Restarting (main.Header h) s table ≡ rowsOf (tlmTable s) ++ drop (18 * h .«tlm_entries») table

@@ -81,7 +81,7 @@ module _ (s : List ℕ) (h : MainHeaderInfo) where
 abbrev pub capsFrom : List ℕ → ℕ → List ℕ
 capsFrom s at = capsIn s (walkFrom s at .visits)
 
-cap-no-delimiter : delimits CAP ≡ false
+pub cap-no-delimiter : delimits CAP ≡ false
 unfolding delimits
 cap-no-delimiter = refl
 

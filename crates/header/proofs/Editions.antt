@@ -22,11 +22,9 @@ use Rattle.header.specs.Walk.{cutAt, tlmStep, passedAt, walkStepOf, walk
 use Rattle.header.specs.Strip.{isTlm}
 use Rattle.header.specs.Numbering.{nextNumber, endedBy}
 use Rattle.header.specs.Edition.{announced, capsIn, capFits, capped, inEdition}
+use Rattle.header.specs.Reading.{olderBy, newerBy}
 use Rattle.header.specs.Parse.{readAs, stands, frontOf, judged, behindFrontBy, judgedBy, judgedAs, withRoom, parsed, tableAfter, outAfter}
-use Rattle.header.specs.declared.edition.Edition.{Edition}
-use Rattle.header.specs.declared.edition.Edition.the-variants.{Older, Newer}
 use Rattle.header.specs.declared.numbering.Numbering.{Numbering}
-use Rattle.header.specs.declared.reading.Reading.{Reading}
 use Rattle.header.specs.declared.step.Marker.{Marker}
 use Rattle.header.specs.declared.step.HeaderStep.{HeaderStep}
 use Rattle.header.specs.declared.step.HeaderStep.the-variants.{Sot, Delimiter, Segment, CutShort}
@@ -190,48 +188,42 @@ room-accepted rows room (Header k) h e =
 room-accepted rows room (Refused r) h e = absurd (refused-header e)
 
 module _ (n : Numbering) (s : List ℕ) where
-  abbrev older : Reading
-  older = record { numbering = n; edition = Older }
+  pub newer-judged : (h : MainHeaderInfo) → judgedAs (newerBy n) s ≡ Header h → judgedAs (olderBy n) s ≡ Header h
+  newer-judged h e = as-older (olderBy n) s refl ∙ as-accepted (newerBy n) s h e
 
-  abbrev newer : Reading
-  newer = record { numbering = n; edition = Newer }
-
-  pub newer-judged : (h : MainHeaderInfo) → judgedAs newer s ≡ Header h → judgedAs older s ≡ Header h
-  newer-judged h e = as-older older s refl ∙ as-accepted newer s h e
-
-  module _ (rows room : ℕ) (h : MainHeaderInfo) (e : parsed newer s rows room ≡ Header h) where
+  module _ (rows room : ℕ) (h : MainHeaderInfo) (e : parsed (newerBy n) s rows room ≡ Header h) where
     -- with the same answer: first SOT, length of the decode header, number of entries, fillers
-    pub newer-older : parsed older s rows room ≡ Header h
+    pub newer-older : parsed (olderBy n) s rows room ≡ Header h
     unfolding parsed
     newer-older =
-        let accepted = room-accepted rows room (judgedAs newer s) h e in
+        let accepted = room-accepted rows room (judgedAs (newerBy n) s) h e in
         ap (withRoom rows room) (newer-judged h accepted ∙ sym accepted) ∙ e
 
     -- the same table, and the same decode header
-    pub newer-table : (table : List ℕ) → tableAfter n (parsed newer s rows room) s table ≡ tableAfter n (parsed older s rows room) s table
+    pub newer-table : (table : List ℕ) → tableAfter n (parsed (newerBy n) s rows room) s table ≡ tableAfter n (parsed (olderBy n) s rows room) s table
     newer-table table = ap (λ (answer : MainHeader). tableAfter n answer s table) (e ∙ sym newer-older)
 
-    pub newer-out : (out : List ℕ) → outAfter (parsed newer s rows room) s out ≡ outAfter (parsed older s rows room) s out
+    pub newer-out : (out : List ℕ) → outAfter (parsed (newerBy n) s rows room) s out ≡ outAfter (parsed (olderBy n) s rows room) s out
     newer-out out = ap (λ (answer : MainHeader). outAfter answer s out) (e ∙ sym newer-older)
 
   -- ---- what it refuses
 
   -- what the older refuses, alike
-  pub newer-alike : (r : Refusal) → judgedAs older s ≡ Refused r → judgedAs newer s ≡ Refused r
-  newer-alike r e = as-refused newer s r (sym (as-older older s refl) ∙ e)
+  pub newer-alike : (r : Refusal) → judgedAs (olderBy n) s ≡ Refused r → judgedAs (newerBy n) s ≡ Refused r
+  newer-alike r e = as-refused (newerBy n) s r (sym (as-older (olderBy n) s refl) ∙ e)
 
   -- what the older accepts, by 33 or 34
-  pub newer-only : (h : MainHeaderInfo) (r : Refusal) → judgedAs older s ≡ Header h → judgedAs newer s ≡ Refused r → (r .number ≡ 33) ⊎ (r .number ≡ 34)
+  pub newer-only : (h : MainHeaderInfo) (r : Refusal) → judgedAs (olderBy n) s ≡ Header h → judgedAs (newerBy n) s ≡ Refused r → (r .number ≡ 33) ⊎ (r .number ≡ 34)
   newer-only h r accepted e =
-      capped-numbers (announced s) s (capsFrom s 2) h r (sym (as-newer newer s refl h (sym (as-older older s refl) ∙ accepted)) ∙ e)
+      capped-numbers (announced s) s (capsFrom s 2) h r (sym (as-newer (newerBy n) s refl h (sym (as-older (olderBy n) s refl) ∙ accepted)) ∙ e)
 
   -- and by these only what the older accepts
-  pub newer-refused : (r : Refusal) → judgedAs newer s ≡ Refused r → (r .number ≡ 33) ⊎ (r .number ≡ 34) → (h : MainHeaderInfo) × (judgedAs older s ≡ Header h)
-  newer-refused r e number = by (judgedAs older s) refl
+  pub newer-refused : (r : Refusal) → judgedAs (newerBy n) s ≡ Refused r → (r .number ≡ 33) ⊎ (r .number ≡ 34) → (h : MainHeaderInfo) × (judgedAs (olderBy n) s ≡ Header h)
+  newer-refused r e number = by (judgedAs (olderBy n) s) refl
     where
-      by : (answer : MainHeader) → judgedAs older s ≡ answer → (h : MainHeaderInfo) × (judgedAs older s ≡ Header h)
+      by : (answer : MainHeader) → judgedAs (olderBy n) s ≡ answer → (h : MainHeaderInfo) × (judgedAs (olderBy n) s ≡ Header h)
       by (Header h) k = (h, k)
       by (Refused q) k =
           let same = number-of (sym (newer-alike q k) ∙ e) in
-          let small = older-numbers n s q (sym (as-older older s refl) ∙ k) in
+          let small = older-numbers n s q (sym (as-older (olderBy n) s refl) ∙ k) in
           absurd (⊎-elim (λ z. omega (arith, z, small, same)) (λ z. omega (arith, z, small, same)) number)

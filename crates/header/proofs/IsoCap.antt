@@ -21,13 +21,12 @@ use Rattle.types.specs.Refusals.{refusal}
 use Rattle.header.specs.Step.{segmentEnd}
 use Rattle.header.specs.Tlm.{Within}
 use Rattle.header.specs.Edition.{announced, capsIn, lcap, pcap, capFits, capped}
+use Rattle.header.specs.Reading.{newerBy}
 use Rattle.header.specs.Parse.{judgedBy, judgedAs}
 use Rattle.header.specs.Iso.{Segment, segmentBytes, isMarker, isBare, isOutside, InMain}
 use Rattle.header.specs.IsoMain.{Piece, tlm, other, pieceBytes, piecesBytes, Sound, AllSound, IsMain}
 use Rattle.header.specs.IsoCap.{Capability, unused, used, pcapOf, ccapRows, capSegment, WordsHeld, IsCap, rsiz, capsOf, Announced, with, without}
-use Rattle.header.specs.declared.edition.Edition.the-variants.{Newer}
 use Rattle.header.specs.declared.numbering.Numbering.{Numbering}
-use Rattle.header.specs.declared.reading.Reading.{Reading}
 use Rattle.header.specs.declared.parse.MainHeaderInfo.{MainHeaderInfo}
 use Rattle.header.specs.declared.parse.MainHeader.the-variants.{Header, Refused}
 use Rattle.header.proofs.StepLaws.{step-sot}
@@ -224,22 +223,19 @@ stand-cap : (s places : List ℕ) (h : MainHeaderInfo) (parts : List Capability)
 stand-cap s places h parts is (one front rest e none) = capped-fits s h (length front) (rw e (cap-standard front parts rest is))
 
 module _ (n : Numbering) (g : Segment) (ps : List Piece) (rest : List ℕ) (m : IsMain g ps) (long : 2 ≤ length (g .parameters)) where
-  abbrev newer : Reading
-  newer = record { numbering = n; edition = Newer }
-
   -- by bit 14 and what the walk meets
   answered : (h : MainHeaderInfo) → judgedBy n (upToSot g ps rest) ≡ Header h → (b : ℕ) → bit 14 (rsiz g) ≡ b
-      → judgedAs newer (upToSot g ps rest) ≡ capped (eqb b 1) (upToSot g ps rest) (capsFrom (upToSot g ps rest) 2) h
+      → judgedAs (newerBy n) (upToSot g ps rest) ≡ capped (eqb b 1) (upToSot g ps rest) (capsFrom (upToSot g ps rest) 2) h
   answered h judged b e =
-      as-newer newer (upToSot g ps rest) refl h judged
+      as-newer (newerBy n) (upToSot g ps rest) refl h judged
       ∙ ap (λ (wanted : Bool). capped wanted (upToSot g ps rest) (capsFrom (upToSot g ps rest) 2) h) (announced-main g ps rest long ∙ ap (λ (v : ℕ). eqb v 1) e)
 
   -- with CAP as SIZ announces it, a header is accepted in the newer edition as in the older
-  pub newer-standard : Announced g ps → (h : MainHeaderInfo) → judgedBy n (upToSot g ps rest) ≡ Header h → judgedAs newer (upToSot g ps rest) ≡ Header h
+  pub newer-standard : Announced g ps → (h : MainHeaderInfo) → judgedBy n (upToSot g ps rest) ≡ Header h → judgedAs (newerBy n) (upToSot g ps rest) ≡ Header h
   newer-standard (with parts is set caps) h judged = answered h judged 1 set ∙ stand-cap _ _ h parts is (rw caps at (caps-main g ps rest m))
   newer-standard (without clear caps) h judged = answered h judged 0 clear ∙ rw (stand-none (rw caps at (caps-main g ps rest m))) (capped-none _ h)
 
   -- without the CAP that SIZ announces it is refused
   pub newer-missing : bit 14 (rsiz g) ≡ 1 → capsOf ps ≡ [] → (h : MainHeaderInfo) → judgedBy n (upToSot g ps rest) ≡ Header h
-      → judgedAs newer (upToSot g ps rest) ≡ Refused (refusal 33 2)
+      → judgedAs (newerBy n) (upToSot g ps rest) ≡ Refused (refusal 33 2)
   newer-missing set caps h judged = answered h judged 1 set ∙ rw (stand-none (rw caps at (caps-main g ps rest m))) (capped-missing _ h)

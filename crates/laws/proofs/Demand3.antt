@@ -1,5 +1,5 @@
 -- Demand 3. The entries of a scan adjoin; a tile's entries joined and split again are the same parts; and the codestream assembled of them is walked
--- as the decode header was (`Rewalked`) and scanned as they were (`Rescanned`).
+-- as the decode header was (`Rewalked`), in the newer edition too (`Edition`), and scanned as they were (`Rescanned`).
 use Prim.Native.Nat.{ℕ, _+_, _≤_}
 use native.Mathlib.Omega.{arith}
 use mathlib.Core.Path.{_≡_, refl, sym, ap, ap₂, _∙_}
@@ -22,6 +22,7 @@ use Rattle.header.specs.declared.numbering.Numbering.{Numbering}
 use Rattle.header.specs.declared.numbering.Numbering.the-variants.{CarriedOn, Restarting}
 use Rattle.header.proofs.NumberingLaws.{refused-header, judged-restart}
 use Rattle.header.proofs.Numberings.{carried-accepts}
+use Rattle.header.proofs.EditionLaws.{capsFrom}
 use Rattle.header.specs.declared.parse.MainHeaderInfo.{MainHeaderInfo}
 use Rattle.header.specs.declared.parse.MainHeader.the-variants.{Header}
 use Rattle.header.proofs.ParseLaws.{judged-read, judged-no-soc, judged-no-siz, judged-walk}
@@ -42,6 +43,7 @@ use Rattle.tile.proofs.AssemblyRows.{All, none, more}
 use Rattle.tile.proofs.AssemblyLaws.{part-sot, for-first, assembled-is}
 use Rattle.laws.specs.Demand3.{Accepted, decodeHeaderOf, assembledOf, Assembles, Standing, Reassembled, Demand3}
 use Rattle.laws.proofs.Demand3Entries.{OfTile, entries-of-tile, ranges-back, parts-in}
+use Rattle.laws.proofs.Demand3Edition.{newer-same}
 use Rattle.laws.proofs.Demand3Rewalked.{Rewalked, rewalked}
 use Rattle.laws.proofs.Demand3Rescanned.{part-tile, part-is-sot, patched-long, patched-marker, rescan, scans-table}
 use Rattle.tile.specs.Rewrite as rewrite
@@ -77,10 +79,10 @@ module _ (s : List ℕ) (h : MainHeaderInfo) (e : judged s ≡ Header h) where
 
 -- ---- a header walk that stops at an SOT accepts
 
-accepted-at : (s a : List ℕ) (to : ℕ) → be 2 s 0 ≡ SOC → be 2 s 2 ≡ SIZ → length a ≤ 0xffff_ffff → Rewalked s a to
+accepted-at : (s caps a : List ℕ) (to : ℕ) → be 2 s 0 ≡ SOC → be 2 s 2 ≡ SIZ → length a ≤ 0xffff_ffff → Rewalked s caps a to
     → (info : MainHeaderInfo) × (judged a ≡ Header info) × (info .«first_sot_offset» .0 ≡ to) × ((n : Numbering) → judgedBy n a ≡ judged a)
 unfolding readAs
-accepted-at s a to soc siz short r =
+accepted-at s caps a to soc siz short r =
     let long = r .long in
     let info : MainHeaderInfo =
     record {
@@ -164,35 +166,44 @@ module _ (rule : Rule) (s : List ℕ) (p : ℕ) (c : Accepted s p) (tile : ℕ) 
       ap₂ (λ (w : Written) (rs : List TilePartEntry). over w (assembledOf rule s rs) out) answered
       (ranges-back s tile (c .bytes) (judged-read s (c .info) (c .header) .short) all)
 
-  walked : 2 ≤ length (rest-of s es) → be 2 (rest-of s es) 0 ≡ SOT → be 2 s 2 ≡ SIZ
-      → Rewalked s (rewritten rule (decodeHeaderOf s) tile ++ rest-of s es) (length (decodeHeaderOf s))
+  whole : assembledOf rule s es ≡ rewritten rule (decodeHeaderOf s) tile ++ rest-of s es
+  whole = assembled-whole s tile rule (decodeHeaderOf s) all (m .long) (m .some)
+
+  siz : be 2 s 2 ≡ SIZ
+  siz = marker-of s 2 SIZ (siz-stands s (c .info) (c .header))
+
+  walked : Rewalked s (capsFrom s 2) (assembledOf rule s es) (length (decodeHeaderOf s))
   unfolding rewritten
-  walked long begins siz =
-      rewalked s (c .bytes) (rest-of s es) long begins siz (omega (arith, m .siz)) (tileSize rule (decodeHeaderOf s) tile) (judged-read s (c .info) (c .header) .ends)
+  walked =
+      let begins = rest-begins s tile all (m .long) (m .some) in
+      rw whole
+      (rewalked s (c .bytes) (rest-of s es) (begins .0) (begins .1) siz (omega (arith, m .siz)) (tileSize rule (decodeHeaderOf s) tile)
+      (judged-read s (c .info) (c .header) .ends))
 
   standing : Standing (rewritten rule (decodeHeaderOf s) tile) es (assembledOf rule s es)
   standing =
       let head : List ℕ = rewritten rule (decodeHeaderOf s) tile in
-      let rest : List ℕ = rest-of s es in
-      let whole : assembledOf rule s es ≡ head ++ rest = assembled-whole s tile rule (decodeHeaderOf s) all (m .long) (m .some) in
-      let begins = rest-begins s tile all (m .long) (m .some) in
       let soc : be 2 s 0 ≡ SOC = marker-of s 0 SOC (soc-stands s (c .info) (c .header)) in
-      let siz : be 2 s 2 ≡ SIZ = marker-of s 2 SIZ (siz-stands s (c .info) (c .header)) in
-      let accepted = accepted-at s (head ++ rest) (length (decodeHeaderOf s)) soc siz (omega (arith, m .short, ap length whole)) (walked (begins .0) (begins .1) siz) in
+      let accepted = accepted-at s (capsFrom s 2) (assembledOf rule s es) (length (decodeHeaderOf s)) soc siz (m .short) walked in
       let scanned = rescan s tile all (m .long) (m .sized) head in
-      rw whole
-      (record {
-        front = take-at head rest (length head) refl;
+      record {
+        front = rw whole (take-at head (rest-of s es) (length head) refl);
         info = accepted .0;
         walk = accepted .1;
         numbered = λ n. accepted .3 n ∙ accepted .1;
         first = accepted .2 ∙ sym (length-rewritten rule (decodeHeaderOf s) tile);
-        scan = scans-table es scanned;
-        entries = scanned .entries;
-      })
+        scan = rw whole (scans-table es scanned);
+        entries = rw whole (scanned .entries);
+      }
 
   reassembled : Reassembled rule s tile es out
-  reassembled = record { answer = answered; output = written-out; standing = standing }
+  reassembled =
+      record {
+        answer = answered;
+        output = written-out;
+        standing = standing;
+        newer = λ n h accepted. newer-same s (assembledOf rule s es) n h (standing .info) (walked .rsiz) (walked .stops .same) (standing .numbered n) accepted;
+      }
 
 -- ---- all of it
 

@@ -32,15 +32,16 @@ module _ (s : List ℕ) (at next : ℕ) (rest : List Visit) where
   unfolding kept
   kept-other n = rw (ne-eqb _ _ n)
 
-pub by-tlm : {X : Type 0} (s : List ℕ) (at : ℕ) → (be 2 s at ≡ TLM → X) → ((be 2 s at ≡ TLM → ⊥) → X) → X
-by-tlm {X} s at f g = by (eqb (be 2 s at) TLM) refl
+pub by-marker : {X : Type 0} (s : List ℕ) (at marker : ℕ) → (be 2 s at ≡ marker → X) → ((be 2 s at ≡ marker → ⊥) → X) → X
+by-marker {X} s at marker f g = by (eqb (be 2 s at) marker) refl
   where
-    by : (b : Bool) → eqb (be 2 s at) TLM ≡ b → X
+    by : (b : Bool) → eqb (be 2 s at) marker ≡ b → X
     by true e = f (eqb-true _ _ e)
     by false e = g (eqb-false _ _ e)
 
 -- a byte of what was passed
-in-visited : (s : List ℕ) (at next : ℕ) (y : List ℕ) → next ≤ length s → (i : ℕ) → at + i < next → getD (take (next - at) (drop at s) ++ y) i 0 ≡ getD s (at + i) 0
+pub in-visited : (s : List ℕ) (at next : ℕ) (y : List ℕ) → next ≤ length s → (i : ℕ) → at + i < next
+    → getD (take (next - at) (drop at s) ++ y) i 0 ≡ getD s (at + i) 0
 in-visited s at next y h i l =
     List·getD-append (take (next - at) (drop at s)) y 0 i (omega (arith, length-visited s at next h))
     ∙ getD-take (next - at) (drop at s) i 0 (omega arith)
@@ -109,7 +110,7 @@ past-visited s at next k rest inside order g i l m =
     ∙ g .same (i - length here) (omega arith)
     ∙ ap (λ (j : ℕ). getD s j 0) there
 
-by-lt : {X : Type 0} (a b : ℕ) → (a ≤ b → X) → (b < a → X) → X
+pub by-lt : {X : Type 0} (a b : ℕ) → (a ≤ b → X) → (b < a → X) → X
 by-lt {X} a b f g = by (leb a b) refl
   where
     by : (t : Bool) → leb a b ≡ t → X
@@ -141,6 +142,11 @@ marker-again s at next i inside front y =
     let two = item-long i in
     be-cong 2 _ _ _ _ (λ j l. getD-append-add front (piece s at next ++ y) j 0 ∙ in-visited s at next y inside j (omega arith))
 
+-- so is its length,
+pub length-again : (s : List ℕ) (at : ℕ) (front x : List ℕ) → Field s at x → be 2 (front ++ x) (length front + 2) ≡ be 2 s (at + 2)
+length-again s at front x f =
+    be-cong 2 _ _ _ _ (λ j l. rw (add-assoc (length front) 2 j, add-assoc at 2 j) (getD-append-add front x (2 + j) 0 ∙ f .same (2 + j) (omega arith)))
+
 -- and it is passed
 pub pass-again : (s : List ℕ) (at next : ℕ) → Item s at next → next ≤ length s → (be 2 s at ≡ TLM → ⊥) → (front y : List ℕ)
     → (next ≡ segmentEnd s at → Field s at (piece s at next ++ y))
@@ -153,5 +159,5 @@ pass-again s at next i inside other front y stands =
     (λ n.
     let f = stands n in
     let long = f .long in
-    (be-cong 2 _ _ _ _ (λ j l. rw (add-assoc (length front) 2 j, add-assoc at 2 j) (getD-append-add front x (2 + j) 0 ∙ f .same (2 + j) (omega arith))), omega (arith, length-append front x)))
+    (length-again s at front x f, omega (arith, length-append front x)))
     (omega arith)

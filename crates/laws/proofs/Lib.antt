@@ -6,6 +6,7 @@ pub mod SampleEdition
 pub mod SamplePartition
 pub mod Demand3Entries
 pub mod Demand3Items
+pub mod Demand3Edition
 pub mod Demand3Rewalked
 pub mod Demand3Rescanned
 pub mod Demand3

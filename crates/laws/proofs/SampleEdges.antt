@@ -18,7 +18,7 @@ use Rattle.header.specs.Walk.{walkFrom}
 use Rattle.header.specs.Strip.{decodeHeader}
 use Rattle.header.specs.Numbering.{unindexedSegments}
 use Rattle.header.specs.Edition.{editionOf}
-use Rattle.header.specs.Reading.{byDefault}
+use Rattle.header.specs.Reading.{newerBy, byDefault}
 use Rattle.header.specs.Parse.{judged, judgedBy, judgedAs, parsed, tlmTable, tableBy}
 use Rattle.header.specs.IsoMain.{mainHeader}
 use Rattle.header.specs.declared.numbering.Numbering.the-variants.{CarriedOn, Restarting}
@@ -69,7 +69,7 @@ use Rattle.reader.specs.declared.components.ComponentRead.the-variants as one
 use Rattle.reader.specs.Siz as siz-reading
 
 abbrev newer : Reading
-newer = record { numbering = CarriedOn; edition = Newer }
+newer = newerBy CarriedOn
 
 -- ---- sample A
 

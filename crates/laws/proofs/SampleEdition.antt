@@ -15,9 +15,9 @@ use Rattle.header.specs.IsoMain.{Piece, other, pieceBytes, piecesBytes, mainHea
 use Rattle.header.specs.IsoMain as iso
 use Rattle.header.specs.IsoTlm.{withoutIndex}
 use Rattle.header.specs.IsoCap.{Capability, unused, used, pcapOf, ccapRows, capSegment, WordsHeld, IsCap, capsOf, Announced, with, without}
+use Rattle.header.specs.Reading.{newerBy}
 use Rattle.header.specs.Parse.{judgedBy, judgedAs}
 use Rattle.header.specs.declared.numbering.Numbering.the-variants.{CarriedOn}
-use Rattle.header.specs.declared.edition.Edition.the-variants.{Newer}
 use Rattle.header.specs.declared.reading.Reading.{Reading}
 use Rattle.header.specs.declared.parse.MainHeaderInfo.{MainHeaderInfo}
 use Rattle.header.specs.declared.parse.MainHeader.the-variants.{Header, Refused}
@@ -28,7 +28,7 @@ use Rattle.laws.proofs.SampleComputing.{samples, editions}
 use Rattle.laws.proofs.SampleStandard.{size}
 
 abbrev newer : Reading
-newer = record { numbering = CarriedOn; edition = Newer }
+newer = newerBy CarriedOn
 
 -- sample A's, with bit 14 of Rsiz
 abbrev announcing : Size

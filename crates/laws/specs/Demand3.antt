@@ -10,6 +10,7 @@ use Rattle.types.specs.declared.Refusal.{Refusal}
 use Rattle.types.specs.declared.TilePartEntry.{TilePartEntry}
 use Rattle.header.specs.Walk.{walkFrom}
 use Rattle.header.specs.Strip.{decodeHeader}
+use Rattle.header.specs.Reading.{newerBy}
 use Rattle.header.specs.declared.numbering.Numbering.{Numbering}
 use Rattle.header.specs.declared.parse.MainHeaderInfo.{MainHeaderInfo}
 use Rattle.header.specs.declared.parse.MainHeader.the-variants.{Header}
@@ -102,6 +103,9 @@ pub record Reassembled (rule : Rule) (s : List ℕ) (tile : ℕ) (es : List Tile
   pub answer : assemblyAnswer rule (decodeHeaderOf s) (rowsOf es) s (length out) ≡ Bytes (length (assembledOf rule s es))
   pub output : assemblyOut rule (decodeHeaderOf s) (rowsOf es) s out ≡ assembledOf rule s es ++ drop (length (assembledOf rule s es)) out
   pub standing : Standing (rewritten rule (decodeHeaderOf s) tile) es (assembledOf rule s es)
+  -- where the newer edition accepts the codestream, it accepts this one
+  pub newer : (n : Numbering) (h : MainHeaderInfo) → parse.judgedAs (newerBy n) s ≡ Header h
+      → parse.judgedAs (newerBy n) (assembledOf rule s es) ≡ Header (standing .info)
 
 -- ---- all of it, by every rule
 

@@ -22,6 +22,8 @@ pub const TOO_LONG: &str = "refused 19";
 pub const FILLERS: &str = "accepted with fillers";
 /// Of a table that is another one where the numbers restart; of this the original says nothing.
 pub const NUMBERED_ON: &str = "accepted, numbered on";
+/// Of a header in the newer edition that announces CAP, and has it.
+pub const CAPPED: &str = "accepted with CAP";
 pub const HEADER_RESTARTING: Wanted = Wanted {
     name: "parse_main_header_by_reading, restarting",
     answers: &[
@@ -73,9 +75,10 @@ pub const RECORDS_CARRIED_ON: Wanted = Wanted {
 pub const HEADER_NEWER: Wanted = Wanted {
     name: "parse_main_header_by_reading, newer",
     answers: &[
-        (ACCEPTED, 20_000),
-        (FILLERS, 1_000),
+        (ACCEPTED, 25_000),
+        (FILLERS, 8_000),
         (NUMBERED_ON, 0),
+        (CAPPED, 1_500),
         ("refused 1", 100_000),
         ("refused 2", 15_000),
         ("refused 3", 200_000),
@@ -104,11 +107,13 @@ pub const HEADER_RECORDS: Wanted = Wanted {
     ..HEADER_NEWER
 };
 
-/// By the number of fillers, and whether the table is another one than restarting.
-pub fn header(fillers: u64, numbered_on: bool) -> &'static str {
-    match (fillers, numbered_on) {
-        (_, true) => NUMBERED_ON,
-        (0, false) => ACCEPTED,
+/// By whether it is in the newer edition and has CAP, whether the table is another one than restarting,
+/// and the number of fillers.
+pub fn header(capped: bool, numbered_on: bool, fillers: u64) -> &'static str {
+    match (capped, numbered_on, fillers) {
+        (true, ..) => CAPPED,
+        (_, true, _) => NUMBERED_ON,
+        (.., 0) => ACCEPTED,
         _ => FILLERS,
     }
 }

@@ -46,7 +46,7 @@ Examples:
   winterhasp show --edition newer flight.jp2  refused where its capabilities (CAP) don't stand as announced
 
 Edition:
-  newer: capabilities (CAP) at 51, as announced
+  newer: capabilities (CAP) at byte 51 of the codestream, byte 51 of the file, as announced
 is a header of the standard's newer edition, by which high-throughput files say what they use; older: none is announced, and none
 there. One that announces CAP and doesn't have it, or the other way round, or at a wrong length, is of the older edition, and the
 line says what the newer refuses; with --edition newer the file is refused for it. JSON has all that as edition.
@@ -295,7 +295,9 @@ mod tests {
     }
 
     fn edition(command: &str, words: &[&str]) -> Option<winterhasp::Edition> {
-        let words = ["winterhasp", command, "flight"].iter().chain(words);
+        let words = ["winterhasp", command, "flight"]
+            .into_iter()
+            .chain(words.iter().copied());
         let arguments = Arguments::try_parse_from(words).ok()?;
         match arguments.command {
             Command::List(list) => Some(list.edition.into()),

@@ -6,6 +6,7 @@ use beside::model::header::{Reading, NO_SUCH_MARKER};
 use beside::model::{self, Refusal};
 use beside::random::Random;
 use beside::readings::{self, meant};
+use beside::sample::codestream::CAP;
 use beside::sample::damage::damage;
 use beside::sample::{
     boxes, caps, components, headers, markers, numbers, padded, parts, sizes, tiles,
@@ -99,7 +100,7 @@ fn past_the_last(random: &mut Random) -> Vec<u8> {
     }
 }
 
-/// What is accepted is told apart by whether it has fillers, and whether the numberings differ.
+/// What is accepted is told apart by CAP, by whether the numberings differ, and by fillers.
 fn header_answer(codestream: &[u8], reading: host::Reading) -> impl Fn(u32) -> &'static str {
     let fillers = model::header::fillers(codestream);
     let entries = |reading| {
@@ -107,8 +108,10 @@ fn header_answer(codestream: &[u8], reading: host::Reading) -> impl Fn(u32) -> &
         read.ok().map(|header| header.entries)
     };
     let numbered_on = entries(meant(reading)) != entries(Reading::ORIGINAL);
+    let capped = reading.edition == host::NEWER
+        && model::header::markers(codestream).any(|(_, marker)| marker == CAP);
     move |status| match status {
-        0 => wanted::header(fillers, numbered_on),
+        0 => wanted::header(capped, numbered_on, fillers),
         _ => usual(status),
     }
 }

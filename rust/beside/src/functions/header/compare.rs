@@ -11,11 +11,11 @@ use crate::compare::{self, Comparison};
 use crate::functions::records;
 use crate::judge::{Case, Leaves, Told};
 use crate::lent::{room, table, Lent};
-use crate::model::header::{have_to_agree, needed, parse_main_header, Header, Reading};
+use crate::model::header::{have_to_agree, markers, needed, parse_main_header, Header, Reading};
 use crate::model::{rows, Refusal};
 use crate::random::Random;
 use crate::readings::meant;
-use crate::sample::codestream::{Codestream, SOT, TLM};
+use crate::sample::codestream::{Codestream, CAP, SOT, TLM};
 use crate::sample::markers::holding;
 use crate::sample::short::each_behind;
 use crate::sample::zeros::zeros;
@@ -100,64 +100,67 @@ fn records_by(
     })
 }
 
+/// A reading, and what the original and the model say of it.
+struct Asked {
+    reading: host::Reading,
+    told: Told<Header>,
+    document: Result<Header, Refusal>,
+}
+
 fn check_with(run: &mut Run, codestream: &[u8], entries: usize, size: usize) {
     let table = table(&mut run.random, entries);
     let before = Lent::preset(&mut run.random, [table, size]);
-    let older = |numbering, random: &mut Random| host::Reading {
-        numbering,
-        edition: unsaid(random, host::OLDER),
-    };
-    let again = older(host::RESTARTING, &mut run.random);
-    let on = older(unsaid(&mut run.random, host::CARRIED_ON), &mut run.random);
-    let newer = host::Reading {
-        numbering: run.random.pick(&[host::CARRIED_ON, host::RESTARTING]),
-        edition: host::NEWER,
-    };
-    let document = |reading| {
-        parse_main_header(codestream, meant(reading)).and_then(|header| header.fit(table, size))
-    };
-    let [restarting, carried_on, in_newer] = [again, on, newer].map(document);
     let told = Told::by(|| (run.original)(codestream));
     let agreed = told.clone().only_if(have_to_agree(codestream));
-    let told_newer = match newer.numbering {
-        host::RESTARTING => told.clone(),
-        _ => agreed.clone(),
+    let asked = |numbering, edition| {
+        let reading = host::Reading { numbering, edition };
+        let document = parse_main_header(codestream, meant(reading));
+        Asked {
+            reading,
+            told: match numbering {
+                host::RESTARTING => told.clone(),
+                _ => agreed.clone(),
+            },
+            document: document.and_then(|header| header.fit(table, size)),
+        }
     };
+    let mut unsaid = |default| unsaid(&mut run.random, default);
+    let again = asked(host::RESTARTING, unsaid(host::OLDER));
+    let on = asked(unsaid(host::CARRIED_ON), unsaid(host::OLDER));
+    let either = run.random.pick(&[host::CARRIED_ON, host::RESTARTING]);
+    let newer = asked(either, host::NEWER);
 
-    let judge = |tally: &mut Tally, ours, told, document: &Result<Header, Refusal>| {
-        let numbered_on = match (&restarting, document) {
-            (Ok(restarting), Ok(header)) => restarting.entries != header.entries,
+    let has_cap = markers(codestream).any(|(_, marker)| marker == CAP);
+    let judge = |tally: &mut Tally, ours, asked: &Asked| {
+        let capped = has_cap && asked.reading.edition == host::NEWER;
+        let numbered_on = match (&again.document, &asked.document) {
+            (Ok(again), Ok(header)) => again.entries != header.entries,
             _ => false,
         };
-        let fillers = document.as_ref().map_or(0, |header| header.fillers);
+        let fillers = asked.document.as_ref().map_or(0, |header| header.fillers);
         let case = Case {
             ours,
             before: before.clone(),
-            told,
-            document: document.clone(),
+            told: asked.told.clone(),
+            document: asked.document.clone(),
         };
-        case.judge_under(wanted::header(fillers, numbered_on), tally, || {
-            let codestream = hex_of_front(codestream);
-            format!(
-                "{codestream}; table {table}, output {size}, read as {again:?}, {on:?}, {newer:?}"
-            )
+        case.judge_under(wanted::header(capped, numbered_on, fillers), tally, || {
+            let (codestream, reading) = (hex_of_front(codestream), asked.reading);
+            format!("{codestream}; table {table}, output {size}, {reading:?}")
         });
     };
     let rows = |reading| before.left_by(|lent, values| rows_by(reading, codestream, lent, values));
-    let of_records =
-        |reading| before.left_by(|lent, values| records_by(reading, codestream, lent, values));
-    judge(&mut run.tally, rows(Some(again)), told.clone(), &restarting);
-    let [records_again, default, rows_on, records_on, rows_newer, records_newer] =
-        &mut run.also[..]
-    else {
-        panic!("a tally for each");
+    let of_rows = |asked: &Asked| rows(Some(asked.reading));
+    let of_records = |asked: &Asked| {
+        before.left_by(|lent, values| records_by(asked.reading, codestream, lent, values))
     };
-    judge(records_again, of_records(again), told, &restarting);
-    judge(default, rows(None), agreed.clone(), &carried_on);
-    judge(rows_on, rows(Some(on)), agreed.clone(), &carried_on);
-    judge(records_on, of_records(on), agreed, &carried_on);
-    judge(rows_newer, rows(Some(newer)), told_newer.clone(), &in_newer);
-    judge(records_newer, of_records(newer), told_newer, &in_newer);
+    judge(&mut run.tally, of_rows(&again), &again);
+    judge(&mut run.also[0], of_records(&again), &again);
+    judge(&mut run.also[1], rows(None), &on);
+    judge(&mut run.also[2], of_rows(&on), &on);
+    judge(&mut run.also[3], of_records(&on), &on);
+    judge(&mut run.also[4], of_rows(&newer), &newer);
+    judge(&mut run.also[5], of_records(&newer), &newer);
 }
 
 /// 0, or a number that means nothing, and so the same.
