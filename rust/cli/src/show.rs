@@ -89,9 +89,9 @@ struct Header {
     length: u64,
     /// Without TLM.
     decode_length: u64,
+    edition: EditionReport,
     /// None: there is no table.
     tlm_entries: Option<u64>,
-    edition: EditionReport,
     /// Delimiters without FF, which no edition of the standard allows.
     fillers: u64,
     /// Where packet headers of all tiles start; none: there are none, and tiles can be cut out.
@@ -302,8 +302,8 @@ fn header_of(stages: &Stages) -> Option<Header> {
     Some(Header {
         length: header.first_sot.0,
         decode_length: header.decode_header.len() as u64,
-        tlm_entries: header.tlm.as_ref().map(|entries| entries.len() as u64),
         edition: EditionReport::of(codestream, header),
+        tlm_entries: header.tlm.as_ref().map(|entries| entries.len() as u64),
         fillers: header.fillers,
         ppm: ppm.map(|at| Offsets::of(at, codestream.start)),
     })
@@ -519,6 +519,17 @@ mod tests {
         let file = [&SAMPLE[..45], between, &SAMPLE[45..]].concat();
         let (report, _) = Report::of(Path::new("a.j2k"), &file, Reading::default(), None);
         [report.text(), report.json().expect("JSON")]
+    }
+
+    #[test]
+    fn cap_says_the_edition() {
+        let [text, json] = told(&[]);
+        assert!(text.contains("\nedition     older: no capabilities (CAP) are announced\n"));
+        assert!(json.contains("\"edition\":{\"name\":\"older\",\"cap\":null,"));
+        // which SIZ does not announce
+        let [text, json] = told(&[0xFF, 0x50, 0, 6, 0, 0, 0, 0]);
+        assert!(text.contains("\nedition     older; THE NEWER REFUSES IT: 33 45: "));
+        assert!(json.contains("\"newer_refuses\":{\"number\":33,"));
     }
 
     #[test]
