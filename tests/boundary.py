@@ -2,7 +2,7 @@
 """The boundary for C: tests/boundary.py
 
 Holds include/winterhasp.h and the declarations in rust/ to the functions that crates/host and crates/probe export, name by
-name and type by type, and both to what the archives in target/staticlib define; then compiles the C programs of tests/c with
+name and type by type, a struct that is passed to its fields, and both to what the archives in target/staticlib define; then compiles the C programs of tests/c with
 every warning an error, links the archive, and runs them on sample A. Status 1 if anything differs. CC names the C compiler.
 """
 
@@ -22,12 +22,19 @@ SAMPLE = ROOT / "crates/tileparts/stdin"
 LISTING = ROOT / "crates/tileparts/stdout"
 ARCHIVES = ROOT / "target/staticlib"
 RUST = {"host": ROOT / "rust/winterhasp/src/boundary.rs", "probe": ROOT / "rust/probe/src/boundary.rs"}
+EXPORTED = ROOT / "crates/header/src/reading.rt"
 STRICT = ["-std=c99", "-pedantic", "-Wall", "-Wextra", "-Werror"]
 
 EXPORT = re.compile(r'^pub extern "C" fn (\w+)\((.*?)\) -> (\w+)$', re.M | re.S)
 PROTOTYPE = re.compile(r"^(uint\d+_t) (\w+)\(([^;{]*)\);$", re.M)
 DECLARATION = re.compile(r"^ *pub fn (\w+)\(([^;{]*)\) -> (\w+);$", re.M)
 WORDS = {"u8": "uint8_t", "u16": "uint16_t", "u32": "uint32_t", "u64": "uint64_t", "usize": "size_t"}
+# A struct that is passed by value, as C and Rust name it.
+READING = "ReadingNumbers"
+IN_C, IN_RUST = {READING: "winterhasp_reading"}, {READING: "Reading"}
+EXPORTED_FIELDS = re.compile(rf"^#\[repr\(C\)\]\npub struct {READING} \{{\n(.*?)^\}}$", re.M | re.S)
+C_FIELDS = re.compile(rf"^typedef struct {IN_C[READING]} \{{\n(.*?)^\}} {IN_C[READING]};$", re.M | re.S)
+RUST_FIELDS = re.compile(rf"^#\[repr\(C\)\]\n(?:#\[.*\]\n)*pub struct {IN_RUST[READING]} \{{\n(.*?)^\}}$", re.M | re.S)
 # What C has another use for.
 RENAMED = {"signed": "signed_samples"}
 
@@ -59,14 +66,21 @@ def in_c(function):
         if pointer:
             kind = f"{'const ' if pointer[1] == 'const' else ''}{WORDS[pointer[2]]} *"
         else:
-            kind = f"{WORDS[kind]} "
+            kind = f"{IN_C.get(kind) or WORDS[kind]} "
         kinds.append(kind + RENAMED.get(name, name))
     return (WORDS[answer], kinds)
 
 
 def in_rust(function):
     answer, passed = function
-    return (answer, [f"{name}: {kind}" for kind, name in passed])
+    return (answer, [f"{name}: {IN_RUST.get(kind, kind)}" for kind, name in passed])
+
+
+def fields(pattern, text):
+    """Of the struct that is passed, in order, as C writes them: type and name."""
+    [body] = pattern.findall(text) or [""]
+    rust = [(WORDS[kind], name) for name, kind in re.findall(r"^    pub (\w+): (\w+),$", body, re.M)]
+    return rust or re.findall(r"^    (uint\d+_t) (\w+);", body, re.M)
 
 
 def declared(pattern, text, answer_first):
@@ -93,6 +107,9 @@ def texts(host, probe, header, rust):
     for crate, functions in (("host", host), ("probe", probe)):
         wanted = {name: in_rust(function) for name, function in functions.items()}
         said += differences(f"rust, {crate}", wanted, declared(DECLARATION, rust[crate], False))
+    wanted = {READING: fields(EXPORTED_FIELDS, EXPORTED.read_text()) or "no fields"}
+    said += differences("winterhasp.h", wanted, {READING: fields(C_FIELDS, header)})
+    said += differences("rust, host", wanted, {READING: fields(RUST_FIELDS, rust["host"])})
     return said
 
 
@@ -123,6 +140,9 @@ def main():
         for changed in (header.replace(f"{name}(", f"{name}(uint8_t more, "), header.replace(f" {name}(", " winterhasp_other(")):
             if not said and not texts(host, probe, changed, rust):
                 said.append(f"{name}: this check does not see its prototype change")
+    swapped = re.sub(r"(    uint32_t numbering;.*\n)(    uint32_t edition;.*\n)", r"\2\1", header)
+    if not said and not texts(host, probe, swapped, rust):
+        said.append("this check does not see the fields of a reading change places")
     for crate, functions in (("host", host), ("probe", probe)):
         archive = defined(ARCHIVES / f"lib{crate}.a")
         said += [f"lib{crate}.a and crates/{crate}: {name}" for name in sorted(archive ^ functions.keys())]
