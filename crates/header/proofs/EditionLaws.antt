@@ -1,6 +1,6 @@
 -- An edition's definitions, opened once: a law for each case, and along the walk what was met of CAP so far. The newer edition accepts nothing that is
 -- refused otherwise, and says the same of what it accepts.
-use Prim.Native.Nat.{ℕ, _+_, _*_, _≤_, _<_, _^_}
+use Prim.Native.Nat.{ℕ, _+_, _*_, _≤_, _<_}
 use native.Mathlib.Omega.{arith}
 use mathlib.Core.Path.{_≡_, refl, sym, ap, _∙_}
 use mathlib.Core.Bool.{Bool, true, false}
@@ -23,7 +23,6 @@ use Rattle.header.specs.Edition.{announced, capsIn, lcap, pcap, capFits,
 use Rattle.header.specs.Parse.{judgedBy, judgedAs}
 use Rattle.header.specs.declared.edition.Edition.{Edition}
 use Rattle.header.specs.declared.edition.Edition.the-variants.{Older, Newer}
-use Rattle.header.specs.declared.numbering.Numbering.{Numbering}
 use Rattle.header.specs.declared.reading.Reading.{Reading}
 use Rattle.header.specs.declared.walk.Passed.{Passed as Passing}
 use Rattle.header.specs.declared.walk.WalkStep.the-variants.{Passed}

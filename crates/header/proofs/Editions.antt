@@ -4,15 +4,13 @@ use Prim.Native.Nat.{ℕ, zero, suc, _+_, _≤_, _<_}
 use native.Mathlib.Omega.{arith}
 use mathlib.Core.Path.{_≡_, refl, sym, ap, _∙_}
 use mathlib.Core.Logic.{_⊎_, inl, inr, ⊎-elim}
-use mathlib.Core.Bool.{Bool, true, false, _&&_}
+use mathlib.Core.Bool.{Bool, true, false}
 use mathlib.Core.List.{List, [], _∷_}
 use lib.ListN.{length, getD}
 use lib.Dec.{leb, eqb}
-use borrow.Author.Tests.{eqb-true}
 use Rattle.numbers.specs.Bytes.{be}
 use Rattle.numbers.proofs.Choice.{by-test, by-bool}
 use Rattle.types.specs.Markers.{SOC, SIZ, TLM, SOT}
-use Rattle.types.specs.Refusals.{refusal}
 use Rattle.types.specs.declared.Refusal.{Refusal}
 use Rattle.chain.specs.Chain.{Move, end, on, Visit, Run, stay, step}
 use Rattle.chain.proofs.ChainLaws.{chain-run, chain-stops, run-rises}
@@ -21,7 +19,7 @@ use Rattle.header.specs.Tlm.{ltlm, stlm, indexSize, tlmAt}
 use Rattle.header.specs.Walk.{cutAt, tlmStep, passedAt, walkStepOf, walkStepAt, WalkEnd, firstSot, refused, walkMove, walkAt, walkFrom}
 use Rattle.header.specs.Strip.{isTlm}
 use Rattle.header.specs.Numbering.{nextNumber, endedBy}
-use Rattle.header.specs.Edition.{announced, capsIn, capFits, capped, inEdition}
+use Rattle.header.specs.Edition.{announced, capFits, capped}
 use Rattle.header.specs.Reading.{olderBy, newerBy}
 use Rattle.header.specs.Parse.{readAs, stands, frontOf, judged, behindFrontBy, judgedBy, judgedAs, withRoom, parsed, tableAfter, outAfter}
 use Rattle.header.specs.declared.numbering.Numbering.{Numbering}
@@ -35,7 +33,7 @@ use Rattle.header.specs.declared.parse.Front.the-variants as front
 use Rattle.header.specs.declared.parse.MainHeaderInfo.{MainHeaderInfo}
 use Rattle.header.specs.declared.parse.MainHeader.{MainHeader}
 use Rattle.header.specs.declared.parse.MainHeader.the-variants.{Header, Refused}
-use Rattle.header.proofs.NumberingLaws.{refused-header, by-accepted}
+use Rattle.header.proofs.NumberingLaws.{refused-header}
 use Rattle.header.proofs.EditionLaws.{capsFrom, as-accepted, as-refused, as-older, as-newer}
 use Rattle.header.proofs.ParseLaws.{judged-read, judged-refused, sound-front, stands-marker}
 use Rattle.header.proofs.WalkLaws.{not-true-false, walk-rises}

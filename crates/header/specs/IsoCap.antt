@@ -1,6 +1,6 @@
 -- The extended capabilities of ISO/IEC 15444-1:2019, A.5.2: the CAP segment, with a bit of Pcap for each part of the standard and a word Ccap for each
 -- part that is used; and a main header that has the segment where SIZ announces it. `proofs/IsoCap.antt` says where our newer edition agrees.
-use Prim.Native.Nat.{ℕ, _+_, _^_, _≤_, _<_}
+use Prim.Native.Nat.{ℕ, _+_, _^_, _<_}
 use mathlib.Core.Path.{_≡_}
 use mathlib.Core.Bool.{cond}
 use mathlib.Core.List.{List, [], _∷_}

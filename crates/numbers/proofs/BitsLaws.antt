@@ -1,5 +1,5 @@
 -- Laws of a number's bits, each over their number: the sum of the bits is the language's own count of ones.
-use Prim.Native.Nat.{ℕ, zero, suc, _+_, _*_, _/_, _%_, _^_, _<_, _≤_}
+use Prim.Native.Nat.{ℕ, zero, suc, _+_, _*_, _%_, _^_, _<_, _≤_}
 use native.Mathlib.Nat.{pow-succ', one-le-pow, mod-lt, mod-one, mod-eq-of-lt, add-mod-left, div-eq-of-lt, add-div-left}
 use native.Mathlib.Omega.{arith}
 use mathlib.Core.Path.{_≡_, refl, sym, ap, ap₂, _∙_}

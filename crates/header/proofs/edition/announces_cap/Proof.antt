@@ -1,5 +1,4 @@
 -- The test is the definition's: bit 14 by a division and a remainder.
-use mathlib.Core.Path.{ap}
 use borrow.Author.Needs.{needs}
 use Rattle.numbers.specs.Bits.{bit}
 use Rattle.header.specs.Edition.{announced}

@@ -8,7 +8,6 @@ use lib.ListN.{length}
 use borrow.Author.Tests.{not-true, not-false}
 use borrow.Author.Needs.{needs}
 use Rattle.header.specs.Walk.{walkStepAt, walkFrom}
-use Rattle.header.specs.Edition.{announced}
 use Rattle.header.specs.declared.walk.WalkStep.the-variants.{Passed}
 use Rattle.header.proofs.WalkLaws.{passed-is, walk-none}
 use Rattle.header.proofs.EditionLaws.{Capping, capping-start, capping-on, capping-first, again-33, unwanted-33, missing-33, none-accepted, one-accepted, one-34}
