@@ -13,11 +13,11 @@ const ALL_OTHERS: u16 = 0xBFFF;
 /// SOC, and SIZ with nothing but Rsiz.
 const FRONT: u64 = 8;
 
-/// What is written of CAP: Lcap, Pcap, and so many bytes behind it.
-type Cap = (u16, u32, usize);
+/// Lcap, which is what is written, and Pcap.
+pub type Cap = (u16, u32);
 
 /// CAP of one part, the 15th, as high-throughput files have it: 10 bytes.
-const ONE: Cap = (8, 1 << 17, 2);
+pub const ONE: Cap = (8, 1 << 17);
 
 /// Each is accepted by the older.
 pub fn by_hand() -> Vec<(Vec<u8>, Refused)> {
@@ -25,58 +25,52 @@ pub fn by_hand() -> Vec<(Vec<u8>, Refused)> {
     let mut cases = vec![
         // bytes 6 and 7 are the SOT
         (
-            bytes(&[0xFF, 0x4F, 0xFF, 0x51, 0, 2, 0xFF, 0x90]),
+            vec![0xFF, 0x4F, 0xFF, 0x51, 0, 2, 0xFF, 0x90],
             Some((33, 2)),
         ),
-        (header(0, &[]), None),
-        (header(ALL_OTHERS, &[]), None),
-        (header(ANNOUNCED, &[]), Some((33, 2))),
-        (header(ALL, &[]), Some((33, 2))),
-        (header(0, &[ONE]), Some((33, FRONT))),
-        (header(ALL_OTHERS, &[ONE]), Some((33, FRONT))),
+        (with(0, &[]), None),
+        (with(ALL_OTHERS, &[]), None),
+        (with(ANNOUNCED, &[]), Some((33, 2))),
+        (with(ALL, &[]), Some((33, 2))),
+        (with(0, &[ONE]), Some((33, FRONT))),
+        (with(ALL_OTHERS, &[ONE]), Some((33, FRONT))),
         // 14 by another order of bytes or bits
-        (header(0x0040, &[]), None),
-        (header(0x8000, &[ONE]), Some((33, FRONT))),
-        (header(0x2000, &[ONE]), Some((33, FRONT))),
-        (header(ANNOUNCED, &[ONE]), None),
-        (header(ALL, &[ONE]), None),
-        (header(ANNOUNCED, &[ONE, ONE]), Some((33, second))),
-        (header(ANNOUNCED, &[ONE, ONE, ONE]), Some((33, second))),
-        (header(0, &[ONE, ONE]), Some((33, FRONT))),
+        (with(0x0040, &[]), None),
+        (with(0x8000, &[ONE]), Some((33, FRONT))),
+        (with(0x2000, &[ONE]), Some((33, FRONT))),
+        (with(ANNOUNCED, &[ONE]), None),
+        (with(ALL, &[ONE]), None),
+        (with(ANNOUNCED, &[ONE, ONE]), Some((33, second))),
+        (with(ANNOUNCED, &[ONE, ONE, ONE]), Some((33, second))),
+        (with(0, &[ONE, ONE]), Some((33, FRONT))),
         // 33 before 34, whichever is the wrong one
-        (header(ANNOUNCED, &[(8, 0, 2), ONE]), Some((33, second))),
-        (header(ANNOUNCED, &[ONE, (8, 0, 2)]), Some((33, second))),
-        (header(0, &[(8, 0, 2)]), Some((33, FRONT))),
+        (with(ANNOUNCED, &[(8, 0), ONE]), Some((33, second))),
+        (with(ANNOUNCED, &[ONE, (8, 0)]), Some((33, second))),
+        (with(0, &[(8, 0)]), Some((33, FRONT))),
     ];
-    let one = |cap: Cap| (header(ANNOUNCED, &[cap]), Some((34, FRONT)));
-    let sound = |cap: Cap| (header(ANNOUNCED, &[cap]), None);
+    let wrong = |cap: Cap| (with(ANNOUNCED, &[cap]), Some((34, FRONT)));
+    let sound = |cap: Cap| (with(ANNOUNCED, &[cap]), None);
     cases.extend([
-        sound((6, 0, 0)),
-        one((6, 1, 0)),
-        one((7, 0, 1)),
-        one((7, 1, 1)),
-        one((8, 0, 2)),
-        sound((8, 1, 2)),
-        sound((8, 1 << 31, 2)),
-        one((8, 3, 2)),
-        sound((10, 3, 4)),
-        one((10, 1, 4)),
-        one((9, 3, 3)),
-        sound((70, u32::MAX, 64)),
-        one((68, u32::MAX, 62)),
-        one((72, u32::MAX, 66)),
-        sound((68, u32::MAX - 1, 62)),
-        one((38, u32::MAX, 32)),
-        one((65_535, u32::MAX, 65_529)),
+        sound((6, 0)),
+        wrong((6, 1)),
+        wrong((7, 0)),
+        wrong((7, 1)),
+        wrong((8, 0)),
+        sound((8, 1)),
+        sound((8, 1 << 31)),
+        wrong((8, 3)),
+        sound((10, 3)),
+        wrong((10, 1)),
+        wrong((9, 3)),
+        sound((70, u32::MAX)),
+        wrong((68, u32::MAX)),
+        wrong((72, u32::MAX)),
+        sound((68, u32::MAX - 1)),
+        wrong((38, u32::MAX)),
+        wrong((65_535, u32::MAX)),
     ]);
     // of Lcap below 6 the bits are what stands behind
-    for (lcap, behind) in [(2, 0), (3, 1), (4, 2), (5, 3)] {
-        let mut built = opened(ANNOUNCED);
-        built
-            .segment_saying(CAP, lcap, &vec![0; behind])
-            .marker(SOT);
-        cases.push((built.bytes, Some((34, FRONT))));
-    }
+    cases.extend((2..6).map(|lcap| wrong((lcap, 0))));
     cases.extend(elsewhere());
     cases
 }
@@ -147,7 +141,7 @@ fn random_cap(random: &mut Random, built: &mut Codestream) {
         2 => 2 + random.below(6) as u16,
         _ => right,
     };
-    cap(built, (lcap, pcap, usize::from(lcap).saturating_sub(6)));
+    cap(built, (lcap, pcap));
 }
 
 /// `count` segments, CAP, as many again, and SOT.
@@ -164,7 +158,8 @@ pub fn among(count: usize) -> Vec<u8> {
     built.bytes
 }
 
-fn header(rsiz: u16, caps: &[Cap]) -> Vec<u8> {
+/// SOC, SIZ with this Rsiz, these CAP, and SOT.
+pub fn with(rsiz: u16, caps: &[Cap]) -> Vec<u8> {
     let mut built = opened(rsiz);
     for &written in caps {
         cap(&mut built, written);
@@ -173,18 +168,19 @@ fn header(rsiz: u16, caps: &[Cap]) -> Vec<u8> {
     built.bytes
 }
 
+/// One CAP of this Lcap, announced.
+pub fn one(lcap: u16, pcap: u32) -> Vec<u8> {
+    with(ANNOUNCED, &[(lcap, pcap)])
+}
+
 fn opened(rsiz: u16) -> Codestream {
     let mut built = Codestream::default();
     built.soc().segment(SIZ, &rsiz.to_be_bytes());
     built
 }
 
-fn cap(built: &mut Codestream, (lcap, pcap, words): Cap) {
-    let body = [&pcap.to_be_bytes()[..], &vec![0; words]].concat();
-    let body = &body[..usize::from(lcap.clamp(2, 6)) - 2 + words];
-    built.segment_saying(CAP, lcap, body);
-}
-
-fn bytes(bytes: &[u8]) -> Vec<u8> {
-    bytes.to_vec()
+fn cap(built: &mut Codestream, (lcap, pcap): Cap) {
+    let mut body = pcap.to_be_bytes().to_vec();
+    body.resize(usize::from(lcap.max(2)) - 2, 0);
+    built.segment_saying(CAP, lcap, &body);
 }

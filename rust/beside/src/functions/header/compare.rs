@@ -52,6 +52,8 @@ fn fixed(run: &mut Run) {
     many_fillers(run);
     numbers_by_hand(run);
     caps_by_hand(run);
+    every_rsiz(run);
+    every_lcap(run);
 }
 
 impl Leaves<4, 2> for Header {
@@ -277,6 +279,32 @@ fn caps_by_hand(run: &mut Run) {
                 changed[place] = byte;
                 check(run, &changed);
             }
+        }
+    }
+}
+
+/// With no CAP, one and two.
+fn every_rsiz(run: &mut Run) {
+    for rsiz in 0..=u16::MAX {
+        for count in 0..=2 {
+            check(run, &caps::with(rsiz, &vec![caps::ONE; count]));
+        }
+    }
+}
+
+/// Each number of ones, from either end of Pcap, with each Lcap up to one word too many; and each bit alone.
+fn every_lcap(run: &mut Run) {
+    let low = |ones| (1_u64 << ones) as u32 - 1;
+    for ones in 0..=32 {
+        for pcap in [low(ones), !low(32 - ones)] {
+            for lcap in 0..=72 {
+                check(run, &caps::one(lcap, pcap));
+            }
+        }
+    }
+    for bit in 0..32 {
+        for lcap in 6..=10 {
+            check(run, &caps::one(lcap, 1 << bit));
         }
     }
 }
