@@ -23,6 +23,7 @@ use Rattle.header.specs.Edition.{announced, capFits, capped}
 use Rattle.header.specs.Reading.{olderBy, newerBy}
 use Rattle.header.specs.Parse.{readAs, stands, frontOf, judged, behindFrontBy, judgedBy, judgedAs, withRoom, parsed, tableAfter, outAfter}
 use Rattle.header.specs.declared.numbering.Numbering.{Numbering}
+use Rattle.header.specs.declared.reading.Reading.{Reading}
 use Rattle.header.specs.declared.step.Marker.{Marker}
 use Rattle.header.specs.declared.step.HeaderStep.{HeaderStep}
 use Rattle.header.specs.declared.step.HeaderStep.the-variants.{Sot, Delimiter, Segment, CutShort}
@@ -33,7 +34,7 @@ use Rattle.header.specs.declared.parse.Front.the-variants as front
 use Rattle.header.specs.declared.parse.MainHeaderInfo.{MainHeaderInfo}
 use Rattle.header.specs.declared.parse.MainHeader.{MainHeader}
 use Rattle.header.specs.declared.parse.MainHeader.the-variants.{Header, Refused}
-use Rattle.header.proofs.NumberingLaws.{refused-header}
+use Rattle.header.proofs.NumberingLaws.{refused-header, by-accepted}
 use Rattle.header.proofs.EditionLaws.{capsFrom, as-accepted, as-refused, as-older, as-newer}
 use Rattle.header.proofs.ParseLaws.{judged-read, judged-refused, sound-front, stands-marker}
 use Rattle.header.proofs.WalkLaws.{not-true-false, walk-rises}
@@ -90,6 +91,10 @@ module _ (s : List ℕ) (bytes : (i : ℕ) → getD s i 0 < 256) where
   eight-inside h e =
       from-siz (siz-there s h e) (chain-run firstSot (walkAt s) (length s) (walk-rises s) 2)
       (chain-stops firstSot (walkAt s) (length s) (walk-rises s) 2 ∙ ap end (judged-read s h e .ends))
+
+  -- so they do however it is read
+  pub eight-read : (how : Reading) (h : MainHeaderInfo) → judgedAs how s ≡ Header h → 8 ≤ length s
+  eight-read how h e = eight-inside h (by-accepted (how .numbering) s h (as-accepted how s h e) .0)
 
 -- ---- the numbers of refusals
 

@@ -1,4 +1,4 @@
--- How a main header is read: what is meant where nothing is said, and a reading as C gives it, by a number for each choice.
+-- How a main header is read: a numbering and an edition, as one value.
 use Rattle.header.specs.Numbering.{numberingOf}
 use Rattle.header.specs.Edition.{editionOf}
 use Rattle.header.specs.declared.numbering.Numbering.{Numbering}
@@ -14,8 +14,10 @@ olderBy n = record { numbering = n; edition = Older }
 abbrev pub newerBy : Numbering → Reading
 newerBy n = record { numbering = n; edition = Newer }
 
+-- where nothing is said
 abbrev pub byDefault : Reading
 byDefault = olderBy CarriedOn
 
+-- as C gives it: each choice by its own number
 unfoldable pub readingOf : ReadingNumbers → Reading
 readingOf numbers = record { numbering = numberingOf (numbers .numbering); edition = editionOf (numbers .edition) }

@@ -222,31 +222,29 @@ fn too_little_room() {
     }
 }
 
+/// Read as by default.
+fn with_records(
+    codestream: &[u8],
+    table: &mut [TilePartEntry],
+    out: &mut [u8],
+    values: &mut [u64; 4],
+) -> u32 {
+    probe::header_records(codestream, readings::DEFAULT, table, out, values)
+}
+
 #[test]
 fn sample_a_s_entries_as_records() {
     let sample = sample_a();
     let record = TilePartEntry::new;
     let untouched = record(9, 9, 9);
     let (mut table, mut out, mut values) = ([untouched; 3], [0xEE; 45], [7; 4]);
-    let status = probe::header_records(
-        &sample,
-        readings::DEFAULT,
-        &mut table,
-        &mut out,
-        &mut values,
-    );
+    let status = with_records(&sample, &mut table, &mut out, &mut values);
     assert_eq!((status, values), (0, [57, 45, 2, 0]));
     assert_eq!(table, [record(0, 57, 14), record(5, 71, 16), untouched]);
     assert_eq!(out, sample[..45]);
 
     let (mut table, mut out, mut values) = ([untouched; 1], [0xEE; 45], [7; 4]);
-    let status = probe::header_records(
-        &sample,
-        readings::DEFAULT,
-        &mut table,
-        &mut out,
-        &mut values,
-    );
+    let status = with_records(&sample, &mut table, &mut out, &mut values);
     assert_eq!((status, values), (18, [2, 7, 7, 7]));
     assert_eq!((table, out), ([untouched; 1], [0xEE; 45]));
 }
@@ -259,26 +257,14 @@ fn fillers_are_counted_as_by_hand() {
         let status = host::parse_main_header(&codestream, &mut rows, &mut out, &mut values);
         assert_eq!((status, values[3]), (0, count), "{codestream:02X?}");
         let (mut records, mut of_records) = ([TilePartEntry::default()], [7; 4]);
-        let status = probe::header_records(
-            &codestream,
-            readings::DEFAULT,
-            &mut records,
-            &mut out,
-            &mut of_records,
-        );
+        let status = with_records(&codestream, &mut records, &mut out, &mut of_records);
         assert_eq!((status, of_records), (0, values), "{codestream:02X?}");
 
         let mut values = [7; 4];
         let status = host::parse_main_header(&codestream, &mut rows, &mut out[..5], &mut values);
         assert_eq!((status, values[3]), (17, 7), "{codestream:02X?}");
         let mut values = [7; 4];
-        let status = probe::header_records(
-            &codestream,
-            readings::DEFAULT,
-            &mut records,
-            &mut out[..5],
-            &mut values,
-        );
+        let status = with_records(&codestream, &mut records, &mut out[..5], &mut values);
         assert_eq!((status, values[3]), (17, 7), "{codestream:02X?}");
     }
 }
