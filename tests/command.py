@@ -905,6 +905,11 @@ class Runs:
         for words in ["list"], ["show"]:
             saw = [self.run(*words, "cap-cut.j2k", *more)[2] for more in ([], ["--edition", NEWER])]
             self.hold(f"{words} cap-cut.j2k", saw, [about("cap-cut.j2k", sentence(6, 45))] * 2)
+        # by the README's own line for a folder
+        flights = {"bare.j2k": SAMPLE, "missing.j2k": announcing(SAMPLE), "sound.jp2": jp2(announcing(SAMPLE[:45] + one + SAMPLE[45:]))}
+        line, (_, said) = self.line_of_readme("--edition newer flights/", flights)
+        refused = about("flights/missing.j2k", sentence(33, 2))
+        self.hold(line, (said.startswith(refused), "sound" in said, "bare" in said), (True, False, False))
         self.editions_of_openjph()
 
     def in_editions(self, file, content, start, told):
@@ -1019,21 +1024,26 @@ class Runs:
 
     def fillers_of_a_folder(self):
         """By the README's own line for a shell: the files with filler, and no word of the others but of one that is refused."""
-        [line] = [line for line in (ROOT / "README.md").read_text().splitlines() if "^filler" in line]
-        folder = self.folder / "asked/flights"
-        folder.mkdir(parents=True)
-        for file, content in {
+        flights = {
             "cut.j2k": SAMPLE[:45] + FILLER,
             "none.j2k": SAMPLE,
             "one.j2k": SAMPLE[:45] + FILLER[:2] + SAMPLE[45:],
             "reserved.j2k": SAMPLE[:45] + b"\xff\x30" + SAMPLE[45:],
             "three.jp2": jp2(SAMPLE[:45] + FILLER + SAMPLE[57:]),
-        }.items():
+        }
+        line, saw = self.line_of_readme("^filler", flights)
+        self.hold(line, saw, ("flights/one.j2k\nflights/three.jp2\n", about("flights/cut.j2k", sentence(6, 51))))
+
+    def line_of_readme(self, words, flights):
+        """The README's own line for a shell with these words, and what it says of a folder with these files."""
+        [line] = [line for line in (ROOT / "README.md").read_text().splitlines() if words in line and line.startswith("    ")]
+        folder = Path(tempfile.mkdtemp(dir=self.folder)) / "flights"
+        folder.mkdir()
+        for file, content in flights.items():
             (folder / file).write_bytes(content)
         named = os.environ | {"PATH": f"{self.program.parent}:{os.environ['PATH']}"}
         ended = subprocess.run(["sh", "-c", line], cwd=folder.parent, env=named, capture_output=True)
-        saw = ended.stdout.decode(), ended.stderr.decode()
-        self.hold(line, saw, ("flights/one.j2k\nflights/three.jp2\n", about("flights/cut.j2k", sentence(6, 51))))
+        return line, (ended.stdout.decode(), ended.stderr.decode())
 
     def decoded(self, file):
         """Status, picture, and whether OpenJPEG missed a marker."""
