@@ -78,7 +78,7 @@ pub const HEADER_NEWER: Wanted = Wanted {
         (ACCEPTED, 25_000),
         (FILLERS, 8_000),
         (NUMBERED_ON, 0),
-        (CAPPED, 1_500),
+        (CAPPED, 15_000),
         ("refused 1", 100_000),
         ("refused 2", 15_000),
         ("refused 3", 200_000),
