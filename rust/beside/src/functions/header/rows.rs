@@ -1,18 +1,19 @@
 //! The benchmark: headers of one and many TLM segments, the entries into rows of bytes or into
 //! records, and of few and many fillers, which the original passes too and does not count. Entries are
 //! numbered as the original does, from 0 in each segment, or on over the segments. In the newer edition
-//! ours looks for CAP too, which the original passes over. The table and the output that ours is lent
-//! are not cleared between calls; the original allocates its own.
+//! ours looks for CAP too, which the original passes over: beside ours stands the original with a walk
+//! behind it that looks for CAP, in plain Rust. The table and the output that ours is lent are not
+//! cleared between calls; the original allocates its own.
 
 use std::cell::RefCell;
 
 use probe::{host, TilePartEntry};
 
 use crate::bench::{row, Benchmark, ORIGINAL};
-use crate::model::header::{parse_main_header, Header, Reading};
+use crate::model::header::{is_delimiter, parse_main_header, Header, Reading};
 use crate::model::ROW;
 use crate::readings;
-use crate::sample::codestream::{Codestream, SOT};
+use crate::sample::codestream::{Codestream, CAP, SOT};
 use crate::sample::{caps, fillers, sample_a, tlms};
 use crate::wanted;
 
@@ -91,6 +92,39 @@ fn theirs(input: &Input) -> Option<[u64; 3]> {
     ])
 }
 
+/// The original, and behind it what the newer edition asks of CAP.
+fn theirs_newer(input: &Input) -> Option<[u64; 3]> {
+    let told = theirs(input)?;
+    cap_stands(&input.codestream, told[0] as usize)?.then_some(told)
+}
+
+/// Of a header that ends there.
+fn cap_stands(codestream: &[u8], end: usize) -> Option<bool> {
+    let bytes = |at: usize, size| codestream.get(at..)?.get(..size);
+    let number = |at| Some(u16::from_be_bytes(bytes(at, 2)?.try_into().ok()?));
+    let announced = number(6)? & 0x4000 != 0;
+    let (mut at, mut cap) = (2, None);
+    while at < end {
+        let marker = number(at)?;
+        if marker == CAP && (!announced || cap.replace(at).is_some()) {
+            return Some(false);
+        }
+        at += match is_delimiter(marker) {
+            true => 2,
+            false => 2 + usize::from(number(at + 2)?),
+        };
+    }
+    let Some(cap) = cap else {
+        return Some(!announced);
+    };
+    let length = u32::from(number(cap + 2)?);
+    if length < 6 {
+        return Some(false);
+    }
+    let bits = u32::from_be_bytes(bytes(cap + 4, 4)?.try_into().ok()?);
+    Some(length == 6 + 2 * bits.count_ones())
+}
+
 fn rows() {
     let measure = |name, codestream| row(name, &Input::of(codestream), ours, theirs);
     measure("sample A", sample_a());
@@ -128,7 +162,7 @@ fn rows() {
             &format!("CAP among {name} segments, newer"),
             &input,
             newer,
-            theirs,
+            theirs_newer,
         );
     }
 }
