@@ -258,7 +258,7 @@ static void numberings(void)
     }
 }
 
-/* SIZ with nothing but Rsiz, and CAP of one word: as it is, with the word's bit twice, without bit 14 of Rsiz, and with an edition that
+/* SIZ with nothing but Rsiz, and CAP of one word: as it is, with a bit more than it has words, without bit 14 of Rsiz, and with an edition that
    is not there. */
 static void editions(void)
 {

@@ -30,13 +30,12 @@ use Rattle.header.specs.declared.step.HeaderStep.the-variants.{Sot, Deli
 use Rattle.header.specs.declared.tlm.Tlm.{Tlm}
 use Rattle.header.specs.declared.walk.WalkStep.{WalkStep}
 use Rattle.header.specs.declared.parse.Front.{Front}
-use Rattle.header.specs.declared.parse.Front.the-variants as front
 use Rattle.header.specs.declared.parse.MainHeaderInfo.{MainHeaderInfo}
 use Rattle.header.specs.declared.parse.MainHeader.{MainHeader}
 use Rattle.header.specs.declared.parse.MainHeader.the-variants.{Header, Refused}
 use Rattle.header.proofs.NumberingLaws.{refused-header, by-accepted}
 use Rattle.header.proofs.EditionLaws.{capsFrom, as-accepted, as-refused, as-older, as-newer}
-use Rattle.header.proofs.ParseLaws.{judged-read, judged-refused, sound-front, stands-marker}
+use Rattle.header.proofs.ParseLaws.{judged-read, opens-with}
 use Rattle.header.proofs.WalkLaws.{not-true-false, walk-rises}
 use Rattle.header.proofs.WalkItems.{Item, delimiter, segment, item, ends-there}
 
@@ -45,14 +44,6 @@ use Rattle.header.proofs.WalkItems.{Item, delimiter, segment, item, end
 siz-no-delimiter : delimits SIZ ≡ false
 unfolding delimits
 siz-no-delimiter = refl
-
--- a header that is accepted has SIZ at 2
-siz-there : (s : List ℕ) (h : MainHeaderInfo) → judged s ≡ Header h → be 2 s 2 ≡ SIZ
-siz-there s h e = stands-marker s 2 SIZ (sound-front s (by (frontOf s) refl) .2)
-  where
-    by : (f : Front) → frontOf s ≡ f → frontOf s ≡ front.Sound
-    by front.Sound k = k
-    by (front.Refused r) k = absurd (refused-header (sym (judged-refused s r k) ∙ e))
 
 module _ (s : List ℕ) (bytes : (i : ℕ) → getD s i 0 < 256) where
   -- Lsiz 1: no SOT stands at 5, whose first byte is Lsiz's second
@@ -89,7 +80,7 @@ module _ (s : List ℕ) (bytes : (i : ℕ) → getD s i 0 < 256) where
   pub eight-inside : (h : MainHeaderInfo) → judged s ≡ Header h → 8 ≤ length s
   unfolding walkFrom
   eight-inside h e =
-      from-siz (siz-there s h e) (chain-run firstSot (walkAt s) (length s) (walk-rises s) 2)
+      from-siz (opens-with s h e .1) (chain-run firstSot (walkAt s) (length s) (walk-rises s) 2)
       (chain-stops firstSot (walkAt s) (length s) (walk-rises s) 2 ∙ ap end (judged-read s h e .ends))
 
   -- so they do however it is read

@@ -28,7 +28,7 @@ use Rattle.header.specs.declared.parse.MainHeader.{MainHeader}
 use Rattle.header.specs.declared.parse.MainHeader.the-variants.{Header, Refused}
 use Rattle.numbers.proofs.Choice.{by-test}
 use Rattle.header.proofs.TlmLaws.{length-placed}
-use Rattle.header.proofs.NumberingLaws.{byFrom, endFrom, length-by, by-accepted}
+use Rattle.header.proofs.NumberingLaws.{refused-header, byFrom, endFrom, length-by, by-accepted}
 use Rattle.header.proofs.WalkLaws.{not-true-false}
 use Rattle.header.proofs.EditionLaws.{as-accepted}
 use Rattle.header.proofs.StripLengths.{entries-bound, stopped-inside, whole-kept, none-met}
@@ -116,9 +116,9 @@ unfolding readAs
 says-walk s short two firstSot e = record { short = short; two = two; first = refl; header = refl; entries = refl; ends = e }
 says-walk s short two (refused r) e = tt
 
--- a front that is sound has SIZ's marker, in few enough bytes to be walked
+-- a front that is sound has both markers, in few enough bytes to be walked
 abbrev Fronts : List ℕ → Front → Type 0
-Fronts s front.Sound = (4 ≤ length s) × (length s ≤ 0xffff_ffff) × (stands s 2 SIZ ≡ true)
+Fronts s front.Sound = (4 ≤ length s) × (length s ≤ 0xffff_ffff) × (be 2 s 0 ≡ SOC) × (be 2 s 2 ≡ SIZ)
 Fronts s (front.Refused r) = Unit {0}
 
 fronts : (s : List ℕ) → Fronts s (frontOf s)
@@ -126,12 +126,20 @@ unfolding frontOf
 fronts s =
     by-test (Fronts s) (leb (length s) 0xffff_ffff)
     (λ short. by-test (Fronts s) (stands s 0 SOC)
-    (λ soc. by-test (Fronts s) (stands s 2 SIZ) (λ siz. (stands-inside s 2 SIZ siz, leb-true (length s) 0xffff_ffff short, siz)) (λ _. tt))
+    (λ soc. by-test (Fronts s) (stands s 2 SIZ) (λ siz. (stands-inside s 2 SIZ siz, leb-true (length s) 0xffff_ffff short, stands-marker s 0 SOC soc, stands-marker s 2 SIZ siz)) (λ _. tt))
     (λ _. tt))
     (λ _. tt)
 
-pub sound-front : (s : List ℕ) → frontOf s ≡ front.Sound → (4 ≤ length s) × (length s ≤ 0xffff_ffff) × (stands s 2 SIZ ≡ true)
+pub sound-front : (s : List ℕ) → frontOf s ≡ front.Sound → (4 ≤ length s) × (length s ≤ 0xffff_ffff) × (be 2 s 0 ≡ SOC) × (be 2 s 2 ≡ SIZ)
 sound-front s e = rw e at (fronts s)
+
+-- so has a header that is accepted
+pub opens-with : (s : List ℕ) (h : MainHeaderInfo) → judged s ≡ Header h → (be 2 s 0 ≡ SOC) × (be 2 s 2 ≡ SIZ)
+opens-with s h e = let f = sound-front s (by (frontOf s) refl) in (f .2, f .3)
+  where
+    by : (f : Front) → frontOf s ≡ f → frontOf s ≡ front.Sound
+    by front.Sound k = k
+    by (front.Refused r) k = absurd (refused-header (sym (judged-refused s r k) ∙ e))
 
 says-behind : (s : List ℕ) (f : Front) → Fronts s f → Says s (behindFront s f)
 unfolding behindFront

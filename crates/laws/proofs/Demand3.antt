@@ -3,12 +3,9 @@
 use Prim.Native.Nat.{ℕ, _+_, _≤_}
 use native.Mathlib.Omega.{arith}
 use mathlib.Core.Path.{_≡_, refl, sym, ap, ap₂, _∙_}
-use mathlib.Core.Bool.{Bool, true, false, _&&_}
 use mathlib.Core.List.{List, [], _++_, map}
 use lib.ListN.{length, drop, length-append}
 use lib.Seq.{take-at}
-use lib.Dec.{leb, eqb}
-use borrow.Author.Tests.{le-leb, eq-eqb, eqb-true}
 use Rattle.numbers.specs.Bytes.{be, bytesOf}
 use Rattle.numbers.proofs.BytesLaws.{be-front}
 use Rattle.types.specs.Markers.{SOC, SIZ, SOT, EOC}
@@ -17,15 +14,15 @@ use Rattle.types.specs.declared.Refusal.{Refusal}
 use Rattle.types.specs.declared.TilePartEntry.{TilePartEntry}
 use Rattle.header.specs.Walk.{walkFrom}
 use Rattle.header.specs.Strip.{fillers, decodeHeader, tlmEntries}
-use Rattle.header.specs.Parse.{readAs, stands, judged, judgedBy}
+use Rattle.header.specs.Parse.{readAs, judged, judgedBy}
 use Rattle.header.specs.declared.numbering.Numbering.{Numbering}
 use Rattle.header.specs.declared.numbering.Numbering.the-variants.{CarriedOn, Restarting}
-use Rattle.header.proofs.NumberingLaws.{refused-header, judged-restart}
+use Rattle.header.proofs.NumberingLaws.{judged-restart}
 use Rattle.header.proofs.Numberings.{carried-accepts}
 use Rattle.header.proofs.EditionLaws.{capsFrom}
 use Rattle.header.specs.declared.parse.MainHeaderInfo.{MainHeaderInfo}
 use Rattle.header.specs.declared.parse.MainHeader.the-variants.{Header}
-use Rattle.header.proofs.ParseLaws.{judged-read, judged-no-soc, judged-no-siz, judged-walk}
+use Rattle.header.proofs.ParseLaws.{stands-there, judged-read, opens-with, judged-walk}
 use Rattle.parts.specs.Scan.{entriesFrom}
 use Rattle.parts.specs.Tiles.{ofTile, bytesAt, AllLong}
 use Rattle.parts.proofs.TilesAdjoin.{scan-adjoins}
@@ -47,35 +44,6 @@ use Rattle.laws.proofs.Demand3Edition.{newer-same}
 use Rattle.laws.proofs.Demand3Rewalked.{Rewalked, rewalked}
 use Rattle.laws.proofs.Demand3Rescanned.{part-tile, part-is-sot, patched-long, patched-marker, rescan, scans-table}
 use Rattle.tile.specs.Rewrite as rewrite
-
--- ---- the header that was accepted
-
-and-second : (a b : Bool) → (a && b) ≡ true → b ≡ true
-and-second true b e = e
-and-second false b e = let z : _≡_ {A = ℕ} 0 1 = cc in absurd (omega arith)
-
-marker-of : (s : List ℕ) (at marker : ℕ) → stands s at marker ≡ true → be 2 s at ≡ marker
-unfolding stands
-marker-of s at marker e = eqb-true _ _ (and-second (leb (at + 2) (length s)) (eqb (be 2 s at) marker) e)
-
-stands-there : (s : List ℕ) (at marker : ℕ) → at + 2 ≤ length s → be 2 s at ≡ marker → stands s at marker ≡ true
-unfolding stands
-stands-there s at marker h e = rw (le-leb _ _ h, eq-eqb _ _ e)
-
-module _ (s : List ℕ) (h : MainHeaderInfo) (e : judged s ≡ Header h) where
-  soc-stands : stands s 0 SOC ≡ true
-  soc-stands = by (stands s 0 SOC) refl
-    where
-      by : (b : Bool) → stands s 0 SOC ≡ b → stands s 0 SOC ≡ true
-      by true f = f
-      by false f = absurd (refused-header (sym (judged-no-soc s (judged-read s h e .short) f) ∙ e))
-
-  siz-stands : stands s 2 SIZ ≡ true
-  siz-stands = by (stands s 2 SIZ) refl
-    where
-      by : (b : Bool) → stands s 2 SIZ ≡ b → stands s 2 SIZ ≡ true
-      by true f = f
-      by false f = absurd (refused-header (sym (judged-no-siz s (judged-read s h e .short) soc-stands f) ∙ e))
 
 -- ---- a header walk that stops at an SOT accepts
 
@@ -170,7 +138,7 @@ module _ (rule : Rule) (s : List ℕ) (p : ℕ) (c : Accepted s p) (tile : ℕ) 
   whole = assembled-whole s tile rule (decodeHeaderOf s) all (m .long) (m .some)
 
   siz : be 2 s 2 ≡ SIZ
-  siz = marker-of s 2 SIZ (siz-stands s (c .info) (c .header))
+  siz = opens-with s (c .info) (c .header) .1
 
   walked : Rewalked s (capsFrom s 2) (assembledOf rule s es) (length (decodeHeaderOf s))
   unfolding rewritten
@@ -183,7 +151,7 @@ module _ (rule : Rule) (s : List ℕ) (p : ℕ) (c : Accepted s p) (tile : ℕ) 
   standing : Standing (rewritten rule (decodeHeaderOf s) tile) es (assembledOf rule s es)
   standing =
       let head : List ℕ = rewritten rule (decodeHeaderOf s) tile in
-      let soc : be 2 s 0 ≡ SOC = marker-of s 0 SOC (soc-stands s (c .info) (c .header)) in
+      let soc : be 2 s 0 ≡ SOC = opens-with s (c .info) (c .header) .0 in
       let accepted = accepted-at s (capsFrom s 2) (assembledOf rule s es) (length (decodeHeaderOf s)) soc siz (m .short) walked in
       let scanned = rescan s tile all (m .long) (m .sized) head in
       record {
