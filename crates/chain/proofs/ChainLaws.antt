@@ -84,13 +84,18 @@ module _ {A : Type 0} (short : A) (move : ℕ → Move A) where
 pub end-on : {A : Type 0} {a : A} {n : ℕ} → _≡_ {A = Move A} (end a) (on n) → ⊥
 end-on e = let z : _≡_ {A = ℕ} 0 1 = cc in omega arith
 
--- what one step moves on by, another does too: the same run (of a longer list with the same front, say)
-pub run-also : {A B : Type 0} {move : ℕ → Move A} {other : ℕ → Move B} → ((at next : ℕ) → move at ≡ on next → other at ≡ on next)
-    → {at stop : ℕ} {visits : List Visit} → Run move at visits stop → Run other at visits stop
-run-also same stay = stay
-run-also same (step {at = at} {next = next} found past rest) = step (same at next found) past (run-also same rest)
-
 -- a run never goes back
 pub run-rises : {A : Type 0} {move : ℕ → Move A} {at stop : ℕ} {visits : List Visit} → Run move at visits stop → at ≤ stop
 run-rises stay = omega arith
 run-rises (step found past rest) = let h = run-rises rest in omega arith
+
+-- what one step moves on by until it stops, another does too: the same run (of a shorter list that is long enough, say)
+pub run-until : {A B : Type 0} {move : ℕ → Move A} {other : ℕ → Move B} {at stop : ℕ} {visits : List Visit}
+    → ((at next : ℕ) → next ≤ stop → move at ≡ on next → other at ≡ on next) → Run move at visits stop → Run other at visits stop
+run-until same stay = stay
+run-until same (step {at = at} {next = next} found past rest) = step (same at next (run-rises rest) found) past (run-until same rest)
+
+-- wherever that is (of a longer list with the same front, say)
+pub run-also : {A B : Type 0} {move : ℕ → Move A} {other : ℕ → Move B} → ((at next : ℕ) → move at ≡ on next → other at ≡ on next)
+    → {at stop : ℕ} {visits : List Visit} → Run move at visits stop → Run other at visits stop
+run-also same = run-until (λ at next _. same at next)

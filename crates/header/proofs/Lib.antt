@@ -5,6 +5,8 @@ pub mod TlmFill
 pub mod WalkLaws
 pub mod WalkVisited
 pub mod WalkItems
+pub mod ExtentPrefix
+pub mod WalkPrefix
 pub mod NumberingLaws
 pub mod EditionLaws
 pub mod ParseCounting
@@ -14,6 +16,8 @@ pub mod StripLengths
 pub mod ParseLaws
 pub mod Numberings
 pub mod Editions
+pub mod ParsePrefix
+pub mod Enough
 pub mod FindLaws
 pub mod Base
 pub mod Iso

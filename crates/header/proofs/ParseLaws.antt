@@ -4,11 +4,11 @@ use native.Mathlib.Omega.{arith}
 use mathlib.Core.Path.{_≡_, refl, sym, ap, _∙_}
 use mathlib.Core.Bool.{true, false, _&&_}
 use mathlib.Core.List.{List, [], _∷_, _++_}
-use lib.ListN.{length, take, drop}
+use lib.ListN.{length, take, drop, length-append}
 use lib.Dec.{leb, eqb}
 use borrow.Author.Tests.{le-leb, lt-leb, eq-eqb, leb-true, eqb-true}
 use Rattle.numbers.specs.Bytes.{be, put}
-use Rattle.numbers.proofs.BytesLaws.{put-start}
+use Rattle.numbers.proofs.BytesLaws.{put-start, be-front}
 use Rattle.types.specs.Refusals.{refusal}
 use Rattle.types.specs.Row.{rowsOf}
 use Rattle.types.proofs.RowLaws.{length-rows}
@@ -96,6 +96,11 @@ stands-inside s at marker e = leb-true (at + 2) (length s) (and-both (leb (at + 
 pub stands-marker : (s : List ℕ) (at marker : ℕ) → stands s at marker ≡ true → be 2 s at ≡ marker
 unfolding stands
 stands-marker s at marker e = eqb-true (be 2 s at) marker (and-both (leb (at + 2) (length s)) (eqb (be 2 s at) marker) e .1)
+
+-- a marker inside a prefix stands there in the whole, or does not
+pub stands-front : (q t : List ℕ) (at marker : ℕ) → at + 2 ≤ length q → stands (q ++ t) at marker ≡ stands q at marker
+unfolding stands
+stands-front q t at marker h = rw (le-leb (at + 2) (length (q ++ t)) (rw length-append (omega arith)), le-leb (at + 2) (length q) h, be-front 2 q t at h)
 
 -- ---- what an accepted header says
 

@@ -74,6 +74,11 @@ saysFiller (Delimiter m) = not (m .«high_ff»)
 saysFiller (Segment m) = false
 saysFiller CutShort = false
 
+-- an SOT is no delimiter, and no filler
+pub sot-no-delimiter : delimits SOT ≡ false
+unfolding delimits
+sot-no-delimiter = refl
+
 sot-no-filler : isFiller SOT ≡ false
 unfolding delimits highFF isFiller
 sot-no-filler = refl

@@ -2,7 +2,7 @@
 -- as far.
 use Prim.Native.Nat.{ℕ, _+_, _-_, _≤_}
 use native.Mathlib.Omega.{arith}
-use mathlib.Core.Path.{_≡_, refl, sym, ap, _∙_}
+use mathlib.Core.Path.{_≡_, sym, ap, _∙_}
 use mathlib.Core.Bool.{true, false}
 use mathlib.Core.List.{List}
 use lib.ListN.{length}
@@ -21,7 +21,7 @@ use Rattle.header.specs.declared.step.HeaderStep.{HeaderStep}
 use Rattle.header.specs.declared.step.HeaderStep.the-variants.{Sot, Delimiter, Segment, CutShort}
 use Rattle.header.specs.declared.tlm.Tlm.{Tlm}
 use Rattle.header.specs.declared.walk.WalkStep.{WalkStep}
-use Rattle.header.proofs.StepLaws.{Told, step-told, step-delimiter, step-segment}
+use Rattle.header.proofs.StepLaws.{Told, step-told, step-delimiter, step-segment, sot-no-delimiter}
 use Rattle.header.proofs.WalkLaws.{not-true-false, walk-segment, walk-delimiter, pass-other}
 use Rattle.header.specs.declared.tlm.Tlm.the-variants as tlm
 
@@ -31,7 +31,7 @@ pub data Item (s : List ℕ) (at next : ℕ) : Type 0 where
 
 -- ---- what was read
 
-passed-to : (s : List ℕ) (at : ℕ) (m : Marker) (next : ℕ) → walkMove (passedAt s at m) ≡ on next → m .next ≡ next
+pub passed-to : (s : List ℕ) (at : ℕ) (m : Marker) (next : ℕ) → walkMove (passedAt s at m) ≡ on next → m .next ≡ next
 unfolding passedAt walkMove tlmStep
 passed-to s at m next e =
     by-test (λ (w : WalkStep). walkMove w ≡ on next → m .next ≡ next) (eqb (m .code) TLM) (λ _. by-tlm (tlmAt s at)) (λ _ e. (cc)) e
@@ -89,11 +89,6 @@ pub ends-sot : (s : List ℕ) (at : ℕ) → walkAt s at ≡ end firstSot → be
 ends-sot s at e = ends-there s at e .1
 
 -- ---- the same at another place
-
--- an SOT is no delimiter
-sot-no-delimiter : delimits SOT ≡ false
-unfolding delimits
-sot-no-delimiter = refl
 
 module _ (s : List ℕ) (at next : ℕ) (a : List ℕ) (to : ℕ) where
   -- the segment's length stands there too

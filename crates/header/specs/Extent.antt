@@ -1,5 +1,5 @@
 -- Whether a prefix of a codestream holds its whole main header (docs/RULES.md, "Header extent").
-use Prim.Native.Nat.{ℕ}
+use Prim.Native.Nat.{ℕ, _+_}
 use mathlib.Core.Bool.{cond}
 use mathlib.Core.List.{List}
 use lib.ListN.{length}
@@ -24,3 +24,20 @@ extentEnd walk = endedAs (walk .ended) (walk .stopped)
 unfoldable pub extentOf : List ℕ → MainHeaderExtent
 unfolding extentEnd stepsFrom
 extentOf s = cond (leb 4 (length s)) (cond (eqb (be 2 s 0) SOC) (extentEnd (stepsFrom s 2)) Truncated) Truncated
+
+-- ---- prefixes, of which the laws speak
+
+-- what the first n bytes tell of an extent: the first SOT, where they hold its marker
+unfoldable pub toldBy : ℕ → MainHeaderExtent → MainHeaderExtent
+toldBy n (Complete at) = cond (leb (at .0 + 2) n) (Complete at) Truncated
+toldBy n Truncated = Truncated
+
+-- how many of so many bytes are enough for a header of an extent: those through the first SOT's marker, or all
+unfoldable pub enoughOf : ℕ → MainHeaderExtent → ℕ
+enoughOf size (Complete at) = at .0 + 2
+enoughOf size Truncated = size
+
+-- how many of a codestream's bytes are enough for its header
+unfoldable pub enough : List ℕ → ℕ
+unfolding enoughOf
+enough s = enoughOf (length s) (extentOf s)

@@ -16,6 +16,7 @@ use Rattle.types.specs.Refusals.{refusal}
 use Rattle.types.specs.declared.Area.{Area}
 use Rattle.header.specs.Step.{segmentEnd}
 use Rattle.header.specs.Parse.{stands}
+use Rattle.header.proofs.ParseLaws.{stands-front}
 use Rattle.tile.specs.Siz.{marker}
 use Rattle.tile.specs.AnnexB.{gridTile}
 use Rattle.tile.specs.Original.{inGrid, tileArea}
@@ -32,10 +33,6 @@ use Rattle.reader.proofs.ComponentsAreas.{InImage, tile-inside}
 use Rattle.reader.proofs.ComponentsSiz.{listed, unlisted}
 
 -- ---- what is read of the front
-
-stands-front : (p t : List ℕ) (at m : ℕ) → at + 2 ≤ length p → stands (p ++ t) at m ≡ stands p at m
-unfolding stands
-stands-front p t at m h = rw (le-leb (at + 2) (length (p ++ t)) (rw length-append (omega arith)), le-leb (at + 2) (length p) h, be-front 2 p t at h)
 
 apart-front : (p t : List ℕ) (n : ℕ) → component marker n ≤ length p → allApart (p ++ t) n ≡ allApart p n
 unfolding allApart apart

@@ -2,6 +2,7 @@ pub mod Moves
 pub mod SizLaws
 pub mod SearchLaws
 pub mod GrowthLaws
+pub mod GrowthFirst
 pub mod ComponentsLaws
 pub mod Iso
 pub mod ComponentsAreas

@@ -1,5 +1,5 @@
 -- How much of a codestream is fetched for its main header (docs/RULES.md, "Growth").
-use Prim.Native.Nat.{ℕ, zero, suc, _+_, _*_, min}
+use Prim.Native.Nat.{ℕ, zero, suc, _+_, _*_, _≤_, _<_, min}
 use mathlib.Core.Bool.{Bool, true, false, cond, _||_}
 use mathlib.Core.List.{List, [], _∷_, _++_, map}
 use lib.ListN.{length, take}
@@ -50,3 +50,10 @@ grown s = grownAt s (growthFrom s 0)
 unfoldable pub tried : List ℕ → List ℕ
 unfolding growthFrom
 tried s = map (λ (v : Visit). regionAt (length s) (v .at)) (growthFrom s 0 .visits) ++ (regionAt (length s) (growthFrom s 0 .stopped) ∷ [])
+
+-- ---- the first region that will do, of which the laws speak
+
+-- the k-th region of a codestream of a size is the first with so many bytes
+pub record FirstWith (size bytes k : ℕ) : Type 0 where
+  pub has : bytes ≤ regionAt size k
+  pub none : (j : ℕ) → j < k → regionAt size j < bytes
