@@ -10,6 +10,7 @@ pub mod Demand3Edition
 pub mod Demand3Rewalked
 pub mod Demand3Rescanned
 pub mod Demand3
+pub mod Region
 pub mod Rows
 pub mod Settling
 pub mod Settled

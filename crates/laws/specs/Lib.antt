@@ -1,3 +1,4 @@
 pub mod Sample
 pub mod Demand3
 pub mod Settles
+pub mod Region

@@ -35,6 +35,10 @@ below-pow : (k : ℕ) → k < 2 ^ k
 below-pow zero = lit< tt
 below-pow (suc k) = rw (pow-suc 2 k) (omega (arith, below-pow k))
 
+-- none is smaller than the first
+pub region-least : (size k : ℕ) → min 65536 size ≤ regionAt size k
+region-least size k = omega (arith, region-pow size k, below-pow k)
+
 -- a region that is not the whole comes early
 pub region-early : (size k : ℕ) → regionAt size k < size → k < size
 region-early size k h = omega (arith, region-pow size k, below-pow k)
