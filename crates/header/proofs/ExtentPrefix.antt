@@ -167,12 +167,15 @@ module _ (q t : List ℕ) where
 complete-same : {a b : CodestreamOffset} → Complete a ≡ Complete b → a ≡ b
 complete-same e = cc
 
+-- a first SOT stays with more bytes behind it
+pub extent-more : (q t : List ℕ) (at : CodestreamOffset) → extentOf q ≡ Complete at → extentOf (q ++ t) ≡ Complete at
+extent-more q t at e = reached-complete (q ++ t) (reached-more q t (complete-reached q at e))
+
 module _ (s : List ℕ) (n : ℕ) where
   -- a first SOT of the prefix is the whole's, and its marker is among the n bytes
   prefix-told : (at : CodestreamOffset) → extentOf (take n s) ≡ Complete at → (extentOf s ≡ Complete at) × (at .0 + 2 ≤ n)
   prefix-told at e =
-      let r = complete-reached (take n s) at e in
-      (ap extentOf (sym (take-append-drop n s)) ∙ reached-complete (take n s ++ drop n s) (reached-more (take n s) (drop n s) r), omega (arith, r .inside, length-take n s))
+      (ap extentOf (sym (take-append-drop n s)) ∙ extent-more (take n s) (drop n s) at e, omega (arith, complete-reached (take n s) at e .inside, length-take n s))
 
   -- the other way round
   told-prefix : (at : CodestreamOffset) → extentOf s ≡ Complete at → at .0 + 2 ≤ n → extentOf (take n s) ≡ Complete at

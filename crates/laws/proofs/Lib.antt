@@ -15,3 +15,4 @@ pub mod Rows
 pub mod Settling
 pub mod Settled
 pub mod Demand3Premises
+pub mod RegionPremises

@@ -1,8 +1,8 @@
--- The starred edges (docs/RULES.md, "Edges"), in the order there, each as a comment over its theorems; and the one which has no star. All are computed
--- but that, which is of every codestream of a length, and those of 65,535 TLM entries and more, which go by counts.
-use Prim.Native.Nat.{ℕ, _≤_}
+-- The starred edges (docs/RULES.md, "Edges"), in the order there, each as a comment over its theorems; and the two of growth, which have no star. All are
+-- computed but these, which are of every codestream of a length or with a first SOT at a place, and those of 65,535 TLM entries and more, which go by counts.
+use Prim.Native.Nat.{ℕ, _+_, _≤_, min}
 use native.Mathlib.Omega.{arith}
-use mathlib.Core.Path.{_≡_, refl, sym, _∙_}
+use mathlib.Core.Path.{_≡_, refl, sym, ap, _∙_}
 use mathlib.Core.Bool.{Bool, true, false}
 use mathlib.Core.List.{List, [], _∷_, _++_}
 use lib.ListN.{length, take, replicate}
@@ -12,8 +12,9 @@ use Rattle.types.specs.Refusals.{refusal}
 use Rattle.types.specs.Row.{rowOf, rowsOf}
 use Rattle.types.specs.declared.Area.{Area}
 use Rattle.types.specs.declared.TilePartEntry.{TilePartEntry}
+use Rattle.types.specs.declared.CodestreamOffset.{CodestreamOffset}
 use Rattle.header.specs.Step.{stepAt}
-use Rattle.header.specs.Extent.{extentOf}
+use Rattle.header.specs.Extent.{extentOf, enoughOf, enough}
 use Rattle.header.specs.Walk.{walkFrom}
 use Rattle.header.specs.Strip.{decodeHeader}
 use Rattle.header.specs.Numbering.{unindexedSegments}
@@ -24,6 +25,7 @@ use Rattle.header.specs.IsoMain.{mainHeader}
 use Rattle.header.specs.declared.numbering.Numbering.the-variants.{CarriedOn, Restarting}
 use Rattle.header.specs.declared.edition.Edition.the-variants.{Older, Newer}
 use Rattle.header.specs.declared.reading.Reading.{Reading}
+use Rattle.header.proofs.ExtentPrefix.{complete-reached}
 use Rattle.header.proofs.Numberings.{tables-agree}
 use Rattle.header.proofs.EditionLaws.{as-refused}
 use Rattle.header.proofs.IsoMain.{upToSot}
@@ -52,6 +54,7 @@ use Rattle.reader.specs.Search.{foundIn}
 use Rattle.reader.specs.Growth.{regionAt, grown}
 use Rattle.reader.specs.declared.search.Found.the-variants.{Codestream}
 use Rattle.reader.proofs.GrowthLaws.{region-pow, whole-suffices, truncated-not, grown-end, grown-on}
+use Rattle.reader.proofs.GrowthFirst.{grown-only}
 use Rattle.laws.proofs.SampleComputing.{samples, extents, walks, numberings, editions, findings, scan-runs, split-runs, tiles, searches, siz-readings, components}
 use Rattle.laws.proofs.SampleNumbering.{three}
 use Rattle.laws.specs.Sample.{two, zeros, sizOf, header, grid, counting, tlm, announcing, cap, sot, part, head, withTlm, A, signature, jp2c}
@@ -110,7 +113,7 @@ pub A-scan : entriesFrom A 57 ≡ entry 0 57 14 ∷ entry 5 71 16 ∷ []
 unfolding scan-runs
 A-scan = refl
 
--- ---- * A: extent of 58 bytes Truncated, of 59 Complete(57).
+-- ---- * A: extent of 58 bytes Truncated, of 59 Complete(57); as a main header 58 bytes are refused, and 59 accepted as the whole is.
 
 pub extent-58 : extentOf (take 58 A) ≡ Truncated
 unfolding extents
@@ -119,6 +122,14 @@ extent-58 = refl
 pub extent-59 : extentOf (take 59 A) ≡ Complete (record { 0 = 57 })
 unfolding extents
 extent-59 = refl
+
+pub header-58 : judgedAs byDefault (take 58 A) ≡ parse.Refused (refusal 6 58)
+unfolding editions
+header-58 = refl
+
+pub header-59 : judgedAs byDefault (take 59 A) ≡ accepted 57 45 2
+unfolding editions
+header-59 = refl
 
 -- ---- * A, tile 5: width 2, height 2; assembled 63 bytes. Tile 0: header unchanged, 61 bytes. By either rule. Kept in its place tile 5 lies from
 -- 8, 4 to 10, 6, and tile 0, of full size, is written too.
@@ -651,6 +662,31 @@ region-65537 s h t =
     let second : regionAt (length s) 1 ≡ 65537 = region-pow (length s) 1 ∙ omega arith in
     grown-on s 0 (rw first (truncated-not s 65536 (λ e. omega arith) t))
     ∙ grown-end s 1 (whole-suffices s _ (second ∙ sym h))
+    ∙ (λ i. record { region = second i; enlargements = 1 })
+
+-- ---- First SOT at 65,534 or before: no enlargement; at 65,535: one.
+
+pub sot-65534 : (s : List ℕ) (at : CodestreamOffset) → extentOf s ≡ Complete at → at .0 ≤ 65534 → grown s ≡ record { region = min 65536 (length s); enlargements = 0 }
+unfolding enough enoughOf
+sot-65534 s at e h =
+    let first : regionAt (length s) 0 ≡ min 65536 (length s) = region-pow (length s) 0 ∙ omega arith in
+    let bytes : enough s ≡ at .0 + 2 = ap (enoughOf (length s)) e in
+    let inside = complete-reached s at e .inside in
+    grown-only s 0 (record { has = omega (arith, first, bytes, inside); none = λ j l. absurd (omega arith) })
+    ∙ (λ i. record { region = first i; enlargements = 0 })
+
+pub sot-65535 : (s : List ℕ) → extentOf s ≡ Complete (record { 0 = 65535 }) → grown s ≡ record { region = min 131072 (length s); enlargements = 1 }
+unfolding enough enoughOf
+sot-65535 s e =
+    let first : regionAt (length s) 0 ≡ min 65536 (length s) = region-pow (length s) 0 ∙ omega arith in
+    let second : regionAt (length s) 1 ≡ min 131072 (length s) = region-pow (length s) 1 ∙ omega arith in
+    let bytes : enough s ≡ 65537 = ap (enoughOf (length s)) e in
+    let inside = complete-reached s (record { 0 = 65535 }) e .inside in
+    grown-only s 1
+    (record {
+      has = omega (arith, second, bytes, inside);
+      none = λ j l. let zeroth : j ≡ 0 = omega arith in omega (arith, ap (regionAt (length s)) zeroth, first, bytes);
+    })
     ∙ (λ i. record { region = second i; enlargements = 1 })
 
 -- an accepted check of a count, and a component that is found
