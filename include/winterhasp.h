@@ -132,7 +132,8 @@ uint32_t winterhasp_in_file(uint64_t offset, uint64_t start, uint64_t *value);
 uint32_t winterhasp_find_codestream(const uint8_t *file, size_t file_len, uint64_t *start, uint64_t *length);
 
 /* "Growth". How much of the codestream holds its main header: `region` bytes, after so many `enlargements` of the first
-   65,536. Never refuses: 0. */
+   65,536. These are read as the whole is, by every function for the main header and with every refusal; where the whole has
+   more than 2^32-1 bytes they are read, and the whole is not (19). Never refuses: 0. */
 uint32_t winterhasp_grow_header_region(const uint8_t *codestream, size_t codestream_len, uint64_t *region,
                                        uint64_t *enlargements);
 
@@ -141,7 +142,7 @@ uint32_t winterhasp_grow_header_region(const uint8_t *codestream, size_t codestr
 uint64_t winterhasp_next_region(uint64_t region, uint64_t length);
 
 /* "Header extent". Whether the first bytes of a codestream hold its whole main header. Never refuses: 1, and `value` is the
-   first SOT's offset; or 0 where more bytes are needed, and `value` stays. */
+   first SOT's offset; or 0 where more bytes are needed, and `value` stays. It is 1 of `value` + 2 bytes and more, and 0 of fewer. */
 uint32_t winterhasp_main_header_extent(const uint8_t *prefix, size_t prefix_len, uint64_t *value);
 
 /* "Main header". Its TLM entries go to the rows of `table`, the header without TLM segments to `out`: the decode header, which

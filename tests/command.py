@@ -84,7 +84,7 @@ def refused_line(number, place):
 def of_components(out):
     """What `show` tells of components and of a tile: the lines behind those of the tiles, and before the header's or others."""
     lines = out.splitlines()
-    behind = ("header", "tlm ", "tile-parts", "scan ", "refused")
+    behind = ("header", "fetch", "tlm ", "tile-parts", "scan ", "refused")
     started = [line.startswith("tiles ") for line in lines]
     lines = lines[started.index(True) + 1 :] if True in started else []
     return lines[: next((at for at, line in enumerate(lines) if line.startswith(behind)), len(lines))]
@@ -307,6 +307,46 @@ FILLERS = {
 }
 
 
+def commented(first):
+    """Sample A with its first tile-part there, behind comments as long as there may be and a shorter one."""
+    left, comments = first - 57, b""
+    while left:
+        size = left if left <= 65_537 else min(65_537, left - 4)
+        comments += segment(0xFF64, bytes(size - 4))
+        left -= size
+    return SAMPLE[:45] + comments + SAMPLE[45:]
+
+
+# Codestreams, how many of their bytes hold the main header (none: no tile-part is reached), how many growth fetches, and how often it
+# enlarges them
+FETCHES = [
+    (SAMPLE, 59, 89, 0),
+    (commented(65_534), 65_536, 65_536, 0),
+    (commented(65_535), 65_537, 65_567, 1),
+    (commented(65_535) + bytes(100_000), 65_537, 131_072, 1),
+    (commented(131_070), 131_072, 131_072, 1),
+    (commented(131_071), 131_073, 131_103, 2),
+    (commented(300_000), 300_002, 300_032, 3),
+    # the first SOT's marker alone
+    (SAMPLE[:59], 59, 59, 0),
+    (commented(65_534)[:65_536], 65_536, 65_536, 0),
+    (commented(65_535)[:65_537], 65_537, 65_537, 1),
+    # refused for its header, and for the tile-parts behind it
+    (SHORT_TLM, 52, len(SHORT_TLM), 0),
+    (ODD_TLM, 55, len(ODD_TLM), 0),
+    (NO_SIZ, 10, len(NO_SIZ), 0),
+    (CUT, 47, len(CUT), 0),
+    # without a tile-part
+    (SOC, None, 2, 0),
+    (HEADER, None, 45, 0),
+    (SAMPLE[:58], None, 58, 0),
+    (commented(65_535)[:65_535], None, 65_535, 0),
+    (commented(65_535)[:65_536], None, 65_536, 0),
+    (commented(300_000)[:300_001], None, 300_001, 3),
+    (HEADER + bytes(200_000), None, 200_045, 2),
+]
+
+
 class Refused(NamedTuple):
     content: bytes
     number: int
@@ -433,6 +473,21 @@ def edition_text(place, start=0):
     return f"newer: capabilities (CAP) at byte {place} of the codestream, byte {start + place} of the file, as announced"
 
 
+def grown(length, enough):
+    """How many bytes growth fetches of a codestream of that length whose header is held by so many, and how often it enlarges them."""
+    region, enlargements = min(65_536, length), 0
+    while region < enough:
+        region, enlargements = min(2 * region, length), enlargements + 1
+    return region, enlargements
+
+
+def fetch_text(enough, region, enlargements, start=0):
+    place = f"{enough} bytes from byte {start} of the file on" if start else f"the file's first {enough} bytes"
+    header = f"{place} hold the header; growth fetches {region}"
+    told = header if enough else f"no tile-part is reached: growth fetches all {region} bytes"
+    return f"{told}, with {enlargements or 'no'} enlargement{'s' * (enlargements > 1)}"
+
+
 def shown_sample(name, start, more=0, filler="none"):
     """Of sample A, bare or in a JP2, with so many bytes more in its header."""
     length = len(SAMPLE) + more
@@ -445,6 +500,7 @@ image       10 by 6, from 0, 0 on
 tiles       4 by 4, from 0, 0 on; 6 in a grid of 3 by 2
 components  1 of 8 bits, unsigned; 10 by 6, from 0, 0 on
 header      {57 + more} bytes, {45 + more} without TLM
+fetch       {fetch_text(59 + more, *grown(length, 59 + more), start)}
 edition     {edition_text(None)}
 tlm         2 entries
 filler      {filler}
@@ -595,8 +651,11 @@ class Runs:
             self.hold(f"show {file}", (status, out.splitlines()[-1], said), (1, last, error))
             # filler is told with the header, and of none that was refused
             labels = [line[:11].rstrip() for line in out.splitlines()]
-            saw = "header" in labels, "filler" in labels, json.loads(self.run("show", "--json", file)[1])["header"] is not None
+            found = json.loads(self.run("show", "--json", file)[1])
+            saw = "header" in labels, "filler" in labels, found["header"] is not None
             self.hold(f"show {file}, its header", saw, (any(line.startswith("header ") for line in refused.before),) * 3)
+            # and what is fetched with the codestream
+            self.hold(f"show {file}, fetch", ("fetch" in labels, found["fetch"] is not None), (bool(refused.before),) * 2)
         # where only TLM is wrong the scan is shown
         self.hold("show tlm4.jp2", "tile-parts  1, 14 bytes, " in self.run("show", "tlm4.jp2")[1], True)
         # SIZ is not looked into by the listing, and is by `show`
@@ -776,6 +835,17 @@ class Runs:
         behind = packed.with_segment_behind(content, packed.PPM, made[place + 4 : place + 20])
         for name, content in ("com.j2k", kept), ("behind-sot.j2k", behind):
             self.by_rules(name, content, [0, 4])
+
+    def fetches(self):
+        """How many bytes hold the main header, and how many growth fetches for it, bare and in a JP2, of files that are accepted and
+        refused."""
+        for number, (content, *numbers) in enumerate(FETCHES):
+            for file, start in (f"fetch{number}.j2k", 0), (f"fetch{number}.jp2", START):
+                (self.folder / file).write_bytes(jp2(content) if start else content)
+                told = [line for line in self.run("show", file)[1].splitlines() if line.startswith("fetch ")]
+                self.hold(f"show {file}", told, [f"fetch       {fetch_text(*numbers, start)}"])
+                found = json.loads(self.run("show", "--json", file)[1])["fetch"]
+                self.hold(f"show --json {file}", found, dict(zip(["enough", "region", "enlargements"], numbers)))
 
     def fillers(self):
         """Delimiters without FF in sample A's main header, before TLM, behind it, and both: `show` counts them, and all else is told
@@ -1211,6 +1281,7 @@ class Runs:
         self.hold("show --json", found["grid"], {"columns": 3, "rows": 2, "tiles": 6})
         header = {"length": 57, "decode_length": 45, "tlm_entries": 2, "edition": NO_EDITION, "fillers": 0, "ppm": None}
         self.hold("show --json", found["header"], header)
+        self.hold("show --json", found["fetch"], {"enough": 59, "region": 89, "enlargements": 0})
         tiles = {"present": 2, "missing": 4, "missing_ranges": [[1, 4]], "outside_ranges": []}
         self.hold("show --json", found["tiles"], tiles)
         ended = {"at": "EOC", "offset": 87, "file_offset": START + 87, "bytes": None, "unread": 0}
@@ -1298,6 +1369,7 @@ class Runs:
             self.hold(f"{words} --help: edition", "[default: older]" in help_text, True)
         for words in ["tile", "a.j2k", "5"], ["grid", "a.j2k"]:
             self.hold(f"{words} --edition", self.run(*words, "--edition", NEWER)[0], 2)
+        self.hold("show --help: fetch", f"  {fetch_text(59, 89, 0)}\n" in self.run("show", "--help")[1], True)
         self.hold("show --help: edition", f"  {edition_text(51)}\n" in self.run("show", "--help")[1], True)
         help_text = self.run("list", "--help")[1]
         for words in "carried-on    on over the segments in the order of the file", "[default: restarting]":
@@ -1472,7 +1544,9 @@ class Runs:
                 header = SOC + (size_segment((8, 4), (4, 4), (4, 0), (4, 0)) if last == 1 else size_segment((10, 4), (2, 4), (8, 0), (8, 0)))
                 self.hold(f"tile {name}", (saw[0], (self.folder / OUT).read_bytes()), (0, header + piece + EOC))
                 self.hold(f"tile {name}, memory", memory < 128 << 20, True)
-            self.hold(f"show {name}", f"tile-parts  {len(sizes)}, {sum(sizes)} bytes" in self.run("show", name)[1], True)
+            shown = self.run("show", name)[1]
+            self.hold(f"show {name}", f"tile-parts  {len(sizes)}, {sum(sizes)} bytes" in shown, True)
+            self.hold(f"show {name}, fetch", f"fetch       {fetch_text(47, 65_536, 0)}\n" in shown, True)
             path.unlink()
         # more bytes than a main header may have are not asked for PPM
         self.sparse(self.folder / "6g-ppm.j2k", HEADER + PPM, [3 * giga, 3 * giga, 14])
@@ -1569,8 +1643,8 @@ class Runs:
 
 
 GROUPS = [
-    Runs.accepted, Runs.refused, Runs.components, Runs.tiles, Runs.packed, Runs.fillers, Runs.numberings, Runs.editions, Runs.rules,
-    Runs.never_over_the_input, Runs.machines, Runs.pictures, Runs.not_read, Runs.words, Runs.not_written, Runs.streams,
+    Runs.accepted, Runs.refused, Runs.components, Runs.tiles, Runs.packed, Runs.fetches, Runs.fillers, Runs.numberings, Runs.editions,
+    Runs.rules, Runs.never_over_the_input, Runs.machines, Runs.pictures, Runs.not_read, Runs.words, Runs.not_written, Runs.streams,
     Runs.damaged, Runs.folders, Runs.large, Runs.shrinking, Runs.encoders,
 ]  # fmt: skip
 

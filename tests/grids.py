@@ -6,6 +6,8 @@ import struct
 from collections import Counter
 from typing import NamedTuple
 
+from pictures import told
+
 SEED = 15444
 
 
@@ -318,3 +320,10 @@ def write_images(folder):
         place.mkdir()
         words[image] = write_image(image, place)
     return words
+
+
+def compressed(read, path, words, tool="opj_compress"):
+    """Whether the tool wrote the file, of an image with these words for it."""
+    if tool == GRK_COMPRESS:
+        read = ["-H", "1", *("-Y" if word == "-mct" else word for word in read)]
+    return told([tool, *read, "-o", path, *words]) is not None and path.exists()

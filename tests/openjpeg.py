@@ -51,7 +51,7 @@ from pathlib import Path
 from typing import NamedTuple
 
 import packed
-from grids import COLOUR, GRAY, GRIDS_IN_PLACE, GRK_COMPRESS, Grid, cases, write_images
+from grids import COLOUR, GRAY, GRIDS_IN_PLACE, Grid, cases, compressed, write_images
 from pictures import Component, Library, corner, decoded, grok, in_gray_jp2, install, rectangle, sizes, told
 
 ROOT = Path(__file__).resolve().parent.parent
@@ -381,10 +381,7 @@ class Run:
             shutil.rmtree(folder)
 
     def compressed(self, image, path, words, tool="opj_compress"):
-        read = self.images[image]
-        if tool == GRK_COMPRESS:
-            read = ["-H", "1", *("-Y" if word == "-mct" else word for word in read)]
-        return told([tool, *read, "-o", path, *words]) is not None and path.exists()
+        return compressed(self.images[image], path, words, tool)
 
     def compared(self, path, case):
         name = case.name()

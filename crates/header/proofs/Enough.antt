@@ -3,20 +3,16 @@
 use Prim.Native.Nat.{ℕ, _+_, _≤_, _<_}
 use native.Mathlib.Omega.{arith}
 use mathlib.Core.Path.{_≡_, refl, sym, ap, _∙_}
-use mathlib.Core.Bool.{cond}
 use mathlib.Core.List.{List, _++_}
 use lib.ListN.{length, getD, take, drop, length-take, take-append-drop, List·getD-eq-default}
 use lib.Seq.{take-all, getD-take}
 use lib.Dec.{leb, ltb}
 use borrow.Author.Tests.{lt-leb, leb-true, leb-false, ltb-true, ltb-false}
 use Rattle.numbers.proofs.Choice.{by-bool}
-use Rattle.types.specs.Markers.{SOC}
 use Rattle.types.specs.declared.Refusal.{Refusal}
-use Rattle.types.specs.declared.CodestreamOffset.{CodestreamOffset}
-use Rattle.types.specs.declared.TilePartEntry.{TilePartEntry}
 use Rattle.header.specs.Extent.{extentOf, toldBy, enoughOf, enough}
 use Rattle.header.specs.Walk.{walkFrom}
-use Rattle.header.specs.Parse.{judged, judgedBy, judgedAs, parsed, tableBy, tableAfter, outAfter}
+use Rattle.header.specs.Parse.{judgedBy, judgedAs, parsed, tableBy, tableAfter, outAfter}
 use Rattle.header.specs.declared.extent.MainHeaderExtent.{MainHeaderExtent}
 use Rattle.header.specs.declared.extent.MainHeaderExtent.the-variants.{Complete, Truncated}
 use Rattle.header.specs.declared.numbering.Numbering.{Numbering}
@@ -50,7 +46,7 @@ fewer-refused how again s h e n few = by (judgedAs again (take n s)) refl
     by : (answer : MainHeader) → judgedAs again (take n s) ≡ answer → (r : Refusal) × (judgedAs again (take n s) ≡ Refused r)
     by (Header k) a =
         let short : Complete (k .«first_sot_offset») ≡ Truncated =
-          sym (accepted-complete again (take n s) k a) ∙ extent-prefix s n ∙ ap (toldBy n) (accepted-complete how s h e) ∙ rw (lt-leb _ _ few) in
+        sym (accepted-complete again (take n s) k a) ∙ extent-prefix s n ∙ ap (toldBy n) (accepted-complete how s h e) ∙ rw (lt-leb _ _ few) in
         absurd (let z : _≡_ {A = ℕ} 0 1 = cc in omega arith)
     by (Refused r) a = (r, a)
 

@@ -7,7 +7,7 @@ use mathlib.Core.Bool.{true}
 use mathlib.Core.List.{List, _++_}
 use lib.ListN.{length, take, drop, length-append, length-take, take-append-drop}
 use lib.Dec.{leb, eqb}
-use borrow.Author.Tests.{le-leb, lt-leb, leb-true, leb-false, eqb-true}
+use borrow.Author.Tests.{leb-true, leb-false, eqb-true}
 use Rattle.numbers.specs.Bytes.{be}
 use Rattle.numbers.proofs.BytesLaws.{be-front}
 use Rattle.numbers.proofs.Choice.{by-test, by-bool}

@@ -5,10 +5,10 @@ use native.Mathlib.Omega.{arith}
 use mathlib.Core.Path.{_≡_, refl, sym, ap, ap₂, _∙_}
 use mathlib.Core.Bool.{Bool, true, false, cond}
 use mathlib.Core.List.{List, [], _∷_, _++_}
-use lib.ListN.{length, take, drop, length-append, length-drop, List·getD-append}
+use lib.ListN.{length, take, drop, length-drop}
 use lib.Seq.{take-append-le, drop-append-le}
 use lib.Dec.{leb, eqb}
-use borrow.Author.Tests.{le-leb, leb-true, leb-false, eqb-true, eqb-false}
+use borrow.Author.Tests.{le-leb, leb-true, leb-false, eqb-true}
 use Rattle.numbers.specs.Bits.{bit}
 use Rattle.numbers.specs.Bytes.{be}
 use Rattle.numbers.proofs.BytesLaws.{be-front}
@@ -19,11 +19,11 @@ use Rattle.types.specs.declared.TilePartEntry.{TilePartEntry}
 use Rattle.chain.specs.Chain.{on, Visit, Chain, visited, Run, stay, step}
 use Rattle.chain.proofs.ChainLaws.{chain-run}
 use Rattle.header.specs.Step.{delimits, isFiller, segmentEnd}
-use Rattle.header.specs.Tlm.{ltlm, stlm, indexSize, lengthSize, entryPlace, entryCount, unindexed, Accepted, Within, Entry, entryIn, entryOn, entriesOn, placed}
+use Rattle.header.specs.Tlm.{stlm, indexSize, lengthSize, entryPlace, entryCount, unindexed, Accepted, Within, entryIn, entryOn, entriesOn, placed}
 use Rattle.header.specs.Walk.{WalkEnd, firstSot, refused, walkAt, walkFrom}
 use Rattle.header.specs.Strip.{isTlm, fillers, kept, decodeHeader, tlmEntries}
 use Rattle.header.specs.Numbering.{nextNumber, entriesBy, endedBy}
-use Rattle.header.specs.Edition.{announced, capsIn, lcap, pcap, capFits, capped, inEdition}
+use Rattle.header.specs.Edition.{announced, capsIn, lcap, capFits, capped, inEdition}
 use Rattle.header.specs.Parse.{readAs, frontOf, behindFrontBy, judgedBy, judgedAs, withRoom, parsed, tableBy, tableAfter, outAfter}
 use Rattle.header.specs.declared.numbering.Numbering.{Numbering}
 use Rattle.header.specs.declared.numbering.Numbering.the-variants.{CarriedOn, Restarting}
@@ -145,16 +145,16 @@ module _ (q t : List ℕ) where
         filled = ap₂ (λ (m n : ℕ). cond (isFiller m) 1 0 + n) marker (s .filled);
         strips = rw (marker, bytes-same at next found, s .strips);
         entries =
-          λ n k. by-bool (isTlm q v)
-          (λ is. let a = tlm-accepted at next found (eqb-true (be 2 q at) TLM is) in
-          rw (marker, is, count-same at a, next-same at a n k)
-          (ap₂ _++_ (entries-same at a k 0 (entryCount q at) (omega arith)) (s .entries n (nextNumber n q at k))))
-          (λ is. rw (marker, is) (s .entries n k));
+            λ n k. by-bool (isTlm q v)
+            (λ is. let a = tlm-accepted at next found (eqb-true (be 2 q at) TLM is) in
+            rw (marker, is, count-same at a, next-same at a n k)
+            (ap₂ _++_ (entries-same at a k 0 (entryCount q at) (omega arith)) (s .entries n (nextNumber n q at k))))
+            (λ is. rw (marker, is) (s .entries n k));
         ends =
-          λ n k ended. by-bool (isTlm q v)
-          (λ is. let a = tlm-accepted at next found (eqb-true (be 2 q at) TLM is) in
-          rw (marker, is, next-same at a n k, s .ends n (nextNumber n q at k) ended))
-          (λ is. rw (marker, is) (s .ends n k ended));
+            λ n k ended. by-bool (isTlm q v)
+            (λ is. let a = tlm-accepted at next found (eqb-true (be 2 q at) TLM is) in
+            rw (marker, is, next-same at a n k, s .ends n (nextNumber n q at k) ended))
+            (λ is. rw (marker, is) (s .ends n k ended));
         caps = rw (marker, s .caps);
         fits = by-test Fits (eqb (be 2 q at) CAP) (λ is. fits-same at next found (eqb-true (be 2 q at) CAP is)) (λ _. s .fits);
       }

@@ -12,17 +12,15 @@ use Rattle.numbers.specs.Bytes.{be}
 use Rattle.numbers.proofs.BytesLaws.{be-front}
 use Rattle.numbers.proofs.Choice.{by-bool}
 use Rattle.types.specs.Markers.{SOC, TLM}
-use Rattle.chain.specs.Chain.{Move, end, on, Visit, Run}
+use Rattle.chain.specs.Chain.{end, on}
 use Rattle.chain.proofs.ChainLaws.{end-on, chain-run, chain-stops, run-chain, run-also}
 use Rattle.header.specs.Step.{segmentEnd, stepAt, cut, moveOf, moveAt, stepsFrom}
 use Rattle.header.specs.Extent.{endedAs, extentEnd, extentOf}
 use Rattle.header.specs.Tlm.{ltlm, stlm, entryCount, Within, tlmAt}
-use Rattle.header.specs.Walk.{cutAt, plain, tlmStep, passedAt, walkStepOf, walkStepAt, WalkEnd, firstSot, refused, walkMove, walkAt, walkFrom}
-use Rattle.header.specs.declared.step.Marker.{Marker}
+use Rattle.header.specs.Walk.{plain, tlmStep, passedAt, walkStepOf, walkStepAt, firstSot, walkMove, walkAt, walkFrom}
 use Rattle.header.specs.declared.step.HeaderStep.{HeaderStep}
 use Rattle.header.specs.declared.step.HeaderStep.the-variants.{Sot, Delimiter, Segment, CutShort}
 use Rattle.header.specs.declared.tlm.Tlm.{Tlm}
-use Rattle.header.specs.declared.walk.WalkStep.{WalkStep}
 use Rattle.header.specs.declared.walk.WalkStep.the-variants.{Passed}
 use Rattle.header.specs.declared.extent.MainHeaderExtent.the-variants.{Complete, Truncated}
 use Rattle.header.proofs.StepLaws.{Told, step-told}

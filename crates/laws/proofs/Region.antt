@@ -13,7 +13,6 @@ use Rattle.header.specs.Extent.{extentOf, toldBy, enoughOf, enough}
 use Rattle.header.specs.Parse.{judgedAs, parsed, tableAfter, outAfter}
 use Rattle.header.specs.declared.numbering.Numbering.{Numbering}
 use Rattle.header.specs.declared.reading.Reading.{Reading}
-use Rattle.header.specs.declared.extent.MainHeaderExtent.{MainHeaderExtent}
 use Rattle.header.specs.declared.extent.MainHeaderExtent.the-variants.{Complete, Truncated}
 use Rattle.header.specs.declared.parse.MainHeaderInfo.{MainHeaderInfo}
 use Rattle.header.specs.declared.parse.MainHeader.{MainHeader}
@@ -25,7 +24,7 @@ use Rattle.header.proofs.ExtentPrefix.{extent-prefix}
 use Rattle.header.proofs.Enough.{accepted-complete, fewer-refused, table-enough, table-after-enough, out-after-enough, parsed-eight, parsed-enough}
 use Rattle.records.specs.MainHeader.{recordsAfter}
 use Rattle.reader.specs.Growth.{regionAt, grown, FirstWith}
-use Rattle.reader.proofs.GrowthLaws.{region-least, grown-region}
+use Rattle.reader.proofs.GrowthLaws.{region-within, region-least, grown-region}
 use Rattle.reader.proofs.GrowthFirst.{grown-first}
 use Rattle.laws.specs.Demand3.{AllBytes}
 use Rattle.laws.specs.Region.{ReadAlike}
@@ -44,22 +43,29 @@ module _ (s : List ℕ) (n : ℕ) (held : enough s ≤ n) where
       record {
         answer = same;
         table =
-          λ how rows room table.
-          ap (λ (a : MainHeader). tableAfter (how .numbering) a (take n s) table) (same how rows room)
-          ∙ table-after-enough s n held (how .numbering) (parsed how s rows room) table;
+            λ how rows room table.
+            ap (λ (a : MainHeader). tableAfter (how .numbering) a (take n s) table) (same how rows room)
+            ∙ table-after-enough s n held (how .numbering) (parsed how s rows room) table;
         records =
-          λ how rows room table.
-          ap (λ (a : MainHeader). recordsAfter (how .numbering) a (take n s) table) (same how rows room)
-          ∙ records-enough (how .numbering) (parsed how s rows room) table;
+            λ how rows room table.
+            ap (λ (a : MainHeader). recordsAfter (how .numbering) a (take n s) table) (same how rows room)
+            ∙ records-enough (how .numbering) (parsed how s rows room) table;
         out =
-          λ how rows room out.
-          ap (λ (a : MainHeader). outAfter a (take n s) out) (same how rows room) ∙ out-after-enough s n held (parsed how s rows room) out;
+            λ how rows room out.
+            ap (λ (a : MainHeader). outAfter a (take n s) out) (same how rows room) ∙ out-after-enough s n held (parsed how s rows room) out;
       }
 
   pub enough-alike : AllBytes s → length s ≤ 0xffff_ffff → ReadAlike (take n s) s
   enough-alike bytes short = alike (parsed-enough s n held short bytes)
 
 -- ---- the region at which growth ends
+
+-- where no SOT is reached, the whole
+pub growth-whole : (s : List ℕ) → extentOf s ≡ Truncated → grown s .region ≡ length s
+unfolding enough enoughOf
+growth-whole s e =
+    let all : enough s ≡ length s = ap (enoughOf (length s)) e in
+    omega (arith, all, grown-first s .has, grown-region s, region-within (length s) (grown s .enlargements))
 
 -- of every codestream of at most 2^32-1 bytes, accepted or refused
 pub region-alike : (s : List ℕ) → length s ≤ 0xffff_ffff → ReadAlike (take (grown s .region) s) s
@@ -74,7 +80,8 @@ module _ (how : Reading) (s : List ℕ) (h : MainHeaderInfo) (accepts : judgedAs
   abbrev p : ℕ
   p = h .«first_sot_offset» .0
 
-  -- the extent of each prefix is Complete(p) exactly when its length is at least p + 2, and otherwise Truncated
+  -- the extent of each prefix is Complete(p) exactly when its length is at least p + 2, and otherwise Truncated (the first n bytes; the whole where there are
+  -- no more, which has p + 2)
   pub prefix-extent : (n : ℕ) → extentOf (take n s) ≡ cond (leb (p + 2) n) (Complete (h .«first_sot_offset»)) Truncated
   unfolding toldBy
   prefix-extent n = extent-prefix s n ∙ ap (toldBy n) (accepted-complete how s h accepts)
@@ -84,12 +91,12 @@ module _ (how : Reading) (s : List ℕ) (h : MainHeaderInfo) (accepts : judgedAs
   enough-accepted = ap (enoughOf (length s)) (accepted-complete how s h accepts)
 
   -- growth ends at the first of its regions with p + 2 bytes
-  pub growth-ends : FirstWith (length s) (p + 2) (grown s .enlargements)
-  growth-ends = rw (sym enough-accepted) (grown-first s)
+  pub growth-ends : (grown s .region ≡ regionAt (length s) (grown s .enlargements)) × FirstWith (length s) (p + 2) (grown s .enlargements)
+  growth-ends = (grown-region s, rw (sym enough-accepted) (grown-first s))
 
   -- no region before it will do: the walk on it refuses, however it is read
   pub no-earlier : (again : Reading) (j : ℕ) → j < grown s .enlargements → (r : Refusal) × (judgedAs again (take (regionAt (length s) j) s) ≡ Refused r)
-  no-earlier again j few = fewer-refused how again s h accepts (regionAt (length s) j) (growth-ends .none j few)
+  no-earlier again j few = fewer-refused how again s h accepts (regionAt (length s) j) (growth-ends .1 .none j few)
 
   -- the walk on it gives the same p, decode header and table as on the whole
   pub region-accepted : ReadAlike (take (grown s .region) s) s

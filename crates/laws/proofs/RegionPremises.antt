@@ -27,7 +27,7 @@ use Rattle.header.proofs.Enough.{accepted-complete}
 use Rattle.reader.specs.Growth.{grown}
 use Rattle.laws.specs.Sample.{A}
 use Rattle.laws.proofs.SampleComputing.{extents, editions}
-use Rattle.laws.proofs.SampleEdges.{A-length, extent-59, header-58, header-59, sot-65534, sot-65535}
+use Rattle.laws.proofs.SampleEdges.{A-length, header-58, header-59, sot-65534, sot-65535}
 use Rattle.laws.proofs.SampleNumbering.{three, restarting}
 use Rattle.laws.proofs.SampleStandard.{siz}
 use Rattle.laws.proofs.Region.{prefix-extent, enough-accepted}
@@ -41,6 +41,9 @@ accepted first long entries =
 A-read : judgedAs byDefault A ≡ accepted 57 45 2
 unfolding editions
 A-read = refl
+
+A-extent : extentOf A ≡ Complete (record { 0 = 57 })
+A-extent = accepted-complete byDefault A _ A-read
 
 pub A-enough : enough A ≡ 59
 A-enough = enough-accepted byDefault A _ A-read
@@ -72,9 +75,6 @@ second-region t =
 module _ (t : List ℕ) (long : 0xffff_ffff < length (A ++ t)) where
   pub long-refused : (how : Reading) → judgedAs how (A ++ t) ≡ Refused (refusal 19 0)
   long-refused how = as-refused how (A ++ t) _ (by-refused (how .numbering) (A ++ t) _ (front-long (A ++ t) long))
-
-  A-extent : extentOf A ≡ Complete (record { 0 = 57 })
-  A-extent = accepted-complete byDefault A _ A-read
 
   pub long-region : grown (A ++ t) ≡ record { region = 65536; enlargements = 0 }
   long-region =

@@ -1,19 +1,18 @@
 -- Growth ends at the first of its regions that is enough for the header: one with the first SOT's marker, or the whole where no SOT is reached. So it can be
 -- said of numbers alone, and there is just one such region.
-use Prim.Native.Nat.{ℕ, _+_, _*_, _^_, _≤_, _<_}
+use Prim.Native.Nat.{ℕ, _+_, _≤_}
 use native.Mathlib.Omega.{arith}
 use mathlib.Core.Path.{_≡_, refl, sym, ap, _∙_}
-use mathlib.Core.Bool.{Bool, true, false, _||_}
+use mathlib.Core.Bool.{_||_}
 use mathlib.Core.List.{List}
-use lib.ListN.{length, take}
+use lib.ListN.{length}
 use lib.Dec.{leb, eqb}
-use borrow.Author.Tests.{eq-eqb, ne-eqb, le-leb, lt-leb, leb-true, leb-false, eqb-true, eqb-false}
+use borrow.Author.Tests.{ne-eqb, le-leb, lt-leb, leb-true, leb-false, eqb-true, eqb-false}
 use Rattle.numbers.proofs.Choice.{by-bool}
 use Rattle.header.specs.Extent.{extentOf, toldBy, enoughOf, enough}
 use Rattle.header.specs.declared.extent.MainHeaderExtent.{MainHeaderExtent}
 use Rattle.header.specs.declared.extent.MainHeaderExtent.the-variants.{Complete, Truncated}
 use Rattle.header.proofs.ExtentPrefix.{complete-reached, extent-prefix}
-use Rattle.reader.specs.declared.growth.Grown.{Grown}
 use Rattle.reader.specs.Growth.{regionAt, isComplete, suffices, grown, FirstWith}
 use Rattle.reader.proofs.GrowthLaws.{region-within, grown-region, grown-suffices, grown-least}
 

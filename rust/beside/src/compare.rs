@@ -37,22 +37,28 @@ impl<O: Copy> Compared for Comparison<O> {
     }
 
     fn tallies(&self, seed: u64, time: Duration) -> Vec<Tally> {
-        let tally = |wanted: &Wanted| Tally::new(wanted.name, self.minimum, wanted.answers);
-        let mut run = Run {
-            random: Random::new(seed),
-            tally: tally(&self.wanted),
-            also: self.also.iter().map(tally).collect(),
-            original: self.original,
-            until: Instant::now() + time,
-        };
+        let mut run = self.begun(seed, time);
         (self.fixed)(&mut run);
         if let Some(random) = self.random {
             while run.goes_on() {
                 random(&mut run);
             }
         }
-        run.also.insert(0, run.tally);
-        run.also
+        run.ended()
+    }
+}
+
+impl<O: Copy> Comparison<O> {
+    /// With nothing compared.
+    pub fn begun(&self, seed: u64, time: Duration) -> Run<O> {
+        let tally = |wanted: &Wanted| Tally::new(wanted.name, self.minimum, wanted.answers);
+        Run {
+            random: Random::new(seed),
+            tally: tally(&self.wanted),
+            also: self.also.iter().map(tally).collect(),
+            original: self.original,
+            until: Instant::now() + time,
+        }
     }
 }
 
@@ -70,6 +76,12 @@ impl<O> Run<O> {
     fn goes_on(&self) -> bool {
         let enough = self.tally.enough() && self.also.iter().all(Tally::enough);
         !enough || Instant::now() < self.until
+    }
+
+    /// The function's tally, and those of the others.
+    pub fn ended(mut self) -> Vec<Tally> {
+        self.also.insert(0, self.tally);
+        self.also
     }
 
     /// Checks each of what `make` makes of a copy of the random numbers, so that the rest of the run

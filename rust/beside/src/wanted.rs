@@ -322,6 +322,83 @@ pub fn next_region(capped: bool) -> &'static str {
     NEXT_REGION.answers[usize::from(capped)].0
 }
 
+/// By what the original says of the whole.
+pub const EXTENT_OF_PREFIX: Wanted = Wanted {
+    name: "extent of a prefix",
+    answers: &[(COMPLETE, 3_000), (TRUNCATED, 30_000)],
+};
+/// Of a prefix without the first SOT's marker, where the whole is accepted.
+pub const TOO_FEW: &str = "too few bytes";
+/// Of a prefix with it, in rows and in records, by what the archive says of the whole; so is all that
+/// is said of growth's region.
+pub const HEADER_OF_PREFIX: Wanted = Wanted {
+    name: "main header of a prefix",
+    answers: &[
+        (ACCEPTED, 0),
+        (TOO_FEW, 0),
+        ("refused 1", 0),
+        ("refused 2", 0),
+        ("refused 3", 0),
+        ("refused 4", 0),
+        ("refused 5", 0),
+        ("refused 6", 0),
+        ("refused 17", 0),
+        ("refused 18", 0),
+        ("refused 26", 0),
+        ("refused 33", 0),
+        ("refused 34", 0),
+    ],
+};
+pub const FIRST_REGION: &str = "the first region";
+pub const LATER_REGION: &str = "a later region";
+pub const ALL: &str = "the whole";
+pub const REGION: Wanted = Wanted {
+    name: "growth's region",
+    answers: &[(FIRST_REGION, 0), (LATER_REGION, 0), (ALL, 0)],
+};
+pub const HEADER_OF_REGION: Wanted = Wanted {
+    name: "main header of growth's region",
+    answers: &[
+        (ACCEPTED, 0),
+        ("refused 1", 0),
+        ("refused 2", 0),
+        ("refused 3", 0),
+        ("refused 4", 0),
+        ("refused 5", 0),
+        ("refused 6", 0),
+        ("refused 17", 0),
+        ("refused 18", 0),
+        ("refused 26", 0),
+        ("refused 33", 0),
+        ("refused 34", 0),
+    ],
+};
+
+/// The same four of files, and of damaged ones.
+pub const EXTENT_OF_FILE: Wanted = Wanted {
+    answers: &[(COMPLETE, 20_000), (TRUNCATED, 20_000)],
+    ..EXTENT_OF_PREFIX
+};
+pub const HEADER_OF_FILE: Wanted = Wanted {
+    answers: &[
+        (ACCEPTED, 0),
+        (TOO_FEW, 0),
+        ("refused 3", 0),
+        ("refused 17", 0),
+        ("refused 18", 0),
+    ],
+    ..HEADER_OF_PREFIX
+};
+pub const HEADER_OF_REGION_OF_FILE: Wanted = Wanted {
+    answers: &[
+        (ACCEPTED, 0),
+        ("refused 3", 0),
+        ("refused 17", 0),
+        ("refused 18", 0),
+    ],
+    ..HEADER_OF_REGION
+};
+
 /// Of component sizes; the first three are the main header's too.
 const REFUSED_COMPONENTS: [Answer; 6] = [
     ("refused 1", 25_000),

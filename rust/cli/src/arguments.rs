@@ -45,6 +45,12 @@ Examples:
   winterhasp show --json flight.jp2
   winterhasp show --edition newer flight.jp2  refused where its capabilities (CAP) don't stand as announced
 
+Fetch:
+  the file's first 59 bytes hold the header; growth fetches 89, with no enlargement
+is how much of the file has to be there for its main header, up to and with the marker of the first tile-part, and how much is
+fetched for it: growth starts with 65536 bytes, and doubles them until the header is whole or there are no more. JSON has that as
+fetch: enough, which is null where no tile-part is reached, region and enlargements.
+
 Edition:
   newer: capabilities (CAP) at byte 51 of the codestream, byte 51 of the file, as announced
 is a header of the standard's newer edition, by which high-throughput files say what they use; older: none is announced, and none

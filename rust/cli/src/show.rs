@@ -16,7 +16,7 @@ use crate::names::shown;
 use crate::offsets::Offsets;
 use crate::output::{print, tell};
 use crate::siz::{box_text, Grid, Pair, Siz};
-use crate::stages::{capabilities, packed_headers, parts_without_tlm, End, Stages, Stopped};
+use crate::stages::{capabilities, packed_headers, parts_without_tlm, End, Fetch, Stages, Stopped};
 use crate::tiles::{ranges_text, Tiles};
 use crate::trouble::{about, sentence, Refused, Status, Trouble};
 
@@ -50,6 +50,7 @@ struct Report {
     status: &'static str,
     container: Option<&'static str>,
     codestream: Option<Place>,
+    fetch: Option<FetchReport>,
     image: Option<Box>,
     tile: Option<Box>,
     grid: Option<GridReport>,
@@ -67,6 +68,15 @@ struct Report {
 struct Place {
     start: u64,
     length: u64,
+}
+
+#[derive(Serialize)]
+struct FetchReport {
+    /// Bytes from the codestream's start that hold the header; none: no SOT is reached.
+    enough: Option<u64>,
+    /// Bytes that growth fetches.
+    region: u64,
+    enlargements: u64,
 }
 
 #[derive(Serialize)]
@@ -158,6 +168,7 @@ impl Report {
             refused: refusal.map(|refusal| Refused::new(refusal, start)),
             container: stages.codestream.map(container),
             codestream: stages.codestream.map(place),
+            fetch: stages.fetch.map(FetchReport::of),
             header: header_of(&stages),
             image: None,
             tile: None,
@@ -174,9 +185,9 @@ impl Report {
         if let Some(siz) = &siz {
             report.add_siz(siz);
         }
-        if let Some(codestream) = stages.codestream {
+        if let Some((codestream, fetch)) = stages.codestream.zip(stages.fetch) {
             let parts = stages.parts;
-            let parts = parts.or_else(|| parts_of_refused(stages.refused, codestream));
+            let parts = parts.or_else(|| parts_of_refused(stages.refused, codestream, fetch));
             let grid = siz.as_ref().and_then(Siz::grid);
             report.add_parts(codestream, parts.as_deref().unwrap_or_default(), grid);
         }
@@ -230,6 +241,7 @@ impl Report {
         let in_tile = self.in_tile.iter().flat_map(InTile::lines);
         let behind = [
             ("header", self.header.as_ref().map(Header::text)),
+            ("fetch", self.fetch_text()),
             ("edition", self.header.as_ref().map(Header::edition_text)),
             ("tlm", self.header.as_ref().map(Header::tlm_text)),
             ("filler", self.header.as_ref().map(Header::filler_text)),
@@ -257,6 +269,28 @@ impl Report {
                 format!("JP2, with a codestream of {length} bytes from byte {start} of the file on")
             }
             _ => format!("none: a bare codestream of {length} bytes"),
+        })
+    }
+
+    fn fetch_text(&self) -> Option<String> {
+        let FetchReport {
+            enough,
+            region,
+            enlargements,
+        } = self.fetch.as_ref()?;
+        let fetched = match (enough, self.codestream?.start) {
+            (None, _) => format!("no tile-part is reached: growth fetches all {region} bytes"),
+            (Some(enough), 0) => {
+                format!("the file's first {enough} bytes hold the header; growth fetches {region}")
+            }
+            (Some(enough), start) => {
+                format!("{enough} bytes from byte {start} of the file on hold the header; growth fetches {region}")
+            }
+        };
+        Some(match enlargements {
+            0 => format!("{fetched}, with no enlargement"),
+            1 => format!("{fetched}, with 1 enlargement"),
+            _ => format!("{fetched}, with {enlargements} enlargements"),
         })
     }
 
@@ -341,9 +375,23 @@ fn behind_siz(refusal: Refusal) -> bool {
 }
 
 /// What the scan lists where only TLM or CAP is wrong, as the remedy says.
-fn parts_of_refused(refusal: Option<Refusal>, codestream: Codestream) -> Option<Vec<TilePart>> {
+fn parts_of_refused(
+    refusal: Option<Refusal>,
+    codestream: Codestream,
+    fetch: Fetch,
+) -> Option<Vec<TilePart>> {
     refusal.filter(|refusal| behind_siz(*refusal))?;
-    parts_without_tlm(codestream.bytes)
+    parts_without_tlm(codestream.bytes, fetch)
+}
+
+impl FetchReport {
+    fn of(fetch: Fetch) -> Self {
+        FetchReport {
+            enough: fetch.enough(),
+            region: fetch.region.length,
+            enlargements: fetch.region.enlargements,
+        }
+    }
 }
 
 impl Box {
@@ -506,6 +554,7 @@ impl Ended {
 
 #[cfg(test)]
 mod tests {
+    use std::fmt::Display;
     use std::path::Path;
 
     use winterhasp::Reading;
@@ -514,10 +563,18 @@ mod tests {
 
     const SAMPLE: &[u8] = include_bytes!("../../../crates/tileparts/stdin");
 
-    /// In words and as JSON, of the sample with these bytes between SIZ and TLM.
+    /// The sample with these bytes between SIZ and TLM.
+    fn with(between: &[u8]) -> Vec<u8> {
+        [&SAMPLE[..45], between, &SAMPLE[45..]].concat()
+    }
+
+    /// In words and as JSON, of the sample with these bytes.
     fn told(between: &[u8]) -> [String; 2] {
-        let file = [&SAMPLE[..45], between, &SAMPLE[45..]].concat();
-        let (report, _) = Report::of(Path::new("a.j2k"), &file, Reading::default(), None);
+        told_of(&with(between))
+    }
+
+    fn told_of(file: &[u8]) -> [String; 2] {
+        let (report, _) = Report::of(Path::new("a.j2k"), file, Reading::default(), None);
         [report.text(), report.json().expect("JSON")]
     }
 
@@ -559,5 +616,76 @@ mod tests {
         assert!(text.contains("\nrefused     3 47: "), "{text}");
         assert!(!text.contains("\nfiller"), "{text}");
         assert!(json.contains("\"header\":null"), "{json}");
+    }
+
+    /// What is told of a file's header, and how much of it growth fetches.
+    fn fetched(file: &[u8], told: &str, enough: impl Display, region: u64, enlargements: usize) {
+        let [text, json] = told_of(file);
+        let enlarged = [
+            "no enlargement",
+            "1 enlargement",
+            "2 enlargements",
+            "3 enlargements",
+        ];
+        let line = format!("\nfetch       {told}, with {}\n", enlarged[enlargements]);
+        assert!(text.contains(&line), "{text}");
+        let numbers =
+            format!("\"enough\":{enough},\"region\":{region},\"enlargements\":{enlargements}");
+        assert!(json.contains(&format!("\"fetch\":{{{numbers}}}")), "{json}");
+    }
+
+    /// The same of a bare codestream, in which an SOT is reached.
+    fn held(file: &[u8], enough: u64, region: u64, enlargements: usize) {
+        let told =
+            format!("the file's first {enough} bytes hold the header; growth fetches {region}");
+        fetched(file, &told, enough, region, enlargements);
+    }
+
+    #[test]
+    fn fetch_stands_behind_the_header() {
+        held(SAMPLE, 59, 89, 0);
+        let [text, _] = told(&[]);
+        assert!(
+            text.contains("\nheader      57 bytes, 45 without TLM\nfetch       the file's first ")
+        );
+        assert!(text.contains(", with no enlargement\nedition     "));
+        let before = [
+            &[0, 0, 0, 12][..],
+            b"jP  \r\n\x87\n",
+            &[0, 0, 0, 8 + 89],
+            b"jp2c",
+        ];
+        let told = "59 bytes from byte 20 of the file on hold the header; growth fetches 89";
+        fetched(&[&before.concat(), SAMPLE].concat(), told, 59, 89, 0);
+    }
+
+    #[test]
+    fn growth_ends_at_the_first_region_that_will_do() {
+        // with a comment, so that the first SOT stands there
+        let commented = |first_sot: u16| {
+            let length = first_sot - 57 - 2;
+            let body = vec![0; usize::from(length) - 2];
+            with(&[&[0xFF, 0x64], &length.to_be_bytes()[..], &body].concat())
+        };
+        held(&commented(65_534), 65_536, 65_536, 0);
+        let mut behind = commented(65_535);
+        held(&behind, 65_537, 65_567, 1);
+        behind.resize(200_000, 0);
+        held(&behind, 65_537, 131_072, 1);
+        held(&with(&[0xFF, 0x30].repeat(150_000)), 300_059, 300_089, 3);
+    }
+
+    #[test]
+    fn of_a_header_that_is_refused_fetch_is_told_too() {
+        let short_tlm = with(&[0xFF, 0x55, 0, 3, 0]);
+        held(&short_tlm, 64, 94, 0);
+        let [text, _] = told_of(&short_tlm);
+        assert!(text.contains("\nrefused     4 45: "), "{text}");
+        let told = "no tile-part is reached: growth fetches all 57 bytes";
+        fetched(&SAMPLE[..57], told, "null", 57, 0);
+        // no codestream is found
+        let [text, json] = told_of(&[0; 100]);
+        assert!(!text.contains("\nfetch"), "{text}");
+        assert!(json.contains("\"fetch\":null"), "{json}");
     }
 }

@@ -3,7 +3,7 @@
 use winterhasp::{
     find_codestream, find_marker, grow_header_region, main_header_extent,
     parse_main_header_by_reading, scan_sot_markers, Codestream, CodestreamOffset, Edition,
-    FileOffset, MainHeader, MainHeaderExtent, Numbering, Reading, Refusal, TilePart,
+    FileOffset, HeaderRegion, MainHeader, MainHeaderExtent, Numbering, Reading, Refusal, TilePart,
 };
 
 const MARKER: u64 = 2;
@@ -22,9 +22,18 @@ const LEAST: Reading = Reading {
 #[derive(Default)]
 pub struct Stages<'a> {
     pub codestream: Option<Codestream<'a>>,
+    pub fetch: Option<Fetch>,
     pub header: Option<MainHeader>,
     pub parts: Option<Vec<TilePart>>,
     pub refused: Option<Refusal>,
+}
+
+/// How much of a codestream is fetched for its main header.
+#[derive(Clone, Copy)]
+pub struct Fetch {
+    /// Where the first SOT stands, if one is reached.
+    pub first_sot: Option<CodestreamOffset>,
+    pub region: HeaderRegion,
 }
 
 /// A file that every stage accepted.
@@ -45,7 +54,9 @@ impl<'a> Stages<'a> {
     fn go(&mut self, file: &'a [u8], reading: Reading) -> Result<(), Refusal> {
         let codestream = find_codestream(file)?;
         self.codestream = Some(codestream);
-        let header = main_header(codestream.bytes, reading)?;
+        let fetch = Fetch::of(codestream.bytes);
+        self.fetch = Some(fetch);
+        let header = main_header(codestream.bytes, fetch, reading)?;
         let first_sot = header.first_sot;
         self.header = Some(header);
         self.parts = Some(scan_sot_markers(codestream.bytes, first_sot)?);
@@ -58,13 +69,31 @@ impl<'a> Stages<'a> {
     }
 }
 
+impl Fetch {
+    /// No byte behind the region is read.
+    pub fn of(codestream: &[u8]) -> Self {
+        let region = grow_header_region(codestream);
+        let first_sot = match main_header_extent(first(codestream, region.length)) {
+            MainHeaderExtent::Complete(first_sot) => Some(first_sot),
+            MainHeaderExtent::Truncated => None,
+        };
+        Fetch { first_sot, region }
+    }
+
+    /// How many bytes from the codestream's start hold the header, if it ends.
+    pub fn enough(self) -> Option<u64> {
+        self.first_sot.map(behind_marker)
+    }
+}
+
 impl<'a> Accepted<'a> {
     /// Or the refusal, and where the codestream starts in the file if it was found. The header's own table
     /// is not looked at, so it is numbered so that no number is refused.
     pub fn of(file: &'a [u8]) -> Result<Self, (Refusal, Option<FileOffset>)> {
         let codestream = find_codestream(file).map_err(|refusal| (refusal, None))?;
         let refused = |refusal| (refusal, Some(codestream.start));
-        let header = main_header(codestream.bytes, LEAST).map_err(refused)?;
+        let fetch = Fetch::of(codestream.bytes);
+        let header = main_header(codestream.bytes, fetch, LEAST).map_err(refused)?;
         let parts = scan_sot_markers(codestream.bytes, header.first_sot).map_err(refused)?;
         Ok(Accepted {
             codestream,
@@ -76,19 +105,22 @@ impl<'a> Accepted<'a> {
 
 /// Of a long codestream only the first bytes are lent. A header that ends is copied first: its
 /// reading counts in one pass and writes in the next, and a mapped file might change between them.
-fn main_header(codestream: &[u8], reading: Reading) -> Result<MainHeader, Refusal> {
-    let region = first(codestream, grow_header_region(codestream).length);
-    match main_header_extent(region) {
-        MainHeaderExtent::Complete(first_sot) => {
-            parse_main_header_by_reading(&with_first_sot(region, first_sot), reading)
+fn main_header(codestream: &[u8], fetch: Fetch, reading: Reading) -> Result<MainHeader, Refusal> {
+    match fetch.first_sot {
+        Some(first_sot) => {
+            parse_main_header_by_reading(&with_first_sot(codestream, first_sot), reading)
         }
-        MainHeaderExtent::Truncated => parse_main_header_by_reading(region, reading),
+        None => parse_main_header_by_reading(first(codestream, fetch.region.length), reading),
     }
 }
 
 /// A copy of the header, with the marker of the first SOT behind it.
 fn with_first_sot(codestream: &[u8], first_sot: CodestreamOffset) -> Vec<u8> {
-    first(codestream, first_sot.0.saturating_add(MARKER)).to_vec()
+    first(codestream, behind_marker(first_sot)).to_vec()
+}
+
+fn behind_marker(at: CodestreamOffset) -> u64 {
+    at.0.saturating_add(MARKER)
 }
 
 /// Where CAP stands in the header, which was accepted by the older edition, if it does; or what the newer
@@ -121,12 +153,8 @@ fn first(bytes: &[u8], length: u64) -> &[u8] {
 }
 
 /// The tile-parts behind a header that was refused for its TLM alone.
-pub fn parts_without_tlm(codestream: &[u8]) -> Option<Vec<TilePart>> {
-    let region = first(codestream, grow_header_region(codestream).length);
-    let MainHeaderExtent::Complete(first_sot) = main_header_extent(region) else {
-        return None;
-    };
-    scan_sot_markers(codestream, first_sot).ok()
+pub fn parts_without_tlm(codestream: &[u8], fetch: Fetch) -> Option<Vec<TilePart>> {
+    scan_sot_markers(codestream, fetch.first_sot?).ok()
 }
 
 /// Where a scan that was accepted stopped.

@@ -15,7 +15,8 @@ pub enum MainHeaderExtent {
 const COMPLETE: u32 = 1;
 
 /// Walks the header in `prefix`, the first bytes of a codestream. It never refuses, and does not ask
-/// for SIZ.
+/// for SIZ. Where the first SOT stands at p, every prefix of p + 2 bytes or more is complete, and no
+/// shorter one.
 ///
 /// ```
 /// use winterhasp::{main_header_extent, CodestreamOffset, MainHeaderExtent};

@@ -12,14 +12,17 @@ pub struct HeaderRegion {
 }
 
 /// From 65,536 bytes on doubled until the main header is whole, or the region is all of `codestream`.
+/// What [`parse_main_header`](crate::parse_main_header) says of the region is what it says of the whole,
+/// by every reading and with every refusal, but that of more than 2^32-1 bytes it refuses the whole alone.
 ///
 /// ```
-/// use winterhasp::grow_header_region;
+/// use winterhasp::{grow_header_region, parse_main_header};
 ///
 /// let mut codestream = std::fs::read("sample-a.j2k")?;
 /// codestream.resize(1 << 20, 0);
 /// let region = grow_header_region(&codestream);
 /// assert_eq!((region.length, region.enlargements), (65_536, 0));
+/// assert_eq!(parse_main_header(&codestream[..65_536]), parse_main_header(&codestream));
 /// # Ok::<(), std::io::Error>(())
 /// ```
 pub fn grow_header_region(codestream: &[u8]) -> HeaderRegion {

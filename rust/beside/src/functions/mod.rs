@@ -2,6 +2,7 @@
 
 mod assembly;
 mod components;
+mod enough;
 mod entries;
 mod extent;
 mod growth;
@@ -17,6 +18,8 @@ mod search;
 mod siz;
 mod split;
 mod whole;
+
+pub use enough::compare_files;
 
 use crate::bench::Benchmark;
 use crate::cases::Kind;
@@ -35,6 +38,7 @@ pub const COMPARISONS: &[&dyn Compared] = &[
     &pixel::COMPARISON,
     &growth::COMPARISON,
     &growth::STEP,
+    &enough::COMPARISON,
     &components::COMPARISON,
 ];
 

@@ -5,6 +5,7 @@ pub mod caps;
 pub mod codestream;
 pub mod components;
 pub mod damage;
+pub mod far;
 pub mod fillers;
 pub mod headers;
 pub mod markers;

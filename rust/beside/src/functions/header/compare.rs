@@ -6,9 +6,8 @@
 use probe::host;
 
 use super::cases::payloads;
-use super::original;
+use super::{original, records_by, rows_by};
 use crate::compare::{self, Comparison};
-use crate::functions::records;
 use crate::judge::{Case, Leaves, Told};
 use crate::lent::{room, table, Lent};
 use crate::model::header::{have_to_agree, markers, needed, parse_main_header, Header, Reading};
@@ -76,32 +75,6 @@ fn check(run: &mut Run, codestream: &[u8]) {
     check_with(run, codestream, entries, size);
 }
 
-/// Read as is said, or without a word.
-fn rows_by(
-    reading: Option<host::Reading>,
-    codestream: &[u8],
-    [table, out]: [&mut [u8]; 2],
-    values: &mut [u64; 4],
-) -> u32 {
-    match reading {
-        None => host::parse_main_header(codestream, table, out, values),
-        Some(reading) => {
-            host::parse_main_header_by_reading(codestream, reading, table, out, values)
-        }
-    }
-}
-
-fn records_by(
-    reading: host::Reading,
-    codestream: &[u8],
-    [table, out]: [&mut [u8]; 2],
-    values: &mut [u64; 4],
-) -> u32 {
-    records::instead_of(table, |table| {
-        probe::header_records(codestream, reading, table, out, values)
-    })
-}
-
 /// A reading, and what the original and the model say of it.
 struct Asked {
     reading: host::Reading,
@@ -151,14 +124,17 @@ fn check_with(run: &mut Run, codestream: &[u8], entries: usize, size: usize) {
             format!("{codestream}; table {table}, output {size}, {reading:?}")
         });
     };
-    let rows = |reading| before.left_by(|lent, values| rows_by(reading, codestream, lent, values));
-    let of_rows = |asked: &Asked| rows(Some(asked.reading));
+    let of_rows = |asked: &Asked| {
+        before.left_by(|lent, values| rows_by(asked.reading, codestream, lent, values))
+    };
+    let without_a_word = before
+        .left_by(|[table, out], values| host::parse_main_header(codestream, table, out, values));
     let of_records = |asked: &Asked| {
         before.left_by(|lent, values| records_by(asked.reading, codestream, lent, values))
     };
     judge(&mut run.tally, of_rows(&again), &again);
     judge(&mut run.also[0], of_records(&again), &again);
-    judge(&mut run.also[1], rows(None), &on);
+    judge(&mut run.also[1], without_a_word, &on);
     judge(&mut run.also[2], of_rows(&on), &on);
     judge(&mut run.also[3], of_records(&on), &on);
     judge(&mut run.also[4], of_rows(&newer), &newer);

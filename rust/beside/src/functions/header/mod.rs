@@ -5,8 +5,9 @@ mod compare;
 mod rows;
 
 use original::markers;
+use probe::host;
 
-use super::entries;
+use super::{entries, records};
 use crate::model::header::{fillers, Header};
 
 pub use cases::{CARRIED_ON, KIND, NEWER, RECORDS, RECORDS_CARRIED_ON, RECORDS_NEWER};
@@ -22,5 +23,27 @@ pub fn original(codestream: &[u8]) -> Option<Header> {
         decode_header: told.decode_header,
         entries: entries::of(&told.tlm_offset_table.unwrap_or_default()),
         fillers: fillers(codestream),
+    })
+}
+
+/// Into a table of rows, and output.
+pub fn rows_by(
+    reading: host::Reading,
+    codestream: &[u8],
+    [table, out]: [&mut [u8]; 2],
+    values: &mut [u64; 4],
+) -> u32 {
+    host::parse_main_header_by_reading(codestream, reading, table, out, values)
+}
+
+/// The same into a table of records.
+pub fn records_by(
+    reading: host::Reading,
+    codestream: &[u8],
+    [table, out]: [&mut [u8]; 2],
+    values: &mut [u64; 4],
+) -> u32 {
+    records::instead_of(table, |table| {
+        probe::header_records(codestream, reading, table, out, values)
     })
 }
