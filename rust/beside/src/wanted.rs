@@ -327,27 +327,31 @@ pub const EXTENT_OF_PREFIX: Wanted = Wanted {
     name: "extent of a prefix",
     answers: &[(COMPLETE, 3_000), (TRUNCATED, 30_000)],
 };
-/// Of a prefix without the first SOT's marker, where the whole is accepted.
-pub const TOO_FEW: &str = "too few bytes";
-/// Of a prefix with it, in rows and in records, by what the archive says of the whole; so is all that
-/// is said of growth's region.
+/// In rows and in records, by what the archive says of the whole.
+const AS_OF_THE_WHOLE: &[Answer] = &[
+    (ACCEPTED, 0),
+    ("refused 1", 0),
+    ("refused 2", 0),
+    ("refused 3", 0),
+    ("refused 4", 0),
+    ("refused 5", 0),
+    ("refused 6", 0),
+    ("refused 17", 0),
+    ("refused 18", 0),
+    ("refused 26", 0),
+    ("refused 33", 0),
+    ("refused 34", 0),
+];
+/// Of one that is enough.
 pub const HEADER_OF_PREFIX: Wanted = Wanted {
     name: "main header of a prefix",
-    answers: &[
-        (ACCEPTED, 0),
-        (TOO_FEW, 0),
-        ("refused 1", 0),
-        ("refused 2", 0),
-        ("refused 3", 0),
-        ("refused 4", 0),
-        ("refused 5", 0),
-        ("refused 6", 0),
-        ("refused 17", 0),
-        ("refused 18", 0),
-        ("refused 26", 0),
-        ("refused 33", 0),
-        ("refused 34", 0),
-    ],
+    answers: AS_OF_THE_WHOLE,
+};
+/// Where the whole is accepted.
+pub const TOO_FEW: &str = "refused";
+pub const HEADER_OF_TOO_FEW: Wanted = Wanted {
+    name: "main header of too few bytes",
+    answers: &[(TOO_FEW, 0)],
 };
 pub const FIRST_REGION: &str = "the first region";
 pub const LATER_REGION: &str = "a later region";
@@ -358,44 +362,26 @@ pub const REGION: Wanted = Wanted {
 };
 pub const HEADER_OF_REGION: Wanted = Wanted {
     name: "main header of growth's region",
-    answers: &[
-        (ACCEPTED, 0),
-        ("refused 1", 0),
-        ("refused 2", 0),
-        ("refused 3", 0),
-        ("refused 4", 0),
-        ("refused 5", 0),
-        ("refused 6", 0),
-        ("refused 17", 0),
-        ("refused 18", 0),
-        ("refused 26", 0),
-        ("refused 33", 0),
-        ("refused 34", 0),
-    ],
+    answers: AS_OF_THE_WHOLE,
 };
 
-/// The same four of files, and of damaged ones.
+/// The same of files, and of damaged ones.
 pub const EXTENT_OF_FILE: Wanted = Wanted {
     answers: &[(COMPLETE, 20_000), (TRUNCATED, 20_000)],
     ..EXTENT_OF_PREFIX
 };
+const AS_OF_THE_WHOLE_FILE: &[Answer] = &[
+    (ACCEPTED, 0),
+    ("refused 3", 0),
+    ("refused 17", 0),
+    ("refused 18", 0),
+];
 pub const HEADER_OF_FILE: Wanted = Wanted {
-    answers: &[
-        (ACCEPTED, 0),
-        (TOO_FEW, 0),
-        ("refused 3", 0),
-        ("refused 17", 0),
-        ("refused 18", 0),
-    ],
+    answers: AS_OF_THE_WHOLE_FILE,
     ..HEADER_OF_PREFIX
 };
 pub const HEADER_OF_REGION_OF_FILE: Wanted = Wanted {
-    answers: &[
-        (ACCEPTED, 0),
-        ("refused 3", 0),
-        ("refused 17", 0),
-        ("refused 18", 0),
-    ],
+    answers: AS_OF_THE_WHOLE_FILE,
     ..HEADER_OF_REGION
 };
 

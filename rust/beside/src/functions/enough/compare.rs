@@ -16,6 +16,7 @@ pub const COMPARISON: Comparison<Sides> = Comparison {
     wanted: wanted::EXTENT_OF_PREFIX,
     also: &[
         wanted::HEADER_OF_PREFIX,
+        wanted::HEADER_OF_TOO_FEW,
         wanted::REGION,
         wanted::HEADER_OF_REGION,
     ],
@@ -30,6 +31,7 @@ const FILES: Comparison<Sides> = Comparison {
     wanted: wanted::EXTENT_OF_FILE,
     also: &[
         wanted::HEADER_OF_FILE,
+        wanted::HEADER_OF_TOO_FEW,
         wanted::REGION,
         wanted::HEADER_OF_REGION_OF_FILE,
     ],

@@ -81,7 +81,7 @@ pub fn check_prefixes(run: &mut Run, codestream: &[u8]) {
             let (exact, other) = rooms(run, codestream);
             for room in [exact, other] {
                 let asked = Asked::with(&mut run.random, reading, read, room);
-                readings_of_prefixes(&mut run.also[0], codestream, &asked, enough, &ends);
+                readings_of_prefixes(run, codestream, &asked, enough, &ends);
             }
         }
     }
@@ -114,7 +114,7 @@ fn extents(run: &mut Run, codestream: &[u8], ends: &[u64]) {
 }
 
 fn readings_of_prefixes(
-    tally: &mut Tally,
+    run: &mut Run,
     codestream: &[u8],
     asked: &Asked,
     enough: u64,
@@ -124,13 +124,11 @@ fn readings_of_prefixes(
     let of_whole = asked.of(codestream);
     for &end in ends {
         let part = first(codestream, end);
-        if end < enough {
-            if of_whole.status == 0 {
-                let refused = asked.of(part).status != 0;
-                tally.compare_by_the_document(TOO_FEW, &refused, &true, || asked.input(part));
-            }
-        } else if end <= enough + MORE || end == length {
-            asked.alike(tally, part, &of_whole);
+        if end >= enough && (end <= enough + MORE || end == length) {
+            asked.alike(&mut run.also[0], part, &of_whole);
+        } else if end < enough && of_whole.status == 0 {
+            let refused = asked.of(part).status != 0;
+            run.also[1].compare_by_the_document(TOO_FEW, &refused, &true, || asked.input(part));
         }
     }
 }
@@ -146,14 +144,14 @@ pub fn check_region(run: &mut Run, codestream: &[u8]) {
         _ => LATER_REGION,
     };
     let input = || hex_of_front(codestream);
-    run.also[1].compare_by_the_document(kind, &ours, &expected, input);
+    run.also[2].compare_by_the_document(kind, &ours, &expected, input);
     for reading in READINGS {
         let read = run.random.pick(&run.original.headers);
         let (exact, other) = rooms(run, codestream);
         let room = run.random.pick(&[exact, other]);
         let asked = Asked::with(&mut run.random, reading, read, room);
         let of_whole = asked.of(codestream);
-        asked.alike(&mut run.also[2], first(codestream, ours[0]), &of_whole);
+        asked.alike(&mut run.also[3], first(codestream, ours[0]), &of_whole);
     }
 }
 
@@ -233,12 +231,13 @@ mod tests {
 
     /// Of the sample and others, whole and far out.
     fn holds(sides: Sides) -> bool {
-        holds_on::<3, _>(sides, |run| {
+        holds_on::<4, _>(sides, |run| {
             let sample = sample_a();
             check_prefixes(run, &sample);
             check_prefixes(run, &sample[..56]);
-            check_prefixes(run, &caps::one(8, 1));
-            check_prefixes(run, &caps::one(7, 1));
+            for lcap in [7, 8] {
+                check_prefixes(run, &[caps::one(lcap, 1), vec![0; 10]].concat());
+            }
             // the first SOT's marker ends before, at and behind the end of the first region
             for bytes in 65_476..=65_478 {
                 check_region(run, &padded(&sample, bytes, 70_000));
@@ -299,11 +298,11 @@ mod tests {
             // output written behind, and a table touched where it is refused
             |reading, codestream, lent, values| {
                 let status = super::rows_by(reading, codestream, lent, values);
-                values[3] += codestream.len() as u64 & 1;
+                values[3] ^= codestream.len() as u64 & 1;
                 status
             },
             |mut reading, codestream, lent, values| {
-                reading.edition = u32::from(codestream.len() > 20);
+                reading.edition = u32::from(codestream.len() > 24);
                 super::rows_by(reading, codestream, lent, values)
             },
             |reading, codestream, [table, out], values| {
