@@ -13,6 +13,7 @@ use Rattle.types.specs.declared.Refusal.{Refusal}
 use Rattle.header.specs.Extent.{extentOf, toldBy, enoughOf, enough}
 use Rattle.header.specs.Walk.{walkFrom}
 use Rattle.header.specs.Parse.{judgedBy, judgedAs, parsed, tableBy, tableAfter, outAfter}
+use Rattle.header.specs.Find.{finding}
 use Rattle.header.specs.declared.extent.MainHeaderExtent.{MainHeaderExtent}
 use Rattle.header.specs.declared.extent.MainHeaderExtent.the-variants.{Complete, Truncated}
 use Rattle.header.specs.declared.numbering.Numbering.{Numbering}
@@ -24,9 +25,9 @@ use Rattle.header.proofs.NumberingLaws.{by-accepted}
 use Rattle.header.proofs.EditionLaws.{as-accepted}
 use Rattle.header.proofs.ParseLaws.{judged-read, opens-with}
 use Rattle.header.proofs.Editions.{eight-inside}
-use Rattle.header.proofs.ExtentPrefix.{Reached, complete-reached, reached-complete, reached-less, extent-prefix}
+use Rattle.header.proofs.ExtentPrefix.{Reached, complete-reached, reached-complete, extent-less, extent-prefix}
 use Rattle.header.proofs.WalkPrefix.{accepted-reached}
-use Rattle.header.proofs.ParsePrefix.{parsed-prefix, table-prefix, table-after-prefix, out-after-prefix}
+use Rattle.header.proofs.ParsePrefix.{finding-prefix, parsed-prefix, table-prefix, table-after-prefix, out-after-prefix}
 
 -- ---- what the walk accepts
 
@@ -66,10 +67,7 @@ module _ (s : List ℕ) (n : ℕ) (held : enough s ≤ n) where
   by-extent : {X : Type 0} (F : List ℕ → X) (extent : MainHeaderExtent) → extentOf s ≡ extent → enoughOf (length s) extent ≤ n
       → (Held (take n s) → F (take n s ++ drop n s) ≡ F (take n s)) → F (take n s) ≡ F s
   unfolding enoughOf
-  by-extent F (Complete at) e h same =
-      let r = complete-reached (take n s ++ drop n s) at (ap extentOf (take-append-drop n s) ∙ e) in
-      let whole = complete-reached s at e .inside in
-      sym (same (at .0, reached-less (take n s) (drop n s) r (omega (arith, whole, length-take n s)))) ∙ ap F (take-append-drop n s)
+  by-extent F (Complete at) e h same = sym (same (at .0, complete-reached (take n s) at (extent-less s n at e h))) ∙ ap F (take-append-drop n s)
   by-extent F Truncated e h same = ap F (take-all n s h)
 
   -- whatever a prefix that holds the first SOT has in common with the whole
@@ -88,11 +86,18 @@ module _ (s : List ℕ) (n : ℕ) (held : enough s ≤ n) where
   out-after-enough answer out = by-enough (λ (x : List ℕ). outAfter answer x out) (λ r. out-after-prefix (take n s) (drop n s) (r .1) answer out)
 
   module _ (short : length s ≤ 0xffff_ffff) where
+    -- no longer than that
+    no-longer : length (take n s ++ drop n s) ≤ 0xffff_ffff
+    no-longer = rw (take-append-drop n s) short
+
+    pub finding-enough : (marker : ℕ) → finding (take n s) marker ≡ finding s marker
+    finding-enough marker = by-enough (λ (x : List ℕ). finding x marker) (λ r. finding-prefix (take n s) (drop n s) (r .1) no-longer marker)
+
     parsed-by : ((m : Numbering) (h : MainHeaderInfo) → judgedBy m (take n s) ≡ Header h → 8 ≤ length (take n s))
         → (how : Reading) (rows room : ℕ) → parsed how (take n s) rows room ≡ parsed how s rows room
     parsed-by eight how rows room =
         by-enough (λ (x : List ℕ). parsed how x rows room)
-        (λ r. parsed-prefix (take n s) (drop n s) (r .1) (rw (take-append-drop n s) short) eight how rows room)
+        (λ r. parsed-prefix (take n s) (drop n s) (r .1) no-longer eight how rows room)
 
     -- 8 bytes, unless they are all
     pub parsed-eight : (n < length s → 8 ≤ n) → (how : Reading) (rows room : ℕ) → parsed how (take n s) rows room ≡ parsed how s rows room

@@ -178,8 +178,8 @@ module _ (s : List ℕ) (n : ℕ) where
       (ap extentOf (sym (take-append-drop n s)) ∙ extent-more (take n s) (drop n s) at e, omega (arith, complete-reached (take n s) at e .inside, length-take n s))
 
   -- the other way round
-  told-prefix : (at : CodestreamOffset) → extentOf s ≡ Complete at → at .0 + 2 ≤ n → extentOf (take n s) ≡ Complete at
-  told-prefix at e h =
+  pub extent-less : (at : CodestreamOffset) → extentOf s ≡ Complete at → at .0 + 2 ≤ n → extentOf (take n s) ≡ Complete at
+  extent-less at e h =
       let r = complete-reached (take n s ++ drop n s) at (ap extentOf (take-append-drop n s) ∙ e) in
       let whole = complete-reached s at e .inside in
       reached-complete (take n s) (reached-less (take n s) (drop n s) r (omega (arith, whole, length-take n s)))
@@ -188,7 +188,7 @@ module _ (s : List ℕ) (n : ℕ) where
   unfolding toldBy
   by-extents (Complete at) part e k =
       by-bool (leb (at .0 + 2) n)
-      (λ h. rw h (told-prefix at e (leb-true (at .0 + 2) n h)))
+      (λ h. rw h (extent-less at e (leb-true (at .0 + 2) n h)))
       (λ h. rw h (k ∙ short part k (leb-false (at .0 + 2) n h)))
     where
       short : (part : MainHeaderExtent) → extentOf (take n s) ≡ part → n < at .0 + 2 → part ≡ Truncated

@@ -24,7 +24,8 @@ use Rattle.header.specs.Walk.{WalkEnd, firstSot, refused, walkAt, walkFr
 use Rattle.header.specs.Strip.{isTlm, fillers, kept, decodeHeader, tlmEntries}
 use Rattle.header.specs.Numbering.{nextNumber, entriesBy, endedBy}
 use Rattle.header.specs.Edition.{announced, capsIn, lcap, capFits, capped, inEdition}
-use Rattle.header.specs.Parse.{readAs, frontOf, behindFrontBy, judgedBy, judgedAs, withRoom, parsed, tableBy, tableAfter, outAfter}
+use Rattle.header.specs.Parse.{readAs, frontOf, judged, behindFrontBy, judgedBy, judgedAs, withRoom, parsed, tableBy, tableAfter, outAfter}
+use Rattle.header.specs.Find.{firstOf, findIn, finding}
 use Rattle.header.specs.declared.numbering.Numbering.{Numbering}
 use Rattle.header.specs.declared.numbering.Numbering.the-variants.{CarriedOn, Restarting}
 use Rattle.header.specs.declared.edition.Edition.{Edition}
@@ -38,7 +39,7 @@ use Rattle.header.specs.declared.parse.MainHeader.the-variants.{Header, 
 use Rattle.header.proofs.TlmFill.{entry-inside}
 use Rattle.header.proofs.WalkLaws.{not-true-false, passed-is, on-passed, walk-rises}
 use Rattle.header.proofs.WalkItems.{Item, delimiter, segment, item, item-long}
-use Rattle.header.proofs.NumberingLaws.{entries-restart}
+use Rattle.header.proofs.NumberingLaws.{entries-restart, judged-restart}
 use Rattle.header.proofs.EditionLaws.{fits-short, cap-no-delimiter}
 use Rattle.header.proofs.ParseLaws.{stands-front}
 use Rattle.header.proofs.ExtentPrefix.{Reached, reached-four, longer}
@@ -131,12 +132,13 @@ module _ (q t : List ℕ) where
     strips : kept (q ++ t) visits ≡ kept q visits
     entries : (n : Numbering) (k : ℕ) → entriesBy n (q ++ t) k visits ≡ entriesBy n q k visits
     ends : (n : Numbering) (k : ℕ) (ended : WalkEnd) → endedBy n (q ++ t) k visits ended ≡ endedBy n q k visits ended
+    finds : (marker : ℕ) → firstOf (q ++ t) marker visits ≡ firstOf q marker visits
     caps : capsIn (q ++ t) visits ≡ capsIn q visits
     fits : Fits (capsIn q visits)
 
   same : {at stop : ℕ} {visits : List Visit} → Run (walkAt q) at visits stop → Same visits
-  unfolding fillers kept entriesBy endedBy capsIn
-  same stay = record { filled = refl; strips = refl; entries = λ n k. refl; ends = λ n k ended. refl; caps = refl; fits = tt }
+  unfolding fillers kept entriesBy endedBy firstOf capsIn
+  same stay = record { filled = refl; strips = refl; entries = λ n k. refl; ends = λ n k ended. refl; finds = λ marker. refl; caps = refl; fits = tt }
   same (step {at = at} {next = next} {rest = rest} found past more) =
       let s = same more in
       let v : Visit = record { at = at; next = next } in
@@ -155,6 +157,7 @@ module _ (q t : List ℕ) where
             (λ is. let a = tlm-accepted at next found (eqb-true (be 2 q at) TLM is) in
             rw (marker, is, next-same at a n k, s .ends n (nextNumber n q at k) ended))
             (λ is. rw (marker, is) (s .ends n k ended));
+        finds = λ code. rw (marker, s .finds code);
         caps = rw (marker, s .caps);
         fits = by-test Fits (eqb (be 2 q at) CAP) (λ is. fits-same at next found (eqb-true (be 2 q at) CAP is)) (λ _. s .fits);
       }
@@ -196,6 +199,16 @@ module _ (q t : List ℕ) where
               ∙ ap (readAs (q ++ t) (walkFrom q 2)) (along .ends n 0 (walkFrom q 2 .ended))
               ∙ read-same (endedBy n q 0 (walkFrom q 2 .visits) (walkFrom q 2 .ended))
           by (front.Refused x) = refl
+
+      -- the walk's own answer, so where a marker stands
+      pub finding-prefix : (marker : ℕ) → finding (q ++ t) marker ≡ finding q marker
+      unfolding finding findIn
+      finding-prefix marker =
+          ap (λ (answer : MainHeader). findIn answer (q ++ t) marker) (sym (judged-restart (q ++ t)) ∙ by-prefix Restarting ∙ judged-restart q) ∙ by (judged q)
+        where
+          by : (answer : MainHeader) → findIn answer (q ++ t) marker ≡ findIn answer q marker
+          by (Header h) = ap (λ (c : Chain WalkEnd). firstOf (q ++ t) marker (c .visits)) (walk-prefix q t r) ∙ along .finds marker
+          by (Refused x) = refl
 
       -- in the newer edition by the bytes 6 and 7, which lie inside what is accepted
       module _ (eight : (n : Numbering) (h : MainHeaderInfo) → judgedBy n q ≡ Header h → 8 ≤ length q) where

@@ -21,7 +21,7 @@ use Rattle.header.proofs.NumberingLaws.{by-accepted}
 use Rattle.header.proofs.EditionLaws.{as-accepted}
 use Rattle.header.proofs.ParseLaws.{judged-read}
 use Rattle.header.proofs.ExtentPrefix.{extent-prefix}
-use Rattle.header.proofs.Enough.{accepted-complete, fewer-refused, table-enough, table-after-enough, out-after-enough, parsed-eight, parsed-enough}
+use Rattle.header.proofs.Enough.{accepted-complete, fewer-refused, table-enough, table-after-enough, out-after-enough, finding-enough, parsed-eight, parsed-enough}
 use Rattle.records.specs.MainHeader.{recordsAfter}
 use Rattle.reader.specs.Growth.{regionAt, grown, FirstWith}
 use Rattle.reader.proofs.GrowthLaws.{region-within, region-least, grown-region}
@@ -38,8 +38,8 @@ module _ (s : List ℕ) (n : ℕ) (held : enough s ≤ n) where
   records-enough m (Refused r) table = refl
 
   -- with the answers all else is the same
-  alike : ((how : Reading) (rows room : ℕ) → parsed how (take n s) rows room ≡ parsed how s rows room) → ReadAlike (take n s) s
-  alike same =
+  alike : length s ≤ 0xffff_ffff → ((how : Reading) (rows room : ℕ) → parsed how (take n s) rows room ≡ parsed how s rows room) → ReadAlike (take n s) s
+  alike short same =
       record {
         answer = same;
         table =
@@ -53,10 +53,11 @@ module _ (s : List ℕ) (n : ℕ) (held : enough s ≤ n) where
         out =
             λ how rows room out.
             ap (λ (a : MainHeader). outAfter a (take n s) out) (same how rows room) ∙ out-after-enough s n held (parsed how s rows room) out;
+        marker = finding-enough s n held short;
       }
 
   pub enough-alike : AllBytes s → length s ≤ 0xffff_ffff → ReadAlike (take n s) s
-  enough-alike bytes short = alike (parsed-enough s n held short bytes)
+  enough-alike bytes short = alike short (parsed-enough s n held short bytes)
 
 -- ---- the region at which growth ends
 
@@ -71,7 +72,7 @@ growth-whole s e =
 pub region-alike : (s : List ℕ) → length s ≤ 0xffff_ffff → ReadAlike (take (grown s .region) s) s
 region-alike s short =
     let held : enough s ≤ grown s .region = rw (grown-region s) (grown-first s .has) in
-    alike s (grown s .region) held
+    alike s (grown s .region) held short
     (parsed-eight s (grown s .region) held short (λ part. omega (arith, grown-region s, region-least (length s) (grown s .enlargements))))
 
 -- ---- where the walk accepts with the first SOT at p

@@ -325,7 +325,7 @@ pub fn next_region(capped: bool) -> &'static str {
 /// By what the original says of the whole.
 pub const EXTENT_OF_PREFIX: Wanted = Wanted {
     name: "extent of a prefix",
-    answers: &[(COMPLETE, 3_000), (TRUNCATED, 30_000)],
+    answers: &[(COMPLETE, 2_000), (TRUNCATED, 30_000)],
 };
 /// In rows and in records, by what the archive says of the whole.
 const AS_OF_THE_WHOLE: &[Answer] = &[
@@ -353,6 +353,20 @@ pub const HEADER_OF_TOO_FEW: Wanted = Wanted {
     name: "main header of too few bytes",
     answers: &[(TOO_FEW, 0)],
 };
+/// And in growth's region.
+pub const MARKER_OF_PREFIX: Wanted = Wanted {
+    name: "marker in a prefix",
+    answers: &[
+        (ACCEPTED, 0),
+        (NO_MARKER, 0),
+        ("refused 1", 0),
+        ("refused 2", 0),
+        ("refused 3", 0),
+        ("refused 4", 0),
+        ("refused 5", 0),
+        ("refused 6", 0),
+    ],
+};
 pub const FIRST_REGION: &str = "the first region";
 pub const LATER_REGION: &str = "a later region";
 pub const ALL: &str = "the whole";
@@ -379,6 +393,10 @@ const AS_OF_THE_WHOLE_FILE: &[Answer] = &[
 pub const HEADER_OF_FILE: Wanted = Wanted {
     answers: AS_OF_THE_WHOLE_FILE,
     ..HEADER_OF_PREFIX
+};
+pub const MARKER_OF_FILE: Wanted = Wanted {
+    answers: &[(ACCEPTED, 0), (NO_MARKER, 0), ("refused 3", 0)],
+    ..MARKER_OF_PREFIX
 };
 pub const HEADER_OF_REGION_OF_FILE: Wanted = Wanted {
     answers: AS_OF_THE_WHOLE_FILE,

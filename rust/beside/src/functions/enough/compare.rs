@@ -17,6 +17,7 @@ pub const COMPARISON: Comparison<Sides> = Comparison {
     also: &[
         wanted::HEADER_OF_PREFIX,
         wanted::HEADER_OF_TOO_FEW,
+        wanted::MARKER_OF_PREFIX,
         wanted::REGION,
         wanted::HEADER_OF_REGION,
     ],
@@ -32,6 +33,7 @@ const FILES: Comparison<Sides> = Comparison {
     also: &[
         wanted::HEADER_OF_FILE,
         wanted::HEADER_OF_TOO_FEW,
+        wanted::MARKER_OF_FILE,
         wanted::REGION,
         wanted::HEADER_OF_REGION_OF_FILE,
     ],

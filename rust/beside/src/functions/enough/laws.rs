@@ -8,12 +8,14 @@ use crate::caught::caught;
 use crate::compare;
 use crate::functions::header::{records_by, rows_by};
 use crate::lent::{room, table, Lent};
-use crate::model::header::{needed, Reading};
+use crate::model::header::{needed, Reading, NO_SUCH_MARKER};
 use crate::model::Refusal;
 use crate::random::Random;
 use crate::readings;
+use crate::sample::codestream::{CAP, COM, SIZ, SOT, TLM};
+use crate::sample::markers::code;
 use crate::tally::{hex_of_front, Tally};
-use crate::wanted::{ALL, COMPLETE, FIRST_REGION, LATER_REGION, TOO_FEW, TRUNCATED};
+use crate::wanted::{ALL, COMPLETE, FIRST_REGION, LATER_REGION, NO_MARKER, TOO_FEW, TRUNCATED};
 
 pub type Run = compare::Run<Sides>;
 
@@ -24,6 +26,8 @@ pub struct Sides {
     pub extent: fn(&[u8]) -> Option<u64>,
     /// In rows, and in records.
     pub headers: [ReadHeader; 2],
+    /// The status, and where the marker stands.
+    pub find: fn(&[u8], u16) -> (u32, u64),
     /// The region's bytes, and the enlargements.
     pub region: fn(&[u8]) -> [u64; 2],
 }
@@ -34,6 +38,7 @@ pub const SIDES: Sides = Sides {
     original: main_header_extent,
     extent,
     headers: [rows_by, records_by],
+    find,
     region,
 };
 
@@ -63,6 +68,11 @@ fn extent(prefix: &[u8]) -> Option<u64> {
     }
 }
 
+fn find(codestream: &[u8], marker: u16) -> (u32, u64) {
+    let mut at = 0;
+    (host::find_marker(codestream, marker, &mut at), at)
+}
+
 fn region(codestream: &[u8]) -> [u64; 2] {
     let mut numbers = [0; 2];
     host::grow_header_region(codestream, &mut numbers);
@@ -85,6 +95,7 @@ pub fn check_prefixes(run: &mut Run, codestream: &[u8]) {
             }
         }
     }
+    markers(run, codestream, first(codestream, enough));
 }
 
 /// Through the first SOT's marker, or all.
@@ -144,14 +155,29 @@ pub fn check_region(run: &mut Run, codestream: &[u8]) {
         _ => LATER_REGION,
     };
     let input = || hex_of_front(codestream);
-    run.also[2].compare_by_the_document(kind, &ours, &expected, input);
+    run.also[3].compare_by_the_document(kind, &ours, &expected, input);
     for reading in READINGS {
         let read = run.random.pick(&run.original.headers);
         let (exact, other) = rooms(run, codestream);
         let room = run.random.pick(&[exact, other]);
         let asked = Asked::with(&mut run.random, reading, read, room);
         let of_whole = asked.of(codestream);
-        asked.alike(&mut run.also[3], first(codestream, ours[0]), &of_whole);
+        asked.alike(&mut run.also[4], first(codestream, ours[0]), &of_whole);
+    }
+    markers(run, codestream, first(codestream, ours[0]));
+}
+
+/// Where each stands in the whole, and in a part of it that is enough.
+fn markers(run: &mut Run, codestream: &[u8], part: &[u8]) {
+    let find = run.original.find;
+    for marker in [SIZ, TLM, COM, CAP, SOT, code(&mut run.random, codestream)] {
+        let whole = find(codestream, marker);
+        let label = match whole.0 {
+            NO_SUCH_MARKER => NO_MARKER,
+            status => Refusal::new(status, 0).label(),
+        };
+        let input = || format!("marker {marker:04X} of {}", hex_of_front(part));
+        run.also[2].compare_by_the_document(label, &find(part, marker), &whole, input);
     }
 }
 
@@ -231,7 +257,7 @@ mod tests {
 
     /// Of the sample and others, whole and far out.
     fn holds(sides: Sides) -> bool {
-        holds_on::<4, _>(sides, |run| {
+        holds_on::<5, _>(sides, |run| {
             let sample = sample_a();
             check_prefixes(run, &sample);
             check_prefixes(run, &sample[..56]);
@@ -287,6 +313,25 @@ mod tests {
         ];
         for (nth, region) in wrong.into_iter().enumerate() {
             assert!(!holds(Sides { region, ..SIDES }), "{nth}");
+        }
+    }
+
+    #[test]
+    fn another_place_of_a_marker_shows() {
+        let wrong: [fn(&[u8], u16) -> (u32, u64); 2] = [
+            // counted from the end, and as two bytes wherever they are
+            |codestream, marker| {
+                let (status, at) = super::find(codestream, marker);
+                (status, codestream.len() as u64 - at)
+            },
+            |codestream, marker| {
+                let code = marker.to_be_bytes();
+                let at = codestream.windows(2).rposition(|bytes| bytes == code);
+                at.map_or((257, 0), |at| (0, at as u64))
+            },
+        ];
+        for (nth, find) in wrong.into_iter().enumerate() {
+            assert!(!holds(Sides { find, ..SIDES }), "{nth}");
         }
     }
 
