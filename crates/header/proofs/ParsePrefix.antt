@@ -123,7 +123,7 @@ module _ (q t : List ℕ) where
   unfolding capped
   capped-fits true [] f h = refl
   capped-fits true (at ∷ []) f h = rw f
-  capped-fits true (at ∷ again ∷ more) f h = refl
+  capped-fits true (at ∷ again ∷ more) f h = cc
   capped-fits false [] f h = refl
   capped-fits false (at ∷ more) f h = refl
 
@@ -175,6 +175,9 @@ module _ (q t : List ℕ) where
 
     tlm-same : tlmEntries (q ++ t) (walkFrom q 2 .visits) ≡ tlmEntries q (walkFrom q 2 .visits)
     tlm-same = sym (entries-restart (q ++ t) (walkFrom q 2 .visits)) ∙ along .entries Restarting 0 ∙ entries-restart q (walkFrom q 2 .visits)
+
+    header-same : decodeHeader (q ++ t) (walkFrom (q ++ t) 2 .visits) ≡ decodeHeader q (walkFrom q 2 .visits)
+    header-same = ap (λ (c : Chain WalkEnd). decodeHeader (q ++ t) (c .visits)) (walk-prefix q t r) ∙ decode-same
 
     read-same : (ended : WalkEnd) → readAs (q ++ t) (walkFrom q 2) ended ≡ readAs q (walkFrom q 2) ended
     unfolding readAs
@@ -248,7 +251,5 @@ module _ (q t : List ℕ) where
 
     pub out-after-prefix : (answer : MainHeader) (out : List ℕ) → outAfter answer (q ++ t) out ≡ outAfter answer q out
     unfolding outAfter
-    out-after-prefix (Header h) out =
-        ap (λ (c : Chain WalkEnd). decodeHeader (q ++ t) (c .visits) ++ drop (h .«decode_header_length») out) (walk-prefix q t r)
-        ∙ ap (λ (bs : List ℕ). bs ++ drop (h .«decode_header_length») out) decode-same
-    out-after-prefix (Refused x) out = refl
+    out-after-prefix (Header h) out = simp header-same
+    out-after-prefix (Refused x) out = let same = header-same in (cc)

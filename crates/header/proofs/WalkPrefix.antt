@@ -65,7 +65,7 @@ module _ (q t : List ℕ) where
       -- Stlm lies inside where Ltlm is 4 or more
       pub stlm-more : 4 ≤ ltlm q at → stlm (q ++ t) at ≡ stlm q at
       unfolding segmentEnd
-      stlm-more long = List·getD-append q t 0 (at + 5) (omega (arith, w .ends))
+      stlm-more long = List·getD-append q t 0 _ (omega (arith, w .ends))
 
       pub count-more : 4 ≤ ltlm q at → entryCount (q ++ t) at ≡ entryCount q at
       unfolding entryCount
