@@ -99,8 +99,8 @@ Proofs of single functions stand in `proofs/MODULE/FUNCTION/Proof.antt`.
 TAIL = """
 Over all of them stands crate `laws`, with no code: `proofs/Demand3*.antt` (what a codestream that is accepted promises of
 the tiles cut out of it), `proofs/Sample*.antt` (sample A and the edges of the rules), `proofs/Settled.antt` (each entry point's
-contract settles its outcome) and `proofs/Rows.antt` (tables of rows and of records agree). Crate `chain`, with no code either,
-says what a walk is: `specs/Chain.antt`, `proofs/ChainLaws.antt`.
+contract settles its outcome), `proofs/Rows.antt` (tables of rows and of records agree) and `proofs/Region*.antt` (how much header
+is enough). Crate `chain`, with no code either, says what a walk is: `specs/Chain.antt`, `proofs/ChainLaws.antt`.
 """
 
 

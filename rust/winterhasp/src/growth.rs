@@ -12,8 +12,9 @@ pub struct HeaderRegion {
 }
 
 /// From 65,536 bytes on doubled until the main header is whole, or the region is all of `codestream`.
-/// What [`parse_main_header`](crate::parse_main_header) says of the region is what it says of the whole,
-/// by every reading and with every refusal, but that of more than 2^32-1 bytes it refuses the whole alone.
+/// Of a codestream of at most 2^32-1 bytes the region is read as the whole is, by
+/// [`parse_main_header`](crate::parse_main_header) with every reading, and with every refusal; a longer one
+/// is refused whole, and is read by its region if that is no longer.
 ///
 /// ```
 /// use winterhasp::{grow_header_region, parse_main_header};
