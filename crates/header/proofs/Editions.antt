@@ -13,7 +13,7 @@ use Rattle.numbers.proofs.Choice.{by-test, by-bool}
 use Rattle.types.specs.Markers.{SOC, SIZ, TLM, SOT}
 use Rattle.types.specs.declared.Refusal.{Refusal}
 use Rattle.chain.specs.Chain.{Move, end, on, Visit, Run, stay, step}
-use Rattle.chain.proofs.ChainLaws.{chain-run, chain-stops, run-rises}
+use Rattle.chain.proofs.ChainLaws.{run-rises}
 use Rattle.header.specs.Step.{delimits, segmentEnd, stepAt}
 use Rattle.header.specs.Tlm.{ltlm, stlm, indexSize, tlmAt}
 use Rattle.header.specs.Walk.{cutAt, tlmStep, passedAt, walkStepOf, walkStepAt, WalkEnd, firstSot, refused, walkMove, walkAt, walkFrom}
@@ -36,7 +36,7 @@ use Rattle.header.specs.declared.parse.MainHeader.the-variants.{Header, 
 use Rattle.header.proofs.NumberingLaws.{refused-header, by-accepted}
 use Rattle.header.proofs.EditionLaws.{capsFrom, as-accepted, as-refused, as-older, as-newer}
 use Rattle.header.proofs.ParseLaws.{judged-read, opens-with}
-use Rattle.header.proofs.WalkLaws.{not-true-false, walk-rises}
+use Rattle.header.proofs.WalkLaws.{not-true-false, walk-run, walk-stops}
 use Rattle.header.proofs.WalkItems.{Item, delimiter, segment, item, ends-there}
 
 -- ---- bytes 6 and 7
@@ -78,10 +78,7 @@ module _ (s : List ℕ) (bytes : (i : ℕ) → getD s i 0 < 256) where
 
   -- they lie inside every codestream that the walk accepts
   pub eight-inside : (h : MainHeaderInfo) → judged s ≡ Header h → 8 ≤ length s
-  unfolding walkFrom
-  eight-inside h e =
-      from-siz (opens-with s h e .1) (chain-run firstSot (walkAt s) (length s) (walk-rises s) 2)
-      (chain-stops firstSot (walkAt s) (length s) (walk-rises s) 2 ∙ ap end (judged-read s h e .ends))
+  eight-inside h e = from-siz (opens-with s h e .1) (walk-run s 2) (walk-stops s 2 ∙ ap end (judged-read s h e .ends))
 
   -- so they do however it is read
   pub eight-read : (how : Reading) (h : MainHeaderInfo) → judgedAs how s ≡ Header h → 8 ≤ length s
@@ -123,8 +120,7 @@ few-at s at = by (stepAt s at)
     by CutShort = by-cut
 
 few-walk : (s : List ℕ) → Few (walkFrom s 2 .ended)
-unfolding walkFrom
-few-walk s = rw (chain-stops firstSot (walkAt s) (length s) (walk-rises s) 2) at (few-at s (walkFrom s 2 .stopped))
+few-walk s = rw (walk-stops s 2) at (few-at s (walkFrom s 2 .stopped))
 
 -- a numbering's
 few-by : (n : Numbering) (s : List ℕ) (k : ℕ) (vs : List Visit) (ended : WalkEnd) → Few ended → Few (endedBy n s k vs ended)

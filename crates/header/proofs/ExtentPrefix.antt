@@ -110,12 +110,12 @@ module _ (q t : List ℕ) where
     pub step-more : (stepAt q at ≡ CutShort → ⊥) → stepAt (q ++ t) at ≡ stepAt q at
     step-more whole = told-more (stepAt q at) (step-told q at) whole
 
-    pub move-more : (next : ℕ) → moveAt q at ≡ on next → moveAt (q ++ t) at ≡ on next
+    move-more : (next : ℕ) → moveAt q at ≡ on next → moveAt (q ++ t) at ≡ on next
     unfolding moveAt moveOf
     move-more next e = ap moveOf (step-more (λ c. end-on (sym (ap moveOf c) ∙ e))) ∙ e
 
     -- with two bytes behind it, so that a length field is held
-    pub move-less : (next : ℕ) → next + 2 ≤ length q → moveAt (q ++ t) at ≡ on next → moveAt q at ≡ on next
+    move-less : (next : ℕ) → next + 2 ≤ length q → moveAt (q ++ t) at ≡ on next → moveAt q at ≡ on next
     unfolding moveAt moveOf segmentEnd
     move-less next inside e = by (stepAt (q ++ t) at) (step-told (q ++ t) at) e
       where
@@ -139,7 +139,7 @@ module _ (q t : List ℕ) where
 
   -- ---- the first SOT of a prefix, and in a prefix
 
-  pub reached-more : {at : ℕ} → Reached q at → Reached (q ++ t) at
+  reached-more : {at : ℕ} → Reached q at → Reached (q ++ t) at
   reached-more r =
       let l = longer in
       let inside = r .inside in
@@ -151,7 +151,7 @@ module _ (q t : List ℕ) where
         sot = be-front 2 q t _ inside ∙ r .sot;
       }
 
-  pub reached-less : {at : ℕ} → Reached (q ++ t) at → at + 2 ≤ length q → Reached q at
+  reached-less : {at : ℕ} → Reached (q ++ t) at → at + 2 ≤ length q → Reached q at
   reached-less r inside =
       let past = run-rises (r .run) in
       record {

@@ -14,7 +14,7 @@ use Rattle.types.specs.Markers.{TLM}
 use Rattle.types.specs.Refusals.{refusal}
 use Rattle.types.specs.declared.Refusal.{Refusal}
 use Rattle.chain.specs.Chain.{Move, end, on, Visit, Run, stay, step}
-use Rattle.chain.proofs.ChainLaws.{chain-run, chain-stops, end-on}
+use Rattle.chain.proofs.ChainLaws.{end-on}
 use Rattle.header.specs.Step.{stepAt}
 use Rattle.header.specs.Tlm.{Entry, ltlm, indexSize, stlm, entryCount, tlmAt, unindexed, entriesOn, placed}
 use Rattle.header.specs.Walk.{cutAt, tlmStep, passedAt, walkStepOf, walkStepAt, WalkEnd, firstSot, refused, walkMove, walkAt, walkFrom}
@@ -34,7 +34,7 @@ use Rattle.header.specs.declared.parse.MainHeader.{MainHeader}
 use Rattle.header.specs.declared.parse.MainHeader.the-variants.{Header, Refused}
 use Rattle.header.proofs.TlmLaws.{entries-indexed, unindexed-all}
 use Rattle.header.proofs.TlmFill.{unindexed-bound}
-use Rattle.header.proofs.WalkLaws.{walk-rises}
+use Rattle.header.proofs.WalkLaws.{walk-run, walk-stops}
 use Rattle.header.proofs.NumberingLaws.{refused-first, endFrom, by-sound, judged-restart}
 
 -- ---- no number passes, or one does
@@ -146,8 +146,8 @@ placeOf firstSot = 0
 placeOf (refused r) = r .place
 
 own-end : (s : List ℕ) (at : ℕ) (r : Refusal) → walkFrom s at .ended ≡ refused r → r .number ≤ 6
-unfolding walkFrom walkAt walkMove walkStepAt ending numberOf
-own-end s at r e = by (walkStepAt s stop) (own-step s stop (stepAt s stop)) (chain-stops firstSot (walkAt s) (length s) (walk-rises s) at)
+unfolding walkAt walkMove walkStepAt ending numberOf
+own-end s at r e = by (walkStepAt s stop) (own-step s stop (stepAt s stop)) (walk-stops s at)
   where
     stop : ℕ
     stop = walkFrom s at .stopped
@@ -212,13 +212,13 @@ module _ (s : List ℕ) (before : List Visit) (v : Visit) (after : List Visit) (
       by-sound CarriedOn s sound ∙ ap (readAs s (walkFrom s 2)) there
 
   pub refused-past : judgedBy CarriedOn s ≡ Refused (refusal 26 (v .at)) → (i : ℕ) × (i < unindexed s (v .at)) × (65_534 < unindexedIn s before + i)
-  unfolding count readEnd walkFrom
+  unfolding count readEnd
   refused-past e =
       by-bool (leb (count + unindexed s (v .at)) 65_535)
       (λ t.
       let there : endFrom CarriedOn s 0 2 ≡ refused (refusal 26 (v .at)) =
       sym (read-end s (endFrom CarriedOn s 0 2)) ∙ ap readEnd (sym (by-sound CarriedOn s sound) ∙ e) in
-      let run = run-behind s before v after (rw met at (chain-run firstSot (walkAt s) (length s) (walk-rises s) 2)) in
+      let run = run-behind s before v after (rw met at (walk-run s 2)) in
       let own = later CarriedOn s (count + unindexed s (v .at)) (v .at) (walkFrom s 2 .ended) (run .1) (run .0) (rw t at (sym ends-here ∙ there)) in
       absurd (omega (arith, own-end s 2 (refusal 26 (v .at)) own)))
       (λ f. let many = leb-false (count + unindexed s (v .at)) 65_535 f in let small = few in (65_535 - count, omega arith, omega arith))

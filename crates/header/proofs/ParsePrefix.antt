@@ -17,7 +17,6 @@ use Rattle.types.specs.Markers.{SOC, SIZ, TLM, CAP}
 use Rattle.types.specs.Row.{rowsOf}
 use Rattle.types.specs.declared.TilePartEntry.{TilePartEntry}
 use Rattle.chain.specs.Chain.{on, Visit, Chain, visited, Run, stay, step}
-use Rattle.chain.proofs.ChainLaws.{chain-run}
 use Rattle.header.specs.Step.{delimits, isFiller, segmentEnd}
 use Rattle.header.specs.Tlm.{stlm, indexSize, lengthSize, entryPlace, entryCount, unindexed, Accepted, Within, entryIn, entryOn, entriesOn, placed}
 use Rattle.header.specs.Walk.{WalkEnd, firstSot, refused, walkAt, walkFrom}
@@ -37,7 +36,7 @@ use Rattle.header.specs.declared.parse.MainHeaderInfo.{MainHeaderInfo}
 use Rattle.header.specs.declared.parse.MainHeader.{MainHeader}
 use Rattle.header.specs.declared.parse.MainHeader.the-variants.{Header, Refused}
 use Rattle.header.proofs.TlmFill.{entry-inside}
-use Rattle.header.proofs.WalkLaws.{not-true-false, passed-is, on-passed, walk-rises}
+use Rattle.header.proofs.WalkLaws.{not-true-false, passed-is, on-passed, walk-run}
 use Rattle.header.proofs.WalkItems.{Item, delimiter, segment, item, item-long}
 use Rattle.header.proofs.NumberingLaws.{entries-restart, judged-restart}
 use Rattle.header.proofs.EditionLaws.{fits-short, cap-no-delimiter}
@@ -166,8 +165,7 @@ module _ (q t : List ℕ) where
 
   module _ {first : ℕ} (r : Reached q first) where
     along : Same (walkFrom q 2 .visits)
-    unfolding walkFrom
-    along = same (chain-run firstSot (walkAt q) (length q) (walk-rises q) 2)
+    along = same (walk-run q 2)
 
     decode-same : decodeHeader (q ++ t) (walkFrom q 2 .visits) ≡ decodeHeader q (walkFrom q 2 .visits)
     unfolding decodeHeader

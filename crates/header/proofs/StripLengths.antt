@@ -9,14 +9,13 @@ use lib.ListN.{length, take, drop, length-append, length-take}
 use borrow.Author.Tests.{eq-eqb, ne-eqb}
 use Rattle.numbers.proofs.Choice.{by-bool}
 use Rattle.chain.specs.Chain.{Visit, Run, stay, step}
-use Rattle.chain.proofs.ChainLaws.{chain-run}
 use Rattle.header.specs.Tlm.{entryCount, entriesIn}
-use Rattle.header.specs.Walk.{firstSot, walkStepAt, walkAt, walkFrom}
+use Rattle.header.specs.Walk.{walkStepAt, walkAt, walkFrom}
 use Rattle.header.specs.Strip.{kept, decodeHeader, tlmBytes, tlmEntries}
 use Rattle.header.specs.declared.walk.Passed.{Passed as Passing}
 use Rattle.header.specs.declared.walk.WalkStep.the-variants.{Passed}
 use Rattle.header.proofs.TlmLaws.{length-entries}
-use Rattle.header.proofs.WalkLaws.{passed-is, on-passed, walk-rises}
+use Rattle.header.proofs.WalkLaws.{passed-is, on-passed, walk-run}
 use Rattle.header.proofs.WalkVisited.{entries-few, length-visited}
 use Rattle.header.proofs.StripLaws.{run, run-join}
 
@@ -60,8 +59,7 @@ measured s h (step {at = at} {next = next} {stop = stop} {rest = rest} found pas
     rw (← o .2) (measured-on s at stop rest (o .0) (o .1) m)
 
 whole : (s : List ℕ) → 2 ≤ length s → Measured s 2 (walkFrom s 2 .visits) (walkFrom s 2 .stopped)
-unfolding walkFrom
-whole s h = measured s h (chain-run firstSot (walkAt s) (length s) (walk-rises s) 2)
+whole s h = measured s h (walk-run s 2)
 
 pub entries-bound : (s : List ℕ) → 2 ≤ length s → length (tlmEntries s (walkFrom s 2 .visits)) * 2 ≤ length s
 entries-bound s h = let m = whole s h in omega (arith, m .entries, m .inside)
@@ -100,8 +98,7 @@ plain-run s h (step {at = at} {next = next} {stop = stop} {rest = rest} found pa
 
 module _ (s : List ℕ) (two : 2 ≤ length s) (long : length (decodeHeader s (walkFrom s 2 .visits)) ≡ walkFrom s 2 .stopped) where
   plain : Plain s 2 (walkFrom s 2 .visits) (walkFrom s 2 .stopped)
-  unfolding walkFrom
-  plain = plain-run s two (chain-run firstSot (walkAt s) (length s) (walk-rises s) 2) (omega (arith, header-lengths s two))
+  plain = plain-run s two (walk-run s 2) (omega (arith, header-lengths s two))
 
   pub whole-kept : decodeHeader s (walkFrom s 2 .visits) ≡ take (walkFrom s 2 .stopped) s
   unfolding decodeHeader

@@ -12,8 +12,8 @@ use denote.Enum.Declared.{tagOf}
 use types.Run.{OneOf}
 use Rattle.numbers.specs.Bytes.{be}
 use Rattle.types.specs.Markers.{TLM}
-use Rattle.chain.specs.Chain.{on, Chain, Rises, also}
-use Rattle.chain.proofs.ChainLaws.{chain-end, chain-on, end-on}
+use Rattle.chain.specs.Chain.{end, on, Chain, Rises, Run, also}
+use Rattle.chain.proofs.ChainLaws.{chain-end, chain-on, chain-run, chain-stops, end-on}
 use Rattle.header.specs.Step.{delimits, isFiller, segmentEnd, stepAt}
 use Rattle.header.specs.Tlm.{ltlm, stlm, indexSize, entryCount, Within, Accepted, tlmAt}
 use Rattle.header.specs.Walk.{cutAt, plain, tlmStep, passedAt, walkStepOf, walkStepAt, WalkEnd, firstSot, refused, walkMove, walkAt, walkFrom}
@@ -170,6 +170,15 @@ moved s at next (Refused r) told e = absurd (end-on e)
 pub walk-rises : (s : List ℕ) → Rises (walkAt s) (length s)
 unfolding walkAt
 walk-rises s at next e = moved s at next (walkStepAt s at) (tells s at) e
+
+-- its visits are a run to where it stopped, and there its step ends as it does
+pub walk-run : (s : List ℕ) (at : ℕ) → Run (walkAt s) at (walkFrom s at .visits) (walkFrom s at .stopped)
+unfolding walkFrom
+walk-run s at = chain-run firstSot (walkAt s) (length s) (walk-rises s) at
+
+pub walk-stops : (s : List ℕ) (at : ℕ) → walkAt s (walkFrom s at .stopped) ≡ end (walkFrom s at .ended)
+unfolding walkFrom
+walk-stops s at = chain-stops firstSot (walkAt s) (length s) (walk-rises s) at
 
 pub walk-moves : (s : List ℕ) (at next : ℕ) → walkAt s at ≡ on next → walkFrom s at ≡ also (record { at = at; next = next }) (walkFrom s next)
 unfolding walkFrom

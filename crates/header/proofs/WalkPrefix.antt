@@ -13,7 +13,7 @@ use Rattle.numbers.proofs.BytesLaws.{be-front}
 use Rattle.numbers.proofs.Choice.{by-bool}
 use Rattle.types.specs.Markers.{SOC, TLM}
 use Rattle.chain.specs.Chain.{end, on}
-use Rattle.chain.proofs.ChainLaws.{end-on, chain-run, chain-stops, run-chain, run-also}
+use Rattle.chain.proofs.ChainLaws.{end-on, run-chain, run-also}
 use Rattle.header.specs.Step.{segmentEnd, stepAt, cut, moveOf, moveAt, stepsFrom}
 use Rattle.header.specs.Extent.{endedAs, extentEnd, extentOf}
 use Rattle.header.specs.Tlm.{ltlm, stlm, entryCount, Within, tlmAt}
@@ -25,13 +25,13 @@ use Rattle.header.specs.declared.walk.WalkStep.the-variants.{Passed}
 use Rattle.header.specs.declared.extent.MainHeaderExtent.the-variants.{Complete, Truncated}
 use Rattle.header.proofs.StepLaws.{Told, step-told}
 use Rattle.header.proofs.ExtentLaws.{rises, extent-steps}
-use Rattle.header.proofs.WalkLaws.{walk-rises, walk-cut}
+use Rattle.header.proofs.WalkLaws.{walk-rises, walk-cut, walk-run, walk-stops}
 use Rattle.header.proofs.WalkItems.{passed-to, ends-there}
 use Rattle.header.proofs.ExtentPrefix.{Reached, reached-four, reached-complete, step-more}
 
 -- ---- the walk goes where the steps go
 
-pub walk-steps : (s : List ℕ) (at next : ℕ) → walkAt s at ≡ on next → moveAt s at ≡ on next
+walk-steps : (s : List ℕ) (at next : ℕ) → walkAt s at ≡ on next → moveAt s at ≡ on next
 unfolding walkAt walkStepAt walkStepOf walkMove moveAt moveOf
 walk-steps s at next e = by (stepAt s at) e
   where
@@ -43,13 +43,12 @@ walk-steps s at next e = by (stepAt s at) e
 
 -- an accepted walk stops where the extent says
 pub accepted-reached : (s : List ℕ) → be 2 s 0 ≡ SOC → walkFrom s 2 .ended ≡ firstSot → Reached s (walkFrom s 2 .stopped)
-unfolding walkFrom
 accepted-reached s soc e =
-    let there = ends-there s (walkFrom s 2 .stopped) (chain-stops firstSot (walkAt s) (length s) (walk-rises s) 2 ∙ ap end e) in
+    let there = ends-there s (walkFrom s 2 .stopped) (walk-stops s 2 ∙ ap end e) in
     record {
       soc = soc;
       visits = walkFrom s 2 .visits;
-      run = run-also (λ at next. walk-steps s at next) (chain-run firstSot (walkAt s) (length s) (walk-rises s) 2);
+      run = run-also (λ at next. walk-steps s at next) (walk-run s 2);
       inside = there .0;
       sot = there .1;
     }
@@ -59,7 +58,7 @@ accepted-reached s soc e =
 module _ (q t : List ℕ) where
   module _ (at : ℕ) where
     module _ (w : Within q at) where
-      pub ltlm-more : ltlm (q ++ t) at ≡ ltlm q at
+      ltlm-more : ltlm (q ++ t) at ≡ ltlm q at
       ltlm-more = be-front 2 q t (at + 2) (omega (arith, w .marked))
 
       -- Stlm lies inside where Ltlm is 4 or more
@@ -87,7 +86,7 @@ module _ (q t : List ℕ) where
         (tlm-more (record { marked = told .4; ends = omega (arith, told .2) }))
     walk-step-of CutShort told whole = absurd (whole refl)
 
-    pub walk-more : (stepAt q at ≡ CutShort → ⊥) → walkAt (q ++ t) at ≡ walkAt q at
+    walk-more : (stepAt q at ≡ CutShort → ⊥) → walkAt (q ++ t) at ≡ walkAt q at
     unfolding walkAt walkStepAt
     walk-more whole = ap walkMove (ap (walkStepOf (q ++ t) at) (step-more q t at whole) ∙ walk-step-of (stepAt q at) (step-told q at) whole)
 
@@ -100,9 +99,9 @@ module _ (q t : List ℕ) where
   module _ {at : ℕ} (r : Reached q at) where
     -- nowhere is it cut short
     stopped-whole : stepAt q (walkFrom q 2 .stopped) ≡ CutShort → ⊥
-    unfolding walkFrom stepsFrom extentEnd endedAs moveAt moveOf
+    unfolding stepsFrom extentEnd endedAs moveAt moveOf
     stopped-whole c =
-        let run = run-also (λ at next. walk-steps q at next) (chain-run firstSot (walkAt q) (length q) (walk-rises q) 2) in
+        let run = run-also (λ at next. walk-steps q at next) (walk-run q 2) in
         let none : extentOf q ≡ Truncated = extent-steps q (reached-four r) (r .soc) ∙ ap extentEnd (run-chain cut (moveAt q) (length q) (rises q) cut run (ap moveOf c)) in
         let e : Complete (record { 0 = at }) ≡ Truncated = sym (reached-complete q r) ∙ none in
         let z : _≡_ {A = ℕ} 0 1 = cc in
@@ -112,5 +111,5 @@ module _ (q t : List ℕ) where
     unfolding walkFrom
     walk-prefix =
         run-chain firstSot (walkAt (q ++ t)) (length (q ++ t)) (walk-rises (q ++ t)) (walkFrom q 2 .ended)
-        (run-also (λ at next. walk-on-more at next) (chain-run firstSot (walkAt q) (length q) (walk-rises q) 2))
-        (walk-more (walkFrom q 2 .stopped) stopped-whole ∙ chain-stops firstSot (walkAt q) (length q) (walk-rises q) 2)
+        (run-also (λ at next. walk-on-more at next) (walk-run q 2))
+        (walk-more (walkFrom q 2 .stopped) stopped-whole ∙ walk-stops q 2)

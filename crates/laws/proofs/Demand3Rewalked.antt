@@ -13,7 +13,6 @@ use Rattle.numbers.specs.Bytes.{be, put}
 use Rattle.numbers.proofs.BytesLaws.{be-cong, be-rest, be-front, be-put-before, length-put}
 use Rattle.types.specs.Markers.{SIZ, TLM, CAP, SOT}
 use Rattle.chain.specs.Chain.{Chain, end, on, Visit, Run, stay, step, also}
-use Rattle.chain.proofs.ChainLaws.{chain-run, chain-stops}
 use Rattle.header.specs.Step.{delimits, segmentEnd}
 use Rattle.header.specs.Walk.{WalkEnd, firstSot, walkAt, walkFrom}
 use Rattle.header.specs.Strip.{kept, decodeHeader}
@@ -21,7 +20,7 @@ use Rattle.header.specs.Numbering.{unindexedIn}
 use Rattle.header.specs.Edition.{capsIn, capFits}
 use Rattle.header.proofs.EditionLaws.{capsFrom}
 use Rattle.header.proofs.StepLaws.{step-sot}
-use Rattle.header.proofs.WalkLaws.{not-true-false, walk-sot, walk-found, walk-rises, walk-moves}
+use Rattle.header.proofs.WalkLaws.{not-true-false, walk-sot, walk-found, walk-moves, walk-run, walk-stops}
 use Rattle.header.proofs.WalkVisited.{length-visited}
 use Rattle.header.proofs.WalkItems.{Item, delimiter, segment, item, item-long, ends-sot, passes-again}
 use Rattle.tile.specs.Siz.{oneTile}
@@ -225,7 +224,6 @@ module _ (s : List ℕ) (bytes : AllBytes s) (rest : List ℕ) (two : 2 ≤ leng
 
   pub rewalked : walkFrom s 2 .ended ≡ firstSot
       → Rewalked s (capsFrom s 2) (cutTo z (decodeHeader s (walkFrom s 2 .visits)) ++ rest) (length (decodeHeader s (walkFrom s 2 .visits)))
-  unfolding walkFrom
   rewalked ended =
-      rewalked-run (chain-run firstSot (walkAt s) (length s) (walk-rises s) 2)
-      (ends-sot s (walkFrom s 2 .stopped) (chain-stops firstSot (walkAt s) (length s) (walk-rises s) 2 ∙ ap end ended))
+      rewalked-run (walk-run s 2)
+      (ends-sot s (walkFrom s 2 .stopped) (walk-stops s 2 ∙ ap end ended))
