@@ -132,8 +132,9 @@ uint32_t winterhasp_in_file(uint64_t offset, uint64_t start, uint64_t *value);
 uint32_t winterhasp_find_codestream(const uint8_t *file, size_t file_len, uint64_t *start, uint64_t *length);
 
 /* "Growth". How much of the codestream holds its main header: `region` bytes, after so many `enlargements` of the first
-   65,536. Of a codestream of at most 2^32-1 bytes these are read as the whole is, by every function for the main header and with
-   every refusal; a longer one is refused whole (19), and read by these if they are no more. Never refuses: 0. */
+   65,536. Of a codestream of at most 2^32-1 bytes winterhasp_parse_main_header, .._by_reading and winterhasp_find_marker answer of
+   these as of the whole, with every refusal; a longer one is refused whole (19), and read by these if they are no more.
+   winterhasp_parse_siz_marker is not among them: it does not stop at an SOT. Never refuses: 0. */
 uint32_t winterhasp_grow_header_region(const uint8_t *codestream, size_t codestream_len, uint64_t *region,
                                        uint64_t *enlargements);
 

@@ -122,3 +122,16 @@ fn regions() {
     assert_eq!(host::next_region(65_536, 131_073), 131_072);
     assert_eq!(host::next_region(1 << 63, u64::MAX), u64::MAX);
 }
+
+/// An SOT for SIZ ends the header, so that the first region is enough; the SIZ reading passes it.
+#[test]
+fn a_size_behind_the_region() {
+    let mut codestream = vec![0xFF, 0x4F, 0xFF, 0x90, 0xFF, 0xFF];
+    codestream.resize(65_539, 0);
+    codestream.extend(&sample_a()[2..45]);
+    let mut values = [7; 2];
+    assert_eq!(host::grow_header_region(&codestream, &mut values), 0);
+    assert_eq!(values, [65_536, 0]);
+    assert_eq!(siz(&codestream[..65_536]), (21, [65_539, 7, 7, 7, 7]));
+    assert_eq!(siz(&codestream), (0, [10, 6, 1, 8, 0]));
+}
