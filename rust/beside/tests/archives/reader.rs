@@ -123,15 +123,17 @@ fn regions() {
     assert_eq!(host::next_region(1 << 63, u64::MAX), u64::MAX);
 }
 
-/// An SOT for SIZ ends the header, so that the first region is enough; the SIZ reading passes it.
+/// An SOT for SIZ ends the header, so that the first region is enough; the SIZ reading passes it, and
+/// the last byte that it needs is the one behind that region.
 #[test]
-fn a_size_behind_the_region() {
-    let mut codestream = vec![0xFF, 0x4F, 0xFF, 0x90, 0xFF, 0xFF];
-    codestream.resize(65_539, 0);
-    codestream.extend(&sample_a()[2..45]);
+fn a_size_past_the_region() {
+    let mut codestream = vec![0xFF, 0x4F, 0xFF, 0x90, 0xFF, 0xD4];
+    codestream.resize(65_496, 0);
+    codestream.extend(&sample_a()[2..43]);
     let mut values = [7; 2];
+    assert_eq!(codestream.len(), 65_537);
     assert_eq!(host::grow_header_region(&codestream, &mut values), 0);
     assert_eq!(values, [65_536, 0]);
-    assert_eq!(siz(&codestream[..65_536]), (21, [65_539, 7, 7, 7, 7]));
+    assert_eq!(siz(&codestream[..65_536]), (20, [65_496, 7, 7, 7, 7]));
     assert_eq!(siz(&codestream), (0, [10, 6, 1, 8, 0]));
 }
