@@ -11,7 +11,7 @@ use borrow.Author.Tests.{ne-eqb}
 use Rattle.numbers.specs.Bytes.{be}
 use Rattle.numbers.proofs.Choice.{by-bool}
 use Rattle.types.specs.Markers.{SOC, SOT, TLM}
-use Rattle.types.specs.Row.{rowsOf}
+use Rattle.types.specs.Row.{rowBytes, rowsOf}
 use Rattle.types.specs.declared.TilePartEntry.{TilePartEntry}
 use Rattle.chain.specs.Chain.{Chain, chain}
 use Rattle.header.specs.Step.{delimits, segmentEnd, cut, stepAt, moveOf, moveAt, stepsFrom}
@@ -148,6 +148,6 @@ parsed-base s rows room =
     ap (λ (m : MainHeader). base.withoutFillers (withRoom rows room m)) (as-older (olderBy Restarting) s refl ∙ judged-restart s) ∙ room-base rows room (judged s) ∙ ap (base.withRoom rows room) (judged-base s)
 
 -- what is left in the table, numbered from 0 in each segment: the old text
-pub after-base : (h : MainHeaderInfo) (s table : List ℕ) → tableAfter Restarting (main.Header h) s table ≡ rowsOf (tlmTable s) ++ drop (18 * h .«tlm_entries») table
+pub after-base : (h : MainHeaderInfo) (s table : List ℕ) → tableAfter Restarting (main.Header h) s table ≡ rowsOf (tlmTable s) ++ drop (rowBytes * h .«tlm_entries») table
 unfolding tableAfter
-after-base h s table = ap (λ (es : List TilePartEntry). rowsOf es ++ drop (18 * h .«tlm_entries») table) (table-restart s)
+after-base h s table = ap (λ (es : List TilePartEntry). rowsOf es ++ drop (rowBytes * h .«tlm_entries») table) (table-restart s)

@@ -10,7 +10,7 @@ use borrow.Author.Tests.{le-leb, lt-leb, eq-eqb, leb-true, eqb-true}
 use Rattle.numbers.specs.Bytes.{be, put}
 use Rattle.numbers.proofs.BytesLaws.{put-start, be-front}
 use Rattle.types.specs.Refusals.{refusal}
-use Rattle.types.specs.Row.{rowsOf}
+use Rattle.types.specs.Row.{rowBytes, rowsOf}
 use Rattle.types.proofs.RowLaws.{length-rows}
 use Rattle.types.proofs.RowStanding.{Layout, put-last}
 use Rattle.types.specs.declared.Refusal.{Refusal}
@@ -230,7 +230,7 @@ module _ (s : List ℕ) (h : MainHeaderInfo) (r : Read s h) where
   unfolding tableAfter tableBy
   table-put n table =
       let rows : List ℕ = rowsOf (tableBy n s) in
-      let long : length rows ≡ 18 * h .«tlm_entries» = omega (arith, length-rows (tableBy n s), length-table n) in
+      let long : length rows ≡ rowBytes * h .«tlm_entries» = omega (arith, length-rows (tableBy n s), length-table n) in
       rw (r .first) (put-start table rows ∙ ap (λ (m : ℕ). rows ++ drop m table) long)
 
   pub out-put : (out : List ℕ) → put out 0 (decodeHeader s (walkFrom s 2 .visits)) ≡ outAfter (Header h) s out

@@ -14,7 +14,7 @@ use Rattle.numbers.specs.Bytes.{be}
 use Rattle.numbers.proofs.BytesLaws.{be-front}
 use Rattle.numbers.proofs.Choice.{by-test, by-bool}
 use Rattle.types.specs.Markers.{SOC, SIZ, TLM, CAP}
-use Rattle.types.specs.Row.{rowsOf}
+use Rattle.types.specs.Row.{rowBytes, rowsOf}
 use Rattle.types.specs.declared.TilePartEntry.{TilePartEntry}
 use Rattle.chain.specs.Chain.{on, Visit, Chain, visited, Run, stay, step}
 use Rattle.header.specs.Step.{delimits, isFiller, segmentEnd}
@@ -244,7 +244,7 @@ module _ (q t : List ℕ) where
 
     pub table-after-prefix : (n : Numbering) (answer : MainHeader) (table : List ℕ) → tableAfter n answer (q ++ t) table ≡ tableAfter n answer q table
     unfolding tableAfter
-    table-after-prefix n (Header h) table = ap (λ (es : List TilePartEntry). rowsOf es ++ drop (18 * h .«tlm_entries») table) (table-prefix n)
+    table-after-prefix n (Header h) table = ap (λ (es : List TilePartEntry). rowsOf es ++ drop (rowBytes * h .«tlm_entries») table) (table-prefix n)
     table-after-prefix n (Refused x) table = refl
 
     pub out-after-prefix : (answer : MainHeader) (out : List ℕ) → outAfter answer (q ++ t) out ≡ outAfter answer q out

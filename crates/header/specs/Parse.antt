@@ -7,7 +7,7 @@ use lib.Dec.{leb, eqb}
 use Rattle.numbers.specs.Bytes.{be}
 use Rattle.types.specs.Refusals.{refusal}
 use Rattle.types.specs.Markers.{SOC, SIZ}
-use Rattle.types.specs.Row.{rowsOf}
+use Rattle.types.specs.Row.{rowBytes, rowsOf}
 use Rattle.types.specs.declared.TilePartEntry.{TilePartEntry}
 use Rattle.chain.specs.Chain.{Chain}
 use Rattle.header.specs.Tlm.{placed}
@@ -113,7 +113,7 @@ tableBy n s = placed (walkFrom s 2 .stopped) (entriesBy n s 0 (walkFrom s 2 .vis
 
 -- the table after an answer: the records' rows and the rest as it was, or all as it was
 unfoldable pub tableAfter : Numbering → MainHeader → List ℕ → List ℕ → List ℕ
-tableAfter n (Header h) s table = rowsOf (tableBy n s) ++ drop (18 * h .«tlm_entries») table
+tableAfter n (Header h) s table = rowsOf (tableBy n s) ++ drop (rowBytes * h .«tlm_entries») table
 tableAfter n (Refused r) s table = table
 
 -- the output after an answer: the decode header and the rest as it was, or all as it was

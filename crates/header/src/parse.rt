@@ -4,7 +4,7 @@ ghost use mathlib.Core.Path.{_≡_};
 ghost use Prim.Native.Nat.{_+_, _*_, _/_, _≤_, _<_, _^_};
 ghost use lib.ListN.{length};
 ghost use Rattle.numbers.specs.Bytes.{put};
-ghost use Rattle.types.specs.Row.{rowsOf};
+ghost use Rattle.types.specs.Row.{rowBytes, rowsOf};
 ghost use Rattle.header.specs.Tlm.{placed};
 ghost use Rattle.header.specs.Walk.{firstSot, walkFrom};
 ghost use Rattle.header.specs.Numbering.{entriesBy, endedBy};
@@ -197,7 +197,7 @@ fn fill_table(
 )
     requires { ⌜ 2 ≤ length (now codestream) ⌝ }
     requires { ⌜ endedBy numbering (now codestream) 0 (walkFrom (now codestream) 2 .visits) (walkFrom (now codestream) 2 .ended) ≡ firstSot ⌝ }
-    requires { ⌜ 18 * length (entriesBy numbering (now codestream) 0 (walkFrom (now codestream) 2 .visits)) ≤ length (now table) ⌝ }
+    requires { ⌜ rowBytes * length (entriesBy numbering (now codestream) 0 (walkFrom (now codestream) 2 .visits)) ≤ length (now table) ⌝ }
     requires { ⌜ «first_sot» .0 + length (entriesBy numbering (now codestream) 0 (walkFrom (now codestream) 2 .visits)) * 2 ^ 32 < 2 ^ 64 ⌝ }
     ensures { λ _. ⌜ now (table .exit) ≡ put (now (table .entry)) 0 (rowsOf (placed («first_sot» .0) (entriesBy numbering (now (codestream .entry)) 0 (walkFrom (now (codestream .entry)) 2 .visits)))) ⌝ }
 {
@@ -226,7 +226,7 @@ pub fn parse_main_header(
     table: &mut [u8],
     out: &mut [u8],
 ) -> MainHeader
-    ensures { λ r. ⌜ r ≡ parsed reading (now (codestream .entry)) (length (now (table .entry)) / 18) (length (now (out .entry))) ⌝ }
+    ensures { λ r. ⌜ r ≡ parsed reading (now (codestream .entry)) (length (now (table .entry)) / rowBytes) (length (now (out .entry))) ⌝ }
     ensures { λ r. ⌜ now (table .exit) ≡ tableAfter (reading .numbering) r (now (codestream .entry)) (now (table .entry)) ⌝ }
     ensures { λ r. ⌜ now (out .exit) ≡ outAfter r (now (codestream .entry)) (now (out .entry)) ⌝ }
 {

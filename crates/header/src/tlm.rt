@@ -7,7 +7,7 @@ ghost use Prim.Native.Nat.{_+_, _*_, _≤_, _<_, _^_};
 ghost use lib.ListN.{length};
 ghost use lib.Dec.{eqb};
 ghost use Rattle.numbers.specs.Bytes.{be, put};
-ghost use Rattle.types.specs.Row.{rowsOf};
+ghost use Rattle.types.specs.Row.{rowBytes, rowsOf};
 ghost use Rattle.header.specs.Tlm.{indexSize, lengthSize, Within, tlmAt, Accepted, entryCount};
 ghost use Rattle.header.specs.Tlm.{recordOf, unindexed, entryOn, entriesOn, placed, total};
 use types::CodestreamOffset;
@@ -119,7 +119,7 @@ pub fn fill_segment(
     requires { ⌜ Accepted (now codestream) at ⌝ }
     requires { ⌜ count ≡ entryCount (now codestream) at ⌝ }
     requires { ⌜ first + unindexed (now codestream) at ≤ 65_535 ⌝ }
-    requires { ⌜ row + 18 * count ≤ length (now table) ⌝ }
+    requires { ⌜ row + rowBytes * count ≤ length (now table) ⌝ }
     requires { ⌜ from .0 + count * 2 ^ 32 < 2 ^ 64 ⌝ }
     ensures { λ r. ⌜ r .0 ≡ from .0 + total (entriesOn (now (codestream .entry)) at first 0 count) ⌝ }
     ensures { λ _. ⌜ now (table .exit) ≡ put (now (table .entry)) row (rowsOf (placed (from .0) (entriesOn (now (codestream .entry)) at first 0 count))) ⌝ }

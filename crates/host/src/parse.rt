@@ -2,6 +2,7 @@
 ghost use mathlib.Core.Path.{_≡_};
 ghost use Prim.Native.Nat.{_/_};
 ghost use lib.ListN.{length};
+ghost use Rattle.types.specs.Row.{rowBytes};
 ghost use Rattle.header.specs.Reading.{byDefault, readingOf};
 ghost use Rattle.header.specs.Parse.{parsed, tableAfter, outAfter, headerNumber, headerFirst, headerLength, headerEntries, headerFillers};
 use header::edition::Edition;
@@ -21,13 +22,13 @@ pub extern "C" fn winterhasp_parse_main_header(
     entries: &mut u64,
     fillers: &mut u64,
 ) -> u32
-    ensures { λ r. ⌜ r ≡ headerNumber (parsed byDefault (now (codestream .entry)) (length (now (table .entry)) / 18) (length (now (out .entry)))) ⌝ }
-    ensures { λ _. ⌜ now («first_sot» .exit) ≡ headerFirst (parsed byDefault (now (codestream .entry)) (length (now (table .entry)) / 18) (length (now (out .entry)))) ⌝ }
-    ensures { λ _. ⌜ now («decode_length» .exit) ≡ headerLength (parsed byDefault (now (codestream .entry)) (length (now (table .entry)) / 18) (length (now (out .entry)))) (now («decode_length» .entry)) ⌝ }
-    ensures { λ _. ⌜ now (entries .exit) ≡ headerEntries (parsed byDefault (now (codestream .entry)) (length (now (table .entry)) / 18) (length (now (out .entry)))) (now (entries .entry)) ⌝ }
-    ensures { λ _. ⌜ now (fillers .exit) ≡ headerFillers (parsed byDefault (now (codestream .entry)) (length (now (table .entry)) / 18) (length (now (out .entry)))) (now (fillers .entry)) ⌝ }
-    ensures { λ _. ⌜ now (table .exit) ≡ tableAfter (byDefault .numbering) (parsed byDefault (now (codestream .entry)) (length (now (table .entry)) / 18) (length (now (out .entry)))) (now (codestream .entry)) (now (table .entry)) ⌝ }
-    ensures { λ _. ⌜ now (out .exit) ≡ outAfter (parsed byDefault (now (codestream .entry)) (length (now (table .entry)) / 18) (length (now (out .entry)))) (now (codestream .entry)) (now (out .entry)) ⌝ }
+    ensures { λ r. ⌜ r ≡ headerNumber (parsed byDefault (now (codestream .entry)) (length (now (table .entry)) / rowBytes) (length (now (out .entry)))) ⌝ }
+    ensures { λ _. ⌜ now («first_sot» .exit) ≡ headerFirst (parsed byDefault (now (codestream .entry)) (length (now (table .entry)) / rowBytes) (length (now (out .entry)))) ⌝ }
+    ensures { λ _. ⌜ now («decode_length» .exit) ≡ headerLength (parsed byDefault (now (codestream .entry)) (length (now (table .entry)) / rowBytes) (length (now (out .entry)))) (now («decode_length» .entry)) ⌝ }
+    ensures { λ _. ⌜ now (entries .exit) ≡ headerEntries (parsed byDefault (now (codestream .entry)) (length (now (table .entry)) / rowBytes) (length (now (out .entry)))) (now (entries .entry)) ⌝ }
+    ensures { λ _. ⌜ now (fillers .exit) ≡ headerFillers (parsed byDefault (now (codestream .entry)) (length (now (table .entry)) / rowBytes) (length (now (out .entry)))) (now (fillers .entry)) ⌝ }
+    ensures { λ _. ⌜ now (table .exit) ≡ tableAfter (byDefault .numbering) (parsed byDefault (now (codestream .entry)) (length (now (table .entry)) / rowBytes) (length (now (out .entry)))) (now (codestream .entry)) (now (table .entry)) ⌝ }
+    ensures { λ _. ⌜ now (out .exit) ≡ outAfter (parsed byDefault (now (codestream .entry)) (length (now (table .entry)) / rowBytes) (length (now (out .entry)))) (now (codestream .entry)) (now (out .entry)) ⌝ }
 {
     let reading = Reading {
         numbering: Numbering::CarriedOn,
@@ -49,13 +50,13 @@ pub extern "C" fn winterhasp_parse_main_header_by_reading(
     entries: &mut u64,
     fillers: &mut u64,
 ) -> u32
-    ensures { λ r. ⌜ r ≡ headerNumber (parsed (readingOf reading) (now (codestream .entry)) (length (now (table .entry)) / 18) (length (now (out .entry)))) ⌝ }
-    ensures { λ _. ⌜ now («first_sot» .exit) ≡ headerFirst (parsed (readingOf reading) (now (codestream .entry)) (length (now (table .entry)) / 18) (length (now (out .entry)))) ⌝ }
-    ensures { λ _. ⌜ now («decode_length» .exit) ≡ headerLength (parsed (readingOf reading) (now (codestream .entry)) (length (now (table .entry)) / 18) (length (now (out .entry)))) (now («decode_length» .entry)) ⌝ }
-    ensures { λ _. ⌜ now (entries .exit) ≡ headerEntries (parsed (readingOf reading) (now (codestream .entry)) (length (now (table .entry)) / 18) (length (now (out .entry)))) (now (entries .entry)) ⌝ }
-    ensures { λ _. ⌜ now (fillers .exit) ≡ headerFillers (parsed (readingOf reading) (now (codestream .entry)) (length (now (table .entry)) / 18) (length (now (out .entry)))) (now (fillers .entry)) ⌝ }
-    ensures { λ _. ⌜ now (table .exit) ≡ tableAfter (readingOf reading .numbering) (parsed (readingOf reading) (now (codestream .entry)) (length (now (table .entry)) / 18) (length (now (out .entry)))) (now (codestream .entry)) (now (table .entry)) ⌝ }
-    ensures { λ _. ⌜ now (out .exit) ≡ outAfter (parsed (readingOf reading) (now (codestream .entry)) (length (now (table .entry)) / 18) (length (now (out .entry)))) (now (codestream .entry)) (now (out .entry)) ⌝ }
+    ensures { λ r. ⌜ r ≡ headerNumber (parsed (readingOf reading) (now (codestream .entry)) (length (now (table .entry)) / rowBytes) (length (now (out .entry)))) ⌝ }
+    ensures { λ _. ⌜ now («first_sot» .exit) ≡ headerFirst (parsed (readingOf reading) (now (codestream .entry)) (length (now (table .entry)) / rowBytes) (length (now (out .entry)))) ⌝ }
+    ensures { λ _. ⌜ now («decode_length» .exit) ≡ headerLength (parsed (readingOf reading) (now (codestream .entry)) (length (now (table .entry)) / rowBytes) (length (now (out .entry)))) (now («decode_length» .entry)) ⌝ }
+    ensures { λ _. ⌜ now (entries .exit) ≡ headerEntries (parsed (readingOf reading) (now (codestream .entry)) (length (now (table .entry)) / rowBytes) (length (now (out .entry)))) (now (entries .entry)) ⌝ }
+    ensures { λ _. ⌜ now (fillers .exit) ≡ headerFillers (parsed (readingOf reading) (now (codestream .entry)) (length (now (table .entry)) / rowBytes) (length (now (out .entry)))) (now (fillers .entry)) ⌝ }
+    ensures { λ _. ⌜ now (table .exit) ≡ tableAfter (readingOf reading .numbering) (parsed (readingOf reading) (now (codestream .entry)) (length (now (table .entry)) / rowBytes) (length (now (out .entry)))) (now (codestream .entry)) (now (table .entry)) ⌝ }
+    ensures { λ _. ⌜ now (out .exit) ≡ outAfter (parsed (readingOf reading) (now (codestream .entry)) (length (now (table .entry)) / rowBytes) (length (now (out .entry)))) (now (codestream .entry)) (now (out .entry)) ⌝ }
 {
     let how = header::reading::reading_of(reading);
     let read = header::parse::parse_main_header(codestream, how, table, out);

@@ -2,6 +2,7 @@
 ghost use mathlib.Core.Path.{_≡_};
 ghost use Prim.Native.Nat.{_/_};
 ghost use lib.ListN.{length};
+ghost use Rattle.types.specs.Row.{rowBytes};
 ghost use Rattle.parts.specs.Scan.{scanned, scanNumber, scanValue, scannedTable};
 use types::CodestreamOffset;
 
@@ -13,8 +14,8 @@ pub extern "C" fn winterhasp_scan_sot_markers(
     table: &mut [u8],
     value: &mut u64,
 ) -> u32
-    ensures { λ r. ⌜ r ≡ scanNumber (scanned (now (codestream .entry)) «first_sot_offset» (length (now (table .entry)) / 18)) ⌝ }
-    ensures { λ _. ⌜ now (value .exit) ≡ scanValue (scanned (now (codestream .entry)) «first_sot_offset» (length (now (table .entry)) / 18)) ⌝ }
+    ensures { λ r. ⌜ r ≡ scanNumber (scanned (now (codestream .entry)) «first_sot_offset» (length (now (table .entry)) / rowBytes)) ⌝ }
+    ensures { λ _. ⌜ now (value .exit) ≡ scanValue (scanned (now (codestream .entry)) «first_sot_offset» (length (now (table .entry)) / rowBytes)) ⌝ }
     ensures { λ _. ⌜ now (table .exit) ≡ scannedTable (now (codestream .entry)) «first_sot_offset» (now (table .entry)) ⌝ }
 {
     let answer = parts::scan::scan_sot_markers(

@@ -36,10 +36,10 @@ use Rattle.tile.specs.declared.rewrite.Written.{Written}
 use Rattle.tile.specs.declared.rewrite.Written.the-variants.{Bytes}
 use Rattle.tile.proofs.RewriteLaws.{room-enough}
 use Rattle.tile.proofs.RewriteHeader.{length-rewritten}
-use Rattle.tile.proofs.AssemblyRows.{All, none, more}
+use Rattle.types.proofs.RowReading.{All, none, more}
 use Rattle.tile.proofs.AssemblyLaws.{part-sot, for-first, assembled-is}
 use Rattle.laws.specs.Demand3.{Accepted, decodeHeaderOf, assembledOf, Assembles, Standing, Reassembled, Demand3}
-use Rattle.laws.proofs.Demand3Entries.{OfTile, entries-of-tile, ranges-back, parts-in}
+use Rattle.laws.proofs.Demand3Entries.{OfTile, entries-of-tile, records-back, parts-in}
 use Rattle.laws.proofs.Demand3Edition.{newer-same}
 use Rattle.laws.proofs.Demand3Rewalked.{Rewalked, rewalked}
 use Rattle.laws.proofs.Demand3Rescanned.{part-tile, part-is-sot, patched-long, patched-marker, rescan, scans-table}
@@ -123,7 +123,7 @@ module _ (rule : Rule) (s : List ℕ) (p : ℕ) (c : Accepted s p) (tile : ℕ) 
   answered : assemblyAnswer rule (decodeHeaderOf s) (rowsOf es) s (length out) ≡ Bytes (length (assembledOf rule s es))
   unfolding assemblyAnswer answerFor
   answered =
-      ap (λ (rs : List TilePartEntry). answerFor rule (decodeHeaderOf s) (partsIn s rs) (length out)) (ranges-back s tile (c .bytes) (judged-read s (c .info) (c .header) .short) all)
+      ap (λ (rs : List TilePartEntry). answerFor rule (decodeHeaderOf s) (partsIn s rs) (length out)) (records-back s tile (c .bytes) (judged-read s (c .info) (c .header) .short) all)
       ∙ bytes-of (sizeFor rule (decodeHeaderOf s) (partsIn s es)) (length (assembledOf rule s es)) (length out)
       (λ r e. m .accepts r (sym (size-is s tile rule (decodeHeaderOf s) all (m .long) (m .some)) ∙ e))
       (m .room)
@@ -132,7 +132,7 @@ module _ (rule : Rule) (s : List ℕ) (p : ℕ) (c : Accepted s p) (tile : ℕ) 
   unfolding assemblyOut over
   written-out =
       ap₂ (λ (w : Written) (rs : List TilePartEntry). over w (assembledOf rule s rs) out) answered
-      (ranges-back s tile (c .bytes) (judged-read s (c .info) (c .header) .short) all)
+      (records-back s tile (c .bytes) (judged-read s (c .info) (c .header) .short) all)
 
   whole : assembledOf rule s es ≡ rewritten rule (decodeHeaderOf s) tile ++ rest-of s es
   whole = assembled-whole s tile rule (decodeHeaderOf s) all (m .long) (m .some)

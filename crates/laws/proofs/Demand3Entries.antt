@@ -10,8 +10,10 @@ use lib.Dec.{eqb}
 use borrow.Author.Tests.{eqb-true, eqb-false}
 use Rattle.numbers.proofs.BytesLaws.{be-bound}
 use Rattle.types.specs.Refusals.{refusal}
-use Rattle.types.specs.Row.{rowsOf}
+use Rattle.types.specs.Row.{rowsOf, recordsIn}
 use Rattle.types.proofs.RowLaws.{Fits}
+use Rattle.types.proofs.RowReading.{All, none, more, all-map}
+use Rattle.types.proofs.RowReading as rows
 use Rattle.types.specs.declared.TilePartEntry.{TilePartEntry}
 use Rattle.chain.specs.Chain.{on, Visit, Run, stay, step}
 use Rattle.chain.proofs.ChainLaws.{chain-run, end-on}
@@ -20,11 +22,9 @@ use Rattle.parts.specs.Scan.{ended, refused, moveOf, moveAt, scanFrom, recorded
 use Rattle.parts.specs.Tiles.{ofTile, bytesAt}
 use Rattle.numbers.proofs.Choice.{by-test}
 use Rattle.parts.proofs.ScanLaws.{Stands, move-passed, rises, sot-lsot, sot-no-eoc, step-sot}
-use Rattle.tile.specs.Assembly.{ranges, andPart, partsIn}
+use Rattle.tile.specs.Assembly.{andPart, partsIn}
 use Rattle.tile.specs.declared.assembly.Range.{Range}
 use Rattle.tile.proofs.AssemblyRanges.{range-kept}
-use Rattle.tile.proofs.AssemblyRows.{All, none, more, all-map}
-use Rattle.tile.proofs.AssemblyRows as rows
 use Rattle.laws.specs.Demand3.{AllBytes}
 
 -- ---- a scan's entries
@@ -78,8 +78,8 @@ entry-fits s tile bytes short e o =
     }
 
 -- the rows of entries, read back
-pub ranges-back : (s : List ℕ) (tile : ℕ) → AllBytes s → length s ≤ 0xffff_ffff → {es : List TilePartEntry} → All (OfTile s tile) es → ranges (rowsOf es) ≡ es
-ranges-back s tile bytes short all = rows.ranges-back (all-map (entry-fits s tile bytes short) all)
+pub records-back : (s : List ℕ) (tile : ℕ) → AllBytes s → length s ≤ 0xffff_ffff → {es : List TilePartEntry} → All (OfTile s tile) es → recordsIn (rowsOf es) ≡ es
+records-back s tile bytes short all = rows.records-back (all-map (entry-fits s tile bytes short) all)
 
 -- ---- their ranges
 

@@ -23,7 +23,7 @@ use Rattle.parts.proofs.ScanAnswers.{scans-judged}
 use Rattle.parts.proofs.Iso.{eoc-ends}
 use Rattle.tile.specs.Assembly.{isSot, patched, joined}
 use Rattle.tile.proofs.AssemblyLaws.{patched-sot, length-patched}
-use Rattle.tile.proofs.AssemblyRows.{All, none, more}
+use Rattle.types.proofs.RowReading.{All, none, more}
 use Rattle.laws.specs.Demand3.{NoPsot0, underZero}
 use Rattle.laws.proofs.Demand3Entries.{OfTile}
 

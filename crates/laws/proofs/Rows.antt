@@ -5,7 +5,7 @@ use native.Mathlib.Omega.{arith}
 use mathlib.Core.Path.{_≡_, refl, sym, ap, _∙_}
 use mathlib.Core.List.{List, _++_}
 use lib.ListN.{length, drop}
-use Rattle.types.specs.Row.{rowsOf}
+use Rattle.types.specs.Row.{rowBytes, rowsOf}
 use Rattle.types.specs.declared.TilePartEntry.{TilePartEntry}
 use Rattle.types.proofs.RowLaws.{length-rows}
 use Rattle.types.proofs.RowStanding.{rows, all-append, all-drop}
@@ -23,16 +23,16 @@ use Rattle.parts.specs.declared.scan.Scanned.the-variants as scans
 use Rattle.records.specs.Scan as records
 
 -- as many rows as records
-pub rows-count : (t : List TilePartEntry) → length (rowsOf t) / 18 ≡ length t
+pub rows-count : (t : List TilePartEntry) → length (rowsOf t) / rowBytes ≡ length t
 rows-count t = omega (arith, length-rows t)
 
 -- records, and the rest of a table after n of its own
-pub rows-over : (es : List TilePartEntry) (n : ℕ) (t : List TilePartEntry) → rowsOf es ++ drop (18 * n) (rowsOf t) ≡ rowsOf (es ++ drop n t)
+pub rows-over : (es : List TilePartEntry) (n : ℕ) (t : List TilePartEntry) → rowsOf es ++ drop (rowBytes * n) (rowsOf t) ≡ rowsOf (es ++ drop n t)
 rows-over es n t = ap (λ (rest : List ℕ). rowsOf es ++ rest) (all-drop rows n t) ∙ sym (all-append rows es (drop n t))
 
 -- ---- the scan
 
-pub scan-agrees : (s : List ℕ) (start : ℕ) (t : List TilePartEntry) → scanned s start (length (rowsOf t) / 18) ≡ scanned s start (length t)
+pub scan-agrees : (s : List ℕ) (start : ℕ) (t : List TilePartEntry) → scanned s start (length (rowsOf t) / rowBytes) ≡ scanned s start (length t)
 scan-agrees s start t = ap (scanned s start) (rows-count t)
 
 written-agrees : (a : Scanned) (es t : List TilePartEntry) → parts.written a es (rowsOf t) ≡ rowsOf (records.written a es t)
@@ -48,7 +48,7 @@ scan-table-agrees s start t =
 
 -- ---- the main header; what is left in the output is given by the answer, alike for both
 
-pub header-agrees : (how : Reading) (s : List ℕ) (t : List TilePartEntry) (room : ℕ) → parsed how s (length (rowsOf t) / 18) room ≡ parsed how s (length t) room
+pub header-agrees : (how : Reading) (s : List ℕ) (t : List TilePartEntry) (room : ℕ) → parsed how s (length (rowsOf t) / rowBytes) room ≡ parsed how s (length t) room
 header-agrees how s t room = ap (λ (m : ℕ). parsed how s m room) (rows-count t)
 
 pub header-table-agrees : (n : Numbering) (a : MainHeader) (s : List ℕ) (t : List TilePartEntry)

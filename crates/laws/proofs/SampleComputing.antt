@@ -2,7 +2,7 @@
 use Rattle.numbers.specs.Bits.{bit, ones}
 use Rattle.numbers.specs.Bytes.{be, bytesOf, put}
 use Rattle.numbers.specs.Ceiling.{ceilDiv}
-use Rattle.types.specs.Row.{rowOf, rowsOf}
+use Rattle.types.specs.Row.{rowOf, rowsOf, recordsAt, recordsFrom, recordsIn}
 use Rattle.chain.specs.Chain.{also, onMove, counted, chain}
 use Rattle.header.specs.Step.{delimits, highFF, isFiller, segmentEnd, stepAt, moveOf, moveAt, stepsFrom}
 use Rattle.header.specs.Extent.{endedAs, extentEnd, extentOf}
@@ -21,7 +21,7 @@ use Rattle.tile.specs.Original.{fitting, reaching, axisOf, columnsOf, bothAxes,
 use Rattle.tile.specs.AnnexB.{laid, cellsOf, fromOf, toOf, cellArea, inCells, onGrid, gridTile}
 use Rattle.tile.specs.Rules.{imageArea, byAnnexB, byOriginal, placedBy}
 use Rattle.tile.specs.Rewrite.{sized, moved, cutBy, sizeOf, sizeIn, tileSize, cutTo, rewritten, over, rewriteAnswer, rewriteOut}
-use Rattle.tile.specs.Assembly.{rows, rangesFrom, ranges, rangeOf, andPart, partsIn, isSot, patched, partSize, sizeFor, joined, assembled, answerFor, assemblyAnswer, assemblyOut}
+use Rattle.tile.specs.Assembly.{rangeOf, andPart, partsIn, isSot, patched, partSize, sizeFor, joined, assembled, answerFor, assemblyAnswer, assemblyOut}
 use Rattle.reader.specs.Components.{sizWhole, countHeld, apart, allApart, ordered, componentsRead, atTile, componentsInTile, divided, componentAt, isThere, componentIn, chosen, componentOf, componentInTile}
 use Rattle.reader.specs.Search.{boxAt, content, passed, onBox, foundFrom, isJp2, foundIn}
 use Rattle.laws.specs.Sample.{two, four, sizFrom, sizOf, siz, header, grid, counting, tlm, announcing, cap, sot, part, head, withTlm, A, signature, jp2c}
@@ -64,7 +64,7 @@ unfolding samples partEnd splitStepAt split.moveOf split.moveAt splitFrom partsF
 split-runs = tt
 
 unfoldable pub tiles : Unit {0}
-unfolding samples pair oneTile ceilDiv fitting reaching axisOf columnsOf bothAxes inGrid tileArea laid cellsOf fromOf toOf cellArea inCells onGrid gridTile byAnnexB byOriginal placedBy sized moved cutBy sizeOf sizeIn tileSize cutTo rewritten rewrite.withRoom rewrite.judged over rewriteAnswer rewriteOut rows rangesFrom ranges rangeOf andPart partsIn isSot patched partSize sizeFor joined assembled answerFor assemblyAnswer assemblyOut
+unfolding samples pair oneTile ceilDiv fitting reaching axisOf columnsOf bothAxes inGrid tileArea laid cellsOf fromOf toOf cellArea inCells onGrid gridTile byAnnexB byOriginal placedBy sized moved cutBy sizeOf sizeIn tileSize cutTo rewritten rewrite.withRoom rewrite.judged over rewriteAnswer rewriteOut recordsAt recordsFrom recordsIn rangeOf andPart partsIn isSot patched partSize sizeFor joined assembled answerFor assemblyAnswer assemblyOut
 tiles = tt
 
 unfoldable pub searches : Unit {0}

@@ -9,7 +9,7 @@ use lib.Dec.{leb}
 use borrow.Author.Tests.{le-leb, lt-leb, leb-true}
 use Rattle.numbers.specs.Bytes.{put}
 use Rattle.types.specs.Refusals.{refusal}
-use Rattle.types.specs.Row.{rowsOf}
+use Rattle.types.specs.Row.{rowBytes, rowsOf}
 use Rattle.types.proofs.RowLaws.{length-rows}
 use Rattle.types.specs.declared.Refusal.{Refusal}
 use Rattle.types.specs.declared.TilePartEntry.{TilePartEntry}
@@ -72,22 +72,22 @@ scans-accepted {s} {start} n rows h count room = answer-table s start rows n (sc
 -- ---- the table
 
 module _ (s : List ℕ) (start : ℕ) (table : List ℕ) where
-  pub table-kept : (r : Refusal) → scanned s start (length table / 18) ≡ Refused r → scannedTable s start table ≡ table
+  pub table-kept : (r : Refusal) → scanned s start (length table / rowBytes) ≡ Refused r → scannedTable s start table ≡ table
   unfolding scannedTable written
   table-kept r e = ap (λ (a : Scanned). written a (entriesFrom s start) table) e
 
-  pub table-filled : (n : ℕ) → scanned s start (length table / 18) ≡ Table n → length (entriesFrom s start) ≡ n
+  pub table-filled : (n : ℕ) → scanned s start (length table / rowBytes) ≡ Table n → length (entriesFrom s start) ≡ n
       → scannedTable s start table ≡ put table 0 (rowsOf (entriesFrom s start))
   unfolding scannedTable written put
   table-filled n e l =
       ap (λ (a : Scanned). written a (entriesFrom s start) table) e
       ∙ ap (λ (k : ℕ). rowsOf (entriesFrom s start) ++ drop k table)
-      (ap (λ (k : ℕ). 18 * k) (sym l) ∙ sym (length-rows (entriesFrom s start)) ∙ sym (zero-add (length (rowsOf (entriesFrom s start)))))
+      (ap (λ (k : ℕ). rowBytes * k) (sym l) ∙ sym (length-rows (entriesFrom s start)) ∙ sym (zero-add (length (rowsOf (entriesFrom s start)))))
 
   pub table-outside : length s ≤ start → scannedTable s start table ≡ table
   unfolding scannedTable written rowsOf
   table-outside h =
-      ap₂ (λ (a : Scanned) (es : List TilePartEntry). written a es table) (answer-outside s start (length table / 18) h) (entries-ended s start (step-outside s start h))
+      ap₂ (λ (a : Scanned) (es : List TilePartEntry). written a es table) (answer-outside s start (length table / rowBytes) h) (entries-ended s start (step-outside s start h))
 
 -- ---- what an accepting answer says
 

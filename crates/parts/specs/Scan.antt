@@ -7,7 +7,7 @@ use lib.Dec.{leb, eqb}
 use Rattle.numbers.specs.Bytes.{be}
 use Rattle.types.specs.Refusals.{refusal}
 use Rattle.types.specs.Markers.{SOT, EOC}
-use Rattle.types.specs.Row.{rowsOf}
+use Rattle.types.specs.Row.{rowBytes, rowsOf}
 use Rattle.types.specs.declared.Refusal.{Refusal}
 use Rattle.types.specs.declared.TilePartEntry.{TilePartEntry}
 use Rattle.chain.specs.Chain.{Move, end, on, Visit, Chain, chain}
@@ -101,8 +101,8 @@ scanValue (answer.Refused r) = r .place
 
 -- the table after an answer: the records' rows and the rest as it was, or all as it was
 unfoldable pub written : Scanned → List TilePartEntry → List ℕ → List ℕ
-written (answer.Table n) entries table = rowsOf entries ++ drop (18 * n) table
+written (answer.Table n) entries table = rowsOf entries ++ drop (rowBytes * n) table
 written (answer.Refused r) entries table = table
 
 unfoldable pub scannedTable : List ℕ → ℕ → List ℕ → List ℕ
-scannedTable s start table = written (scanned s start (length table / 18)) (entriesFrom s start) table
+scannedTable s start table = written (scanned s start (length table / rowBytes)) (entriesFrom s start) table

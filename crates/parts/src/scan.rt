@@ -3,7 +3,7 @@ ghost use mathlib.Core.Path.{_≡_};
 ghost use Prim.Native.Nat.{_+_, _*_, _/_, _≤_};
 ghost use lib.ListN.{length};
 ghost use Rattle.numbers.specs.Bytes.{put};
-ghost use Rattle.types.specs.Row.{rowsOf};
+ghost use Rattle.types.specs.Row.{rowBytes, rowsOf};
 ghost use Rattle.parts.specs.Sot.{psot};
 ghost use Rattle.parts.specs.Scan.{entryOf, eocAt, partAt, sotStepAt, scanStepAt, scanFrom, judged, entriesFrom, scanned, scanNumber, scanValue, scannedTable};
 use types::CodestreamOffset;
@@ -172,7 +172,7 @@ pub fn tell(answer: Scanned, value: &mut u64) -> u32
 // Writes the records, one row after the other. The next position comes after the row: before it, LLVM reads Psot byte by byte.
 fn fill(codestream: &[u8], start: usize, count: usize, table: &mut [u8])
     requires { ⌜ count ≡ length (entriesFrom (now codestream) start) ⌝ }
-    requires { ⌜ 18 * count ≤ length (now table) ⌝ }
+    requires { ⌜ rowBytes * count ≤ length (now table) ⌝ }
     ensures { λ _. ⌜ now (table .exit) ≡ put (now (table .entry)) 0 (rowsOf (entriesFrom (now (codestream .entry)) start)) ⌝ }
 {
     let mut at = start;
@@ -193,7 +193,7 @@ pub fn scan_sot_markers(
     first_sot_offset: CodestreamOffset,
     table: &mut [u8],
 ) -> Scanned
-    ensures { λ r. ⌜ r ≡ scanned (now (codestream .entry)) («first_sot_offset» .0) (length (now (table .entry)) / 18) ⌝ }
+    ensures { λ r. ⌜ r ≡ scanned (now (codestream .entry)) («first_sot_offset» .0) (length (now (table .entry)) / rowBytes) ⌝ }
     ensures { λ _. ⌜ now (table .exit) ≡ scannedTable (now (codestream .entry)) («first_sot_offset» .0) (now (table .entry)) ⌝ }
 {
     let answer = decide(codestream, first_sot_offset, (table.len() / ROW) as u64);

@@ -12,7 +12,7 @@ use Rattle.numbers.specs.Bytes.{be, bytesOf, put}
 use Rattle.numbers.proofs.BytesLaws.{length-bytes, length-put, be-put, be-bytesOf, take-put, drop-put}
 use Rattle.types.specs.Markers.{SOT, EOC}
 use Rattle.tile.specs.Rewrite.{tileSize, cutTo, Room, rewritten, withRoom, judged}
-use Rattle.types.specs.Row.{entryAt}
+use Rattle.types.specs.Row.{rowBytes, entryAt}
 use Rattle.tile.specs.Assembly.{rangeOf, isSot, patched, partSize, sizeFor, joined, assembled}
 use Rattle.tile.specs.declared.rules.Rule.{Rule}
 use Rattle.tile.specs.declared.rewrite.TileSize.{TileSize}
@@ -84,11 +84,11 @@ pub length-joined : {parts rest : List (List ℕ)} {part : List ℕ} → parts �
 length-joined {rest = rest} {part = part} e = ap length (joined-next e) ∙ length-append (patched part) (joined rest) ∙ ap (λ (n : ℕ). n + length (joined rest)) (length-patched part)
 
 -- a range that is kept adds its bytes
-pub length-kept : (s table : List ℕ) (at from to : ℕ) → at + 18 ≤ length table → rangeOf s (entryAt table at) ≡ Kept from to
-    → length (joined (partsFrom s table at)) ≡ to - from + length (joined (partsFrom s table (at + 18)))
+pub length-kept : (s table : List ℕ) (at from to : ℕ) → at + rowBytes ≤ length table → rangeOf s (entryAt table at) ≡ Kept from to
+    → length (joined (partsFrom s table at)) ≡ to - from + length (joined (partsFrom s table (at + rowBytes)))
 length-kept s table at from to room found =
     length-joined (parts-kept s table at room from to found)
-    ∙ ap (λ (n : ℕ). n + length (joined (partsFrom s table (at + 18)))) (length-part s from to (kept-inside s (entryAt table at) found))
+    ∙ ap (λ (n : ℕ). n + length (joined (partsFrom s table (at + rowBytes)))) (length-part s from to (kept-inside s (entryAt table at) found))
 
 -- ---- the whole
 

@@ -1,14 +1,15 @@
--- The rows of a table taken one by one: none, or the row here and those after it; and its range, kept inside the codestream or dropped.
-use Prim.Native.Nat.{ℕ, suc, _+_, _-_, _/_, _≤_, _<_}
+-- A row's range, kept inside the codestream or dropped, and the parts of the rows from a position on.
+use Prim.Native.Nat.{ℕ, _+_, _-_, _≤_, _<_}
 use native.Mathlib.Omega.{arith}
 use mathlib.Core.Path.{_≡_, ap, _∙_}
 use mathlib.Core.List.{List, [], _∷_}
 use lib.ListN.{length, take, drop, length-take, length-drop}
 use lib.Dec.{leb}
 use borrow.Author.Tests.{le-leb, lt-leb, leb-true}
-use Rattle.types.specs.Row.{entryAt}
+use Rattle.types.specs.Row.{rowBytes, entryAt, recordsFrom}
+use Rattle.types.proofs.RowReading.{records-none, records-next}
 use Rattle.types.specs.declared.TilePartEntry.{TilePartEntry}
-use Rattle.tile.specs.Assembly.{rows, rangesFrom, rangeOf, andPart, partsIn}
+use Rattle.tile.specs.Assembly.{rangeOf, andPart, partsIn}
 use Rattle.tile.specs.declared.assembly.Range.{Range}
 use Rattle.tile.specs.declared.assembly.Range.the-variants.{Kept, Dropped}
 use Rattle.numbers.proofs.Choice.{by-test}
@@ -39,37 +40,25 @@ kept-inside s e found = rw found at (range-told s e)
 pub length-part : (s : List ℕ) (from to : ℕ) → (from ≤ to) × (to ≤ length s) → length (take (to - from) (drop from s)) ≡ to - from
 length-part s from to h = simp (length-take, length-drop) (omega arith)
 
--- ---- the rows, and their parts
-
-ranges-none : (table : List ℕ) (at : ℕ) → length table < at + 18 → rangesFrom table at ≡ []
-unfolding rangesFrom rows
-ranges-none table at h =
-    let none : (length table - at) / 18 ≡ 0 = omega arith in
-    rw none
-
-ranges-next : (table : List ℕ) (at : ℕ) → at + 18 ≤ length table → rangesFrom table at ≡ entryAt table at ∷ rangesFrom table (at + 18)
-unfolding rangesFrom rows
-ranges-next table at h =
-    let one : (length table - at) / 18 ≡ suc ((length table - (at + 18)) / 18) = omega arith in
-    rw one
+-- ---- the parts of rows
 
 -- the parts of the rows from a position on
 abbrev pub partsFrom : List ℕ → List ℕ → ℕ → List (List ℕ)
-partsFrom s table at = partsIn s (rangesFrom table at)
+partsFrom s table at = partsIn s (recordsFrom table at)
 
 module _ (s table : List ℕ) (at : ℕ) where
-  pub parts-none : length table < at + 18 → partsFrom s table at ≡ []
+  pub parts-none : length table < at + rowBytes → partsFrom s table at ≡ []
   unfolding partsIn
-  parts-none h = ap (partsIn s) (ranges-none table at h)
+  parts-none h = ap (partsIn s) (records-none table at h)
 
-  module _ (room : at + 18 ≤ length table) where
+  module _ (room : at + rowBytes ≤ length table) where
     pub parts-kept : (from to : ℕ) → rangeOf s (entryAt table at) ≡ Kept from to
-        → partsFrom s table at ≡ take (to - from) (drop from s) ∷ partsFrom s table (at + 18)
+        → partsFrom s table at ≡ take (to - from) (drop from s) ∷ partsFrom s table (at + rowBytes)
     unfolding partsIn andPart
     parts-kept from to found =
-        ap (partsIn s) (ranges-next table at room) ∙ ap (λ (r : Range). andPart r s (partsFrom s table (at + 18))) found
+        ap (partsIn s) (records-next table at room) ∙ ap (λ (r : Range). andPart r s (partsFrom s table (at + rowBytes))) found
 
-    pub parts-dropped : rangeOf s (entryAt table at) ≡ Dropped → partsFrom s table at ≡ partsFrom s table (at + 18)
+    pub parts-dropped : rangeOf s (entryAt table at) ≡ Dropped → partsFrom s table at ≡ partsFrom s table (at + rowBytes)
     unfolding partsIn andPart
     parts-dropped found =
-        ap (partsIn s) (ranges-next table at room) ∙ ap (λ (r : Range). andPart r s (partsFrom s table (at + 18))) found
+        ap (partsIn s) (records-next table at room) ∙ ap (λ (r : Range). andPart r s (partsFrom s table (at + rowBytes))) found

@@ -5,16 +5,16 @@ use mathlib.Core.Path.{_≡_, refl, sym, ap, ap₂, _∙_}
 use mathlib.Core.List.{List, [], _∷_, _++_, flatten, append-assoc}
 use lib.ListN.{length, take, drop, length-append}
 use lib.Seq.{take-append-seam, drop-append-seam}
-use Rattle.types.specs.Row.{rowsOf}
+use Rattle.types.specs.Row.{rowsOf, recordsIn}
 use Rattle.types.proofs.RowLaws.{Fits}
+use Rattle.types.proofs.RowReading.{All, none, more, records-back}
 use Rattle.tile.specs.Rewrite.{over}
 use Rattle.tile.specs.declared.rules.Rule.{Rule}
-use Rattle.tile.specs.Assembly.{ranges, andPart, partsIn, assembled, answerFor, assemblyAnswer, assemblyOut}
+use Rattle.tile.specs.Assembly.{andPart, partsIn, assembled, answerFor, assemblyAnswer, assemblyOut}
 use Rattle.tile.specs.FromParts.{lying, laid}
 use Rattle.tile.specs.declared.assembly.Range.{Range}
 use Rattle.tile.specs.declared.rewrite.Written.{Written}
 use Rattle.tile.proofs.AssemblyRanges.{range-kept}
-use Rattle.tile.proofs.AssemblyRows.{All, none, more, ranges-back}
 
 laid-fits : (at : ℕ) (parts : List (List ℕ)) → at + length (flatten parts) < 2 ^ 64 → All Fits (laid at parts)
 unfolding laid flatten
@@ -43,8 +43,8 @@ laid-parts front (part ∷ rest) =
     ∙ laid-parts (front ++ part) rest)
 
 module _ (parts : List (List ℕ)) (fits : length (flatten parts) < 2 ^ 64) where
-  pub from-parts : partsIn (flatten parts) (ranges (rowsOf (laid 0 parts))) ≡ parts
-  from-parts = ap (partsIn (flatten parts)) (ranges-back (laid-fits 0 parts (omega arith))) ∙ laid-parts [] parts
+  pub from-parts : partsIn (flatten parts) (recordsIn (rowsOf (laid 0 parts))) ≡ parts
+  from-parts = ap (partsIn (flatten parts)) (records-back (laid-fits 0 parts (omega arith))) ∙ laid-parts [] parts
 
   module _ (rule : Rule) (h : List ℕ) where
     pub from-parts-answer : (room : ℕ) → assemblyAnswer rule h (rowsOf (laid 0 parts)) (flatten parts) room ≡ answerFor rule h parts room

@@ -8,7 +8,6 @@ pub mod RewriteLaws
 pub mod RewriteAgree
 pub mod RewriteHeader
 pub mod AssemblyRanges
-pub mod AssemblyRows
 pub mod AssemblyLaws
 pub mod FromParts
 pub mod Iso

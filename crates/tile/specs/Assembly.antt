@@ -1,12 +1,12 @@
 -- Assembly (docs/RULES.md, "Assembly"): the ranges' parts, the tile that chooses the rewrite, and header, parts and EOC joined.
-use Prim.Native.Nat.{ℕ, zero, suc, _+_, _-_, _/_}
+use Prim.Native.Nat.{ℕ, _+_, _-_}
 use mathlib.Core.Bool.{Bool, cond, _&&_}
 use mathlib.Core.List.{List, [], _∷_, _++_}
 use lib.ListN.{length, take, drop}
 use lib.Dec.{leb, eqb}
 use Rattle.numbers.specs.Bytes.{be, bytesOf, put}
 use Rattle.types.specs.Markers.{SOT, EOC}
-use Rattle.types.specs.Row.{entryAt}
+use Rattle.types.specs.Row.{recordsIn}
 use Rattle.types.specs.declared.TilePartEntry.{TilePartEntry}
 use Rattle.tile.specs.Rewrite.{tileSize, cutTo, judged, over}
 use Rattle.tile.specs.declared.rules.Rule.{Rule}
@@ -17,18 +17,6 @@ use Rattle.tile.specs.declared.assembly.Range.{Range}
 use Rattle.tile.specs.declared.assembly.Range.the-variants.{Kept, Dropped}
 
 -- ---- ranges and parts
-
--- so many rows from a position on
-unfoldable pub rows : ℕ → List ℕ → ℕ → List TilePartEntry
-rows zero s at = []
-rows (suc n) s at = entryAt s at ∷ rows n s (at + 18)
-
--- a partial row at the end is none
-unfoldable pub rangesFrom : List ℕ → ℕ → List TilePartEntry
-rangesFrom s at = rows ((length s - at) / 18) s at
-
-unfoldable pub ranges : List ℕ → List TilePartEntry
-ranges s = rangesFrom s 0
 
 -- a range whose end passes the codestream's is dropped
 unfoldable pub rangeOf : List ℕ → TilePartEntry → Range
@@ -75,7 +63,7 @@ unfoldable pub answerFor : Rule → List ℕ → List (List ℕ) → ℕ → Wri
 answerFor rule h parts room = judged (sizeFor rule h parts) (length (assembled rule h parts)) room
 
 unfoldable pub assemblyAnswer : Rule → List ℕ → List ℕ → List ℕ → ℕ → Written
-assemblyAnswer rule h table s room = answerFor rule h (partsIn s (ranges table)) room
+assemblyAnswer rule h table s room = answerFor rule h (partsIn s (recordsIn table)) room
 
 unfoldable pub assemblyOut : Rule → List ℕ → List ℕ → List ℕ → List ℕ → List ℕ
-assemblyOut rule h table s out = over (assemblyAnswer rule h table s (length out)) (assembled rule h (partsIn s (ranges table))) out
+assemblyOut rule h table s out = over (assemblyAnswer rule h table s (length out)) (assembled rule h (partsIn s (recordsIn table))) out

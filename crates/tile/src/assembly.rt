@@ -4,8 +4,8 @@ ghost use mathlib.Core.Path.{_≡_};
 ghost use Prim.Native.Nat.{_+_, _-_, _^_, _≤_, min};
 ghost use lib.ListN.{length};
 ghost use Rattle.numbers.specs.Bytes.{put};
-ghost use Rattle.types.specs.Row.{entryAt};
-ghost use Rattle.tile.specs.Assembly.{rangeOf, isSot, patched, ranges, partsIn, joined, sizeFor, assemblyAnswer, assemblyOut};
+ghost use Rattle.types.specs.Row.{rowBytes, entryAt, recordsIn};
+ghost use Rattle.tile.specs.Assembly.{rangeOf, isSot, patched, partsIn, joined, sizeFor, assemblyAnswer, assemblyOut};
 use crate::rewrite::TileSize;
 use crate::rewrite::Written;
 use crate::rules::Rule;
@@ -23,7 +23,7 @@ pub enum Range {
 }
 
 fn range_at(tile_parts: &[u8], at: usize, codestream: &[u8]) -> Range
-    requires { ⌜ at + 18 ≤ length (now «tile_parts») ⌝ }
+    requires { ⌜ at + rowBytes ≤ length (now «tile_parts») ⌝ }
     ensures { λ r. ⌜ r ≡ rangeOf (now (codestream .entry)) (entryAt (now («tile_parts» .entry)) at) ⌝ }
 {
     let entry = types::read_row(tile_parts, at);
@@ -50,7 +50,7 @@ fn is_sot(part: &[u8]) -> bool
 
 // The header's change for the tile of the first part.
 fn size_for(header: &[u8], tile_parts: &[u8], codestream: &[u8], rule: Rule) -> TileSize
-    ensures { λ r. ⌜ r ≡ sizeFor rule (now (header .entry)) (partsIn (now (codestream .entry)) (ranges (now («tile_parts» .entry)))) ⌝ }
+    ensures { λ r. ⌜ r ≡ sizeFor rule (now (header .entry)) (partsIn (now (codestream .entry)) (recordsIn (now («tile_parts» .entry)))) ⌝ }
 {
     let mut at: usize = 0;
     while ROW <= tile_parts.len() - at {
@@ -77,7 +77,7 @@ fn saturated(a: u64, b: u64) -> u64
 
 // Header, parts and EOC, whatever the rule.
 fn size_needed(header: &[u8], tile_parts: &[u8], codestream: &[u8]) -> u64
-    ensures { λ r. ⌜ r ≡ min (length (now (header .entry)) + 2 + length (joined (partsIn (now (codestream .entry)) (ranges (now («tile_parts» .entry)))))) (2 ^ 64 - 1) ⌝ }
+    ensures { λ r. ⌜ r ≡ min (length (now (header .entry)) + 2 + length (joined (partsIn (now (codestream .entry)) (recordsIn (now («tile_parts» .entry)))))) (2 ^ 64 - 1) ⌝ }
 {
     let mut size = header.len() as u64 + 2;
     let mut at: usize = 0;
@@ -105,9 +105,9 @@ fn write_part(part: &[u8], out: &mut [u8], at: usize)
 
 // Writes the parts from `start` on, and tells where they end.
 fn write_parts(tile_parts: &[u8], codestream: &[u8], out: &mut [u8], start: usize) -> usize
-    requires { ⌜ start + length (joined (partsIn (now codestream) (ranges (now «tile_parts»)))) ≤ length (now out) ⌝ }
-    ensures { λ r. ⌜ r ≡ start + length (joined (partsIn (now (codestream .entry)) (ranges (now («tile_parts» .entry))))) ⌝ }
-    ensures { λ _. ⌜ now (out .exit) ≡ put (now (out .entry)) start (joined (partsIn (now (codestream .entry)) (ranges (now («tile_parts» .entry))))) ⌝ }
+    requires { ⌜ start + length (joined (partsIn (now codestream) (recordsIn (now «tile_parts»)))) ≤ length (now out) ⌝ }
+    ensures { λ r. ⌜ r ≡ start + length (joined (partsIn (now (codestream .entry)) (recordsIn (now («tile_parts» .entry))))) ⌝ }
+    ensures { λ _. ⌜ now (out .exit) ≡ put (now (out .entry)) start (joined (partsIn (now (codestream .entry)) (recordsIn (now («tile_parts» .entry))))) ⌝ }
 {
     let mut place = start;
     let mut at: usize = 0;

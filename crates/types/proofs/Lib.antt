@@ -1,5 +1,6 @@
 pub mod IsoSiz
 pub mod Offsets
 pub mod RowLaws
+pub mod RowReading
 pub mod RowStanding
 pub mod lent

@@ -8,7 +8,7 @@ use lib.ListN.{length, length-append}
 use Rattle.numbers.specs.Bytes.{be, bytesOf, put}
 use Rattle.numbers.proofs.BytesLaws.{length-bytes, put-put, be-put, be-front, be-rest, be-bytesOf}
 use Rattle.types.specs.declared.TilePartEntry.{TilePartEntry}
-use Rattle.types.specs.Row.{entryAt, rowOf, rowsOf}
+use Rattle.types.specs.Row.{rowBytes, entryAt, rowOf, rowsOf}
 
 -- the fields' widths
 pub record Fits (e : TilePartEntry) : Type 0 where
@@ -16,17 +16,17 @@ pub record Fits (e : TilePartEntry) : Type 0 where
   pub offset : e .offset .0 < 2 ^ 64
   pub length : e .length < 2 ^ 64
 
-pub length-row : (e : TilePartEntry) → length (rowOf e) ≡ 18
+pub length-row : (e : TilePartEntry) → length (rowOf e) ≡ rowBytes
 unfolding rowOf
 length-row e = simp (length-append, length-bytes)
 
-pub length-rows : (es : List TilePartEntry) → length (rowsOf es) ≡ 18 * length es
+pub length-rows : (es : List TilePartEntry) → length (rowsOf es) ≡ rowBytes * length es
 unfolding rowsOf
 length-rows [] = refl
 length-rows (e ∷ rest) = rw (length-append, length-row, length-rows rest) (omega arith)
 
 -- the three fields written one after the other are the row
-pub put-row : (e : TilePartEntry) (s : List ℕ) (at : ℕ) → at + 18 ≤ length s
+pub put-row : (e : TilePartEntry) (s : List ℕ) (at : ℕ) → at + rowBytes ≤ length s
     → put (put (put s at (bytesOf 2 (e .«tile_index»))) (at + 2) (bytesOf 8 (e .offset .0))) (at + 10) (bytesOf 8 (e .length)) ≡ put s at (rowOf e)
 unfolding rowOf
 put-row e s at h =
@@ -62,7 +62,7 @@ be-row e f =
     λ i. record { «tile_index» = first i; offset = record { 0 = second i }; length = third i }
 
 -- a record that was written is read back
-pub entry-put : (e : TilePartEntry) (s : List ℕ) (at : ℕ) → Fits e → at + 18 ≤ length s → entryAt (put s at (rowOf e)) at ≡ e
+pub entry-put : (e : TilePartEntry) (s : List ℕ) (at : ℕ) → Fits e → at + rowBytes ≤ length s → entryAt (put s at (rowOf e)) at ≡ e
 entry-put e s at f h =
     let row : List ℕ = rowOf e in
     let first : be 2 (put s at row) at ≡ be 2 row 0 =

@@ -10,7 +10,7 @@ use lib.Seq.{drop-nil, drop-append-add}
 use Rattle.numbers.specs.Bytes.{put}
 use Rattle.numbers.proofs.BytesLaws.{put-put, put-none, length-put}
 use Rattle.types.specs.declared.TilePartEntry.{TilePartEntry}
-use Rattle.types.specs.Row.{rowOf, rowsOf}
+use Rattle.types.specs.Row.{rowBytes, rowOf, rowsOf}
 use Rattle.types.proofs.RowLaws.{length-row}
 
 pub record Layout (B : Type 0) : Type 0 where
@@ -30,7 +30,7 @@ unfolding rowsOf
 rows-more e es = refl
 
 abbrev pub rows : Layout ℕ
-rows = record { one = rowOf; all = rowsOf; width = 18; none = rows-none; more = rows-more; wide = length-row }
+rows = record { one = rowOf; all = rowsOf; width = rowBytes; none = rows-none; more = rows-more; wide = length-row }
 
 abbrev pub records : Layout TilePartEntry
 records = record { one = λ e. e ∷ []; all = λ es. es; width = 1; none = refl; more = λ e es. refl; wide = λ e. refl }

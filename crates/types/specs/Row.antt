@@ -1,14 +1,19 @@
 -- A tile-part record as 18 bytes of a lent table: index, offset and length, big-endian; records one after the other.
-use Prim.Native.Nat.{ℕ, _+_}
+use Prim.Native.Nat.{ℕ, zero, suc, _+_, _-_, _/_}
 use mathlib.Core.List.{List, [], _∷_, _++_}
+use lib.ListN.{length}
 use Rattle.numbers.specs.Bytes.{be, bytesOf}
 use Rattle.types.specs.declared.TilePartEntry.{TilePartEntry}
 
--- the record in the 18 bytes from at on
+-- how many bytes a record has in a table
+abbrev pub rowBytes : ℕ
+rowBytes = 18
+
+-- the record in the bytes from at on
 abbrev pub entryAt : List ℕ → ℕ → TilePartEntry
 entryAt s at = record { «tile_index» = be 2 s at; offset = record { 0 = be 8 s (at + 2) }; length = be 8 s (at + 10) }
 
--- the 18 bytes that hold a record
+-- the bytes that hold a record
 unfoldable pub rowOf : TilePartEntry → List ℕ
 rowOf e = bytesOf 2 (e .«tile_index») ++ (bytesOf 8 (e .offset .0) ++ bytesOf 8 (e .length))
 
@@ -17,3 +22,16 @@ unfoldable pub rowsOf : List TilePartEntry → List ℕ
 unfolding rowOf
 rowsOf [] = []
 rowsOf (e ∷ rest) = rowOf e ++ rowsOf rest
+
+-- the records of so many rows from a position on
+unfoldable pub recordsAt : ℕ → List ℕ → ℕ → List TilePartEntry
+recordsAt zero s at = []
+recordsAt (suc n) s at = entryAt s at ∷ recordsAt n s (at + rowBytes)
+
+-- the records of all rows from a position on; a partial row at the end is none
+unfoldable pub recordsFrom : List ℕ → ℕ → List TilePartEntry
+recordsFrom s at = recordsAt ((length s - at) / rowBytes) s at
+
+-- the records of a table
+unfoldable pub recordsIn : List ℕ → List TilePartEntry
+recordsIn s = recordsFrom s 0

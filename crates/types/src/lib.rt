@@ -8,10 +8,10 @@ ghost use Prim.Native.Nat.{_+_, _≤_, _<_, _^_};
 ghost use lib.ListN.{length};
 ghost use Rattle.numbers.specs.Bytes.{put};
 ghost use Rattle.types.specs.Offsets.{inFile, inCodestream};
-ghost use Rattle.types.specs.Row.{entryAt, rowOf};
+ghost use Rattle.types.specs.Row.{rowBytes, entryAt, rowOf};
 
 // A refusal (docs/RULES.md, "Refusals"): its number, and its place, an offset whose start depends on the number; for 17 and
-// 18 it is what is needed.
+// rowBytes it is what is needed.
 pub struct Refusal {
     pub number: u32,
     pub place: u64,
@@ -115,7 +115,7 @@ pub fn end_of(entry: TilePartEntry) -> CodestreamOffset
 pub const ROW: usize = 18;
 
 pub fn read_row(table: &[u8], at: usize) -> TilePartEntry
-    requires { ⌜ at + 18 ≤ length (now table) ⌝ }
+    requires { ⌜ at + rowBytes ≤ length (now table) ⌝ }
     ensures { λ r. ⌜ r ≡ entryAt (now (table .entry)) at ⌝ }
 {
     let tile_index = numbers::read_u16(table, at);
@@ -129,7 +129,7 @@ pub fn read_row(table: &[u8], at: usize) -> TilePartEntry
 }
 
 pub fn write_row(table: &mut [u8], at: usize, entry: TilePartEntry)
-    requires { ⌜ at + 18 ≤ length (now table) ⌝ }
+    requires { ⌜ at + rowBytes ≤ length (now table) ⌝ }
     ensures { λ _. ⌜ now (table .exit) ≡ put (now (table .entry)) at (rowOf entry) ⌝ }
 {
     let offset = entry.offset;

@@ -6,6 +6,7 @@ use native.Mathlib.Omega.{arith}
 use mathlib.Core.Path.{_≡_, refl, sym, _∙_}
 use lib.ListN.{length}
 use borrow.Author.Needs.{needs}
+use Rattle.types.specs.Row.{rowBytes}
 use Rattle.types.proofs.RowStanding.{rows}
 use Rattle.header.proofs.ParseLaws.{Decided, parsed-decided, first-inside, table-put, out-put, none-written, out-plain}
 use Rattle.header.specs.declared.parse.MainHeader.the-variants.{Header}
@@ -16,14 +17,14 @@ use Rattle.header.proofs.parse.parse_main_header.Tie as tie
 -- what was decided, where it is a header
 header : (c : tie.After-answer)
     → parsed (c .before .before .before .before .before .before .args .reading) (c .before .before .before .before .before .before .args .codestream .now)
-    (length (c .before .before .before .before .before .before .args .table .now) / 18)
+    (length (c .before .before .before .before .before .before .args .table .now) / rowBytes)
     (length (c .before .before .before .before .before .before .args .out .now))
     ≡ Header (c .answer .given .0 .0)
 header c = sym (c .before .before .decide .ensures) ∙ c .answer .given .1
 
 decided : (c : tie.After-answer)
     → Decided (c .before .before .before .before .before .before .args .reading .numbering) (c .before .before .before .before .before .before .args .codestream .now)
-    (length (c .before .before .before .before .before .before .args .table .now) / 18)
+    (length (c .before .before .before .before .before .before .args .table .now) / rowBytes)
     (length (c .before .before .before .before .before .before .args .out .now))
     (c .answer .given .0 .0)
 decided c = parsed-decided _ _ _ _ _ (header c)

@@ -3,6 +3,7 @@ use Prim.Native.Nat.{_/_}
 use mathlib.Core.Path.{_≡_, ap, _∙_}
 use lib.ListN.{length}
 use borrow.Author.Needs.{needs}
+use Rattle.types.specs.Row.{rowBytes}
 use Rattle.header.specs.Reading.{readingOf}
 use Rattle.header.specs.Parse.{parsed, tableAfter, outAfter, headerNumber, headerFirst, headerLength, headerEntries, headerFillers}
 use Rattle.header.specs.declared.reading.Reading.{Reading}
@@ -33,7 +34,7 @@ returns c =
     let read = w .parse-main-header .ensures in
     let told = c .tell .ensures in
     let how : named .reading-of .result ≡ readingOf (a .reading) = named .reading-of .ensures in
-    let answer = read .0 ∙ ap (λ (k : Reading). parsed k (a .codestream .now) (length (a .table .now) / 18) (length (a .out .now))) how in (
+    let answer = read .0 ∙ ap (λ (k : Reading). parsed k (a .codestream .now) (length (a .table .now) / rowBytes) (length (a .out .now))) how in (
       told .0 ∙ ap headerNumber answer,
       (
         told .1 .0 ∙ ap headerFirst answer,

@@ -4,6 +4,7 @@ use native.Mathlib.Omega.{arith}
 use mathlib.Core.Path.{_≡_, sym, _∙_}
 use lib.ListN.{length}
 use borrow.Author.Needs.{needs}
+use Rattle.types.specs.Row.{rowBytes}
 use Rattle.parts.proofs.ScanAnswers.{answer-counts, table-kept, table-filled}
 use Rattle.parts.specs.declared.scan.Scanned.the-variants.{Table}
 use Rattle.parts.specs.Scan.{scanned}
@@ -12,7 +13,7 @@ use Rattle.parts.proofs.scan.scan_sot_markers.Tie as tie
 
 -- past the answer, a table of so many records
 answered : (c : tie.After-answer)
-    → scanned (c .before .before .before .before .before .args .codestream .now) (c .before .before .before .before .before .args .first-sot-offset .0) (length (c .before .before .before .before .before .args .table .now) / 18)
+    → scanned (c .before .before .before .before .before .args .codestream .now) (c .before .before .before .before .before .args .first-sot-offset .0) (length (c .before .before .before .before .before .args .table .now) / rowBytes)
     ≡ Table (c .answer .given .0 .0)
 answered c = sym (c .before .before .decide .ensures) ∙ c .answer .given .1
 

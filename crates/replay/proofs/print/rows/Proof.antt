@@ -2,11 +2,12 @@
 use Prim.Native.Nat.{_≤_, _-_, _/_}
 use lib.ListN.{length}
 use borrow.Author.Needs.{needs}
+use Rattle.types.specs.Row.{rowBytes}
 use Rattle.replay.proofs.print.rows.Statement.{statement}
 use Rattle.replay.proofs.print.rows.Tie as tie
 
 abbrev Inv-loop : tie.InvT-loop
-Inv-loop table count end i₀ i = (end ≤ length table / 18) × (i ≤ end)
+Inv-loop table count end i₀ i = (end ≤ length table / rowBytes) × (i ≤ end)
 
 abbrev μ-loop : tie.MeasureT-loop
 μ-loop table count end i₀ i = end - i

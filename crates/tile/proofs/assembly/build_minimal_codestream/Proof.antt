@@ -10,9 +10,10 @@ use Rattle.tile.proofs.AssemblyLaws.{for-room, length-assembled, judged
 use Rattle.tile.proofs.RewriteHeader.{length-cut, judged-bytes, over-refused, over-bytes}
 use Rattle.tile.specs.declared.rules.Rule.{Rule}
 use Rattle.tile.specs.declared.rewrite.TileSize.{TileSize}
-use Rattle.tile.specs.Assembly.{ranges, partsIn, sizeFor, joined, assembled, answerFor, assemblyAnswer, assemblyOut}
+use Rattle.tile.specs.Assembly.{partsIn, sizeFor, joined, assembled, answerFor, assemblyAnswer, assemblyOut}
 use Rattle.tile.specs.Rewrite.{cutTo, judged}
 use Rattle.types.specs.Markers.{EOC}
+use Rattle.types.specs.Row.{recordsIn}
 use Rattle.numbers.proofs.BytesLaws.{length-bytes, put-put}
 use Rattle.numbers.specs.Bytes.{bytesOf, put}
 use Rattle.tile.proofs.assembly.build_minimal_codestream.Statement.{statement}
@@ -37,7 +38,7 @@ whole rule h parts out room =
 
 -- the parts of the ranges, and the whole
 parts : tie.Start → List (List ℕ)
-parts c = partsIn (c .args .codestream .now) (ranges (c .args .tile-parts .now))
+parts c = partsIn (c .args .codestream .now) (recordsIn (c .args .tile-parts .now))
 
 abbrev all : tie.Start → List ℕ
 all c = assembled (c .args .rule) (c .args .decode-header .now) (parts c)

@@ -8,8 +8,8 @@ use Rattle.tile.specs.declared.assembly.Range.the-variants.{Kept}
 use Rattle.tile.proofs.AssemblyLaws.{for-first, for-none, sot-long, part-sot, part-other}
 use Rattle.tile.proofs.AssemblyRanges.{kept-inside, partsFrom, parts-none, parts-kept, parts-dropped}
 use Rattle.tile.specs.Rewrite.{tileSize}
-use Rattle.tile.specs.Assembly.{rangeOf, ranges, partSize, sizeFor, partsIn}
-use Rattle.types.specs.Row.{entryAt}
+use Rattle.tile.specs.Assembly.{rangeOf, partSize, sizeFor, partsIn}
+use Rattle.types.specs.Row.{entryAt, recordsIn}
 use Rattle.tile.proofs.assembly.size_for.Statement.{statement}
 use Rattle.tile.proofs.assembly.size_for.Tie as tie
 
@@ -63,9 +63,9 @@ loop-again c =
 -- so the part is the first
 chooses : (f : tie.After-range Inv-loop μ-loop)
     → let a = start (head f) .args in
-    sizeFor (a .rule) (a .header .now) (partsIn (a .codestream .now) (ranges (a .tile-parts .now)))
+    sizeFor (a .rule) (a .header .now) (partsIn (a .codestream .now) (recordsIn (a .tile-parts .now)))
     ≡ partSize (a .rule) (a .header .now) (take (f .range .given .0 .1 .0 - f .range .given .0 .0) (drop (f .range .given .0 .0) (a .codestream .now)))
-unfolding ranges
+unfolding recordsIn
 chooses f =
     let l = head f in
     let a = start l .args in
@@ -102,7 +102,7 @@ returns-2 : tie.Need-returns-2 Inv-loop μ-loop
 returns-2 c = sym (chooses (c .before .before .before .before) ∙ part-other _ _ _ (sym (c .before .is-sot .ensures) ∙ c .if1 .left))
 
 returns-3 : tie.Need-returns-3 Inv-loop μ-loop
-unfolding ranges
+unfolding recordsIn
 returns-3 c =
     let l = c .before in
     let a = start l .args in

@@ -7,9 +7,9 @@ use lib.ListN.{length}
 use borrow.Author.Needs.{needs}
 use Rattle.tile.proofs.AssemblyLaws.{joined-none, length-kept}
 use Rattle.tile.proofs.AssemblyRanges.{kept-inside, partsFrom, parts-none, parts-dropped}
-use Rattle.tile.specs.Assembly.{rangeOf, ranges, joined}
+use Rattle.tile.specs.Assembly.{rangeOf, joined}
 use Rattle.tile.specs.declared.assembly.Range.the-variants.{Kept, Dropped}
-use Rattle.types.specs.Row.{entryAt}
+use Rattle.types.specs.Row.{rowBytes, entryAt, recordsIn}
 use Rattle.tile.proofs.assembly.size_needed.Statement.{statement}
 use Rattle.tile.proofs.assembly.size_needed.Tie as tie
 
@@ -24,7 +24,7 @@ stays : (size n rest : ℕ) → min (min (size + n) (2 ^ 64 - 1) + rest) (2 ^ 64
 stays size n rest = omega arith
 
 module _ {h table s : List ℕ} {size at : ℕ} where
-  dropped : at + 18 ≤ length table → rangeOf s (entryAt table at) ≡ Dropped → Summed h table s size at → Summed h table s size (at + 18)
+  dropped : at + rowBytes ≤ length table → rangeOf s (entryAt table at) ≡ Dropped → Summed h table s size at → Summed h table s size (at + rowBytes)
   dropped room gone i =
       record {
         inside = room;
@@ -32,10 +32,10 @@ module _ {h table s : List ℕ} {size at : ℕ} where
         total = ap (λ (ps : List (List ℕ)). min (size + length (joined ps)) (2 ^ 64 - 1)) (sym (parts-dropped s table at room gone)) ∙ i .total;
       }
 
-  kept : {from to next : ℕ} → at + 18 ≤ length table → rangeOf s (entryAt table at) ≡ Kept from to → next ≡ min (size + (to - from)) (2 ^ 64 - 1)
-      → Summed h table s size at → Summed h table s next (at + 18)
+  kept : {from to next : ℕ} → at + rowBytes ≤ length table → rangeOf s (entryAt table at) ≡ Kept from to → next ≡ min (size + (to - from)) (2 ^ 64 - 1)
+      → Summed h table s size at → Summed h table s next (at + rowBytes)
   kept {from} {to} {next} room found sum i =
-      let rest : ℕ = length (joined (partsFrom s table (at + 18))) in
+      let rest : ℕ = length (joined (partsFrom s table (at + rowBytes))) in
       let more = length-kept s table at from to room found in
       record {
         inside = room;
@@ -105,7 +105,7 @@ loop-again-2 c =
     kept (omega arith) (found f) (c .saturated .ensures) (head f .loop .inv)
 
 returns : tie.Need-returns Inv-loop μ-loop
-unfolding ranges
+unfolding recordsIn
 returns c =
     let l = c .before in
     let a = start l .args in

@@ -7,9 +7,9 @@ use lib.ListN.{length, take, drop}
 use borrow.Author.Needs.{needs}
 use Rattle.tile.proofs.AssemblyLaws.{joined-none, joined-next, length-kept, length-patched}
 use Rattle.tile.proofs.AssemblyRanges.{kept-inside, length-part, partsFrom, parts-none, parts-kept, parts-dropped}
-use Rattle.tile.specs.Assembly.{rangeOf, ranges, patched, joined}
+use Rattle.tile.specs.Assembly.{rangeOf, patched, joined}
 use Rattle.tile.specs.declared.assembly.Range.the-variants.{Kept, Dropped}
-use Rattle.types.specs.Row.{entryAt}
+use Rattle.types.specs.Row.{rowBytes, entryAt, recordsIn}
 use Rattle.numbers.proofs.BytesLaws.{put-put, put-none}
 use Rattle.numbers.specs.Bytes.{put}
 use Rattle.tile.proofs.assembly.write_parts.Statement.{statement}
@@ -23,7 +23,7 @@ record Filled (table s lent : List ℕ) (start : ℕ) (out : List ℕ) (place at
   whole : put out place (joined (partsFrom s table at)) ≡ put lent start (joined (partsFrom s table 0))
 
 module _ {table s lent : List ℕ} {start : ℕ} {out : List ℕ} {place at : ℕ} where
-  dropped : at + 18 ≤ length table → rangeOf s (entryAt table at) ≡ Dropped → Filled table s lent start out place at → Filled table s lent start out place (at + 18)
+  dropped : at + rowBytes ≤ length table → rangeOf s (entryAt table at) ≡ Dropped → Filled table s lent start out place at → Filled table s lent start out place (at + rowBytes)
   dropped room gone i =
       let less = parts-dropped s table at room gone in
       record {
@@ -34,16 +34,16 @@ module _ {table s lent : List ℕ} {start : ℕ} {out : List ℕ} {place at : �
       }
 
   -- a part has room
-  part-room : (from to : ℕ) → at + 18 ≤ length table → rangeOf s (entryAt table at) ≡ Kept from to → start + length (joined (partsFrom s table 0)) ≤ length lent
+  part-room : (from to : ℕ) → at + rowBytes ≤ length table → rangeOf s (entryAt table at) ≡ Kept from to → start + length (joined (partsFrom s table 0)) ≤ length lent
       → Filled table s lent start out place at → place + (to - from) ≤ length out
   part-room from to room found fits i = omega (arith, length-kept s table at from to room found, i .ends, i .same)
 
-  kept : (from to : ℕ) (next : List ℕ) → at + 18 ≤ length table → rangeOf s (entryAt table at) ≡ Kept from to → length next ≡ length out
+  kept : (from to : ℕ) (next : List ℕ) → at + rowBytes ≤ length table → rangeOf s (entryAt table at) ≡ Kept from to → length next ≡ length out
       → next ≡ put out place (patched (take (to - from) (drop from s))) → start + length (joined (partsFrom s table 0)) ≤ length lent
-      → Filled table s lent start out place at → Filled table s lent start next (place + (to - from)) (at + 18)
+      → Filled table s lent start out place at → Filled table s lent start next (place + (to - from)) (at + rowBytes)
   kept from to next room found n stored fits i =
       let part : List ℕ = take (to - from) (drop from s) in
-      let rest : List ℕ = joined (partsFrom s table (at + 18)) in
+      let rest : List ℕ = joined (partsFrom s table (at + rowBytes)) in
       let more = length-kept s table at from to room found in
       let long : length (patched part) ≡ to - from = length-patched part ∙ length-part s from to (kept-inside s (entryAt table at) found) in
       record {
@@ -110,7 +110,7 @@ part-write-part-end : tie.Need-part-write-part-end Inv-loop μ-loop
 part-write-part-end c = let h = kept-inside _ _ (found (c .before)) in search needs
 
 write-part-requires : tie.Need-write-part-requires Inv-loop μ-loop
-unfolding ranges
+unfolding recordsIn
 write-part-requires c κs =
     let f = c .before .before .before in
     let l = head f in
@@ -122,7 +122,7 @@ sub-place : tie.Need-sub-place Inv-loop μ-loop
 sub-place c = kept-inside _ _ (found (c .before .before .before .before .before .before)) .0
 
 add-place : tie.Need-add-place Inv-loop μ-loop
-unfolding ranges
+unfolding recordsIn
 add-place c =
     let f = c .before .before .before .before .before .before in
     let l = head f in
@@ -132,7 +132,7 @@ loop-less-2 : tie.Need-loop-less-2 Inv-loop μ-loop
 loop-less-2 c = omega arith
 
 loop-again-2 : tie.Need-loop-again-2 Inv-loop μ-loop
-unfolding ranges
+unfolding recordsIn
 loop-again-2 c =
     let f = c .before .before .before .before .before .before in
     let l = head f in
@@ -142,7 +142,7 @@ same-length : tie.Need-same-length Inv-loop μ-loop
 same-length c = c .before .loop .inv .same
 
 returns : tie.Need-returns Inv-loop μ-loop
-unfolding ranges
+unfolding recordsIn
 returns c =
     let l = c .before in
     let a = start l .args in

@@ -1,5 +1,5 @@
--- The rows of records, read back as ranges, are those records.
-use Prim.Native.Nat.{ℕ, _+_, _-_, _/_}
+-- The rows of a table read one by one: none, or the row here and those after it. The rows of records, read back, are those records.
+use Prim.Native.Nat.{ℕ, suc, _+_, _-_, _/_, _≤_, _<_}
 use native.Mathlib.Nat.{add-zero}
 use native.Mathlib.Omega.{arith}
 use mathlib.Core.Path.{_≡_, refl, sym, ap, ap₂, _∙_}
@@ -8,10 +8,25 @@ use lib.ListN.{length, length-append}
 use lib.Seq.{drop-append-seam}
 use Rattle.numbers.specs.Bytes.{be, put}
 use Rattle.numbers.proofs.BytesLaws.{be-rest, put-start}
-use Rattle.types.specs.Row.{entryAt, rowOf, rowsOf}
-use Rattle.types.proofs.RowLaws.{Fits, length-row, length-rows, entry-put}
 use Rattle.types.specs.declared.TilePartEntry.{TilePartEntry}
-use Rattle.tile.specs.Assembly.{rows, rangesFrom, ranges}
+use Rattle.types.specs.Row.{rowBytes, entryAt, rowOf, rowsOf, recordsAt, recordsFrom, recordsIn}
+use Rattle.types.proofs.RowLaws.{Fits, length-row, length-rows, entry-put}
+
+-- ---- one by one
+
+pub records-none : (table : List ℕ) (at : ℕ) → length table < at + rowBytes → recordsFrom table at ≡ []
+unfolding recordsFrom recordsAt
+records-none table at h =
+    let none : (length table - at) / rowBytes ≡ 0 = omega arith in
+    rw none
+
+pub records-next : (table : List ℕ) (at : ℕ) → at + rowBytes ≤ length table → recordsFrom table at ≡ entryAt table at ∷ recordsFrom table (at + rowBytes)
+unfolding recordsFrom recordsAt
+records-next table at h =
+    let one : (length table - at) / rowBytes ≡ suc ((length table - (at + rowBytes)) / rowBytes) = omega arith in
+    rw one
+
+-- ---- read back
 
 pub data All (P : TilePartEntry → Type 0) : List TilePartEntry → Type 0 where
   none : All P []
@@ -32,20 +47,20 @@ entry-past front s =
     let first : be 2 (front ++ s) (length front) ≡ be 2 s 0 = ap (be 2 (front ++ s)) (sym (add-zero (length front))) ∙ be-rest 2 front s 0 in
     λ i. record { «tile_index» = first i; offset = record { 0 = be-rest 8 front s 2 i }; length = be-rest 8 front s 10 i }
 
-row-ends : (front : List ℕ) (e : TilePartEntry) → length front + 18 ≡ length (front ++ rowOf e)
+row-ends : (front : List ℕ) (e : TilePartEntry) → length front + rowBytes ≡ length (front ++ rowOf e)
 row-ends front e = simp length-append (omega (arith, length-row e))
 
-rows-back : {es : List TilePartEntry} → All Fits es → (front : List ℕ) → rows (length es) (front ++ rowsOf es) (length front) ≡ es
-unfolding rows rowsOf
+rows-back : {es : List TilePartEntry} → All Fits es → (front : List ℕ) → recordsAt (length es) (front ++ rowsOf es) (length front) ≡ es
+unfolding recordsAt rowsOf
 rows-back none front = refl
 rows-back (more {e = e} {rest = rest} f fits) front =
     ap₂ (λ (x : TilePartEntry) (xs : List TilePartEntry). x ∷ xs)
     (entry-past front (rowOf e ++ rowsOf rest) ∙ row-here e (rowsOf rest) f)
-    (ap₂ (λ (l : List ℕ) (n : ℕ). rows (length rest) l n) (sym (append-assoc front (rowOf e) (rowsOf rest))) (row-ends front e)
+    (ap₂ (λ (l : List ℕ) (n : ℕ). recordsAt (length rest) l n) (sym (append-assoc front (rowOf e) (rowsOf rest))) (row-ends front e)
     ∙ rows-back fits (front ++ rowOf e))
 
-pub ranges-back : {es : List TilePartEntry} → All Fits es → ranges (rowsOf es) ≡ es
-unfolding ranges rangesFrom
-ranges-back {es} fits =
-    let count : (length (rowsOf es) - 0) / 18 ≡ length es = omega (arith, length-rows es) in
-    ap (λ (n : ℕ). rows n (rowsOf es) 0) count ∙ rows-back fits []
+pub records-back : {es : List TilePartEntry} → All Fits es → recordsIn (rowsOf es) ≡ es
+unfolding recordsIn recordsFrom
+records-back {es} fits =
+    let count : (length (rowsOf es) - 0) / rowBytes ≡ length es = omega (arith, length-rows es) in
+    ap (λ (n : ℕ). recordsAt n (rowsOf es) 0) count ∙ rows-back fits []
