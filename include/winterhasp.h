@@ -95,10 +95,12 @@ typedef struct winterhasp_reading {
     uint32_t edition;   /* WINTERHASP_EDITION_.. */
 } winterhasp_reading;
 
-/* A table is lent as bytes, and has a row for each 18: a tile's index (2 bytes), the tile-part's offset in the codestream
-   (8) and its length (8), big-endian. Bytes behind the last whole row are none. */
+/* A table is lent as bytes, and has a row for each 21: a tile's index (2 bytes), the tile-part's offset in the codestream
+   (8) and its length (8), big-endian; then 1 where its numbers are known, and TPsot and TNsot, or three times 0 where they are
+   not. A row of the scan has them, and one of the header's length table does not. In a row that a function reads, any byte
+   there but 1 means that they are not known. Bytes behind the last whole row are none. */
 
-enum { WINTERHASP_ROW_BYTES = 18 };
+enum { WINTERHASP_ROW_BYTES = 21 };
 
 static inline uint64_t winterhasp_big_endian(const uint8_t *bytes, size_t count)
 {
@@ -121,6 +123,24 @@ static inline uint64_t winterhasp_row_offset(const uint8_t *row)
 static inline uint64_t winterhasp_row_length(const uint8_t *row)
 {
     return winterhasp_big_endian(row + 10, 8);
+}
+
+/* Not 0 where the numbers are known, which the next two give. */
+static inline int winterhasp_row_is_numbered(const uint8_t *row)
+{
+    return row[18] == 1;
+}
+
+/* The tile-part's number among its tile's, from 0. */
+static inline uint8_t winterhasp_row_tpsot(const uint8_t *row)
+{
+    return row[19];
+}
+
+/* How many tile-parts its tile has; 0 where that is not given there. */
+static inline uint8_t winterhasp_row_tnsot(const uint8_t *row)
+{
+    return row[20];
 }
 
 /* "Offsets". Where an offset of the codestream that starts at `start` lies in the file. Never refuses: 1, and `value` is the
@@ -222,6 +242,11 @@ uint32_t winterhasp_component_within(const uint8_t *codestream, size_t codestrea
 uint32_t winterhasp_scan_sot_markers(const uint8_t *codestream, size_t codestream_len, uint64_t first_sot_offset,
                                      uint8_t *table, size_t table_len, uint64_t *value);
 
+/* "Tile-parts in order". 1 where the tile-parts of `tile` stand in order in the rows of `table`: TPsot runs 0, 1, 2 and on from
+   one to the next, and every TNsot that is not 0 is their number. 0 where they do not, where the numbers of one are not known,
+   and where there is none. Rows of other tiles are passed over. Never refuses. */
+uint32_t winterhasp_tile_in_order(const uint8_t *table, size_t table_len, uint16_t tile);
+
 /* "Split". How many tile-parts one tile's joined bytes hold. Never refuses. */
 uint64_t winterhasp_split_count(const uint8_t *tile, size_t tile_len);
 
@@ -246,8 +271,8 @@ uint32_t winterhasp_rewrite_siz_for_tile_by_rule(const uint8_t *decode_header, s
                                                  uint32_t rule, uint8_t *out, size_t out_len, uint64_t *value);
 
 /* "Assembly". A codestream of one tile, as tile 0, goes to `out`, its length to `value`: header, the tile-parts that the rows of
-   `tile_parts` give of `codestream`, EOC. Rows are as the scan writes them, of one tile; their index is not looked at. The
-   header is rewritten for the tile as above. Refusals: 30, 31, 17. */
+   `tile_parts` give of `codestream`, EOC. Rows are as the scan writes them, of one tile; of each its offset and its length are
+   looked at alone. The header is rewritten for the tile as above. Refusals: 30, 31, 17. */
 uint32_t winterhasp_build_minimal_codestream(const uint8_t *decode_header, size_t decode_header_len,
                                              const uint8_t *tile_parts, size_t tile_parts_len, const uint8_t *codestream,
                                              size_t codestream_len, uint8_t *out, size_t out_len, uint64_t *value);

@@ -126,6 +126,11 @@ def with_header(*segments, parts):
     return SOC + b"".join(segments) + parts + EOC
 
 
+def numbered(tile, number, count):
+    """A tile-part of 14 bytes with these in its SOT."""
+    return part(tile, 14)[:10] + bytes([number, count]) + bytes(2)
+
+
 def with_segments(segments):
     """A tile-part of tile 0, with these behind its SOT."""
     first = part(0, 14)
@@ -201,6 +206,8 @@ def cut_of(content, tile, rule):
 # Sample A: tiles of 4 by 4, and of tile 5 the image has 2 by 2
 SAMPLE = (ROOT / "crates/tileparts/stdin").read_bytes()
 SAMPLE_LISTED = [(0, 57, 14), (5, 71, 16)]
+# what JSON has more of each, by TLM and by its SOT
+NOT_NUMBERED, NUMBERED = {"tpsot": None, "tnsot": None}, {"tpsot": 0, "tnsot": 1}
 
 HEADER, TWO_PARTS = codestream([], [14, 16])
 SECOND = len(HEADER) + 14
@@ -281,6 +288,39 @@ FILES |= {
     "ppm-no-grid.j2k": with_header(size_segment((8, 8), (0, 4)), PPM, parts=part(0, 14)),
 }
 
+
+# Tile-parts by their tile, their number and their tile's count of them, and the first and the last of each range of tiles that are
+# out of order
+ORDERS = [
+    ([(5, 0, 3), (5, 1, 3), (5, 2, 3)], []),
+    ([(5, 0, 3), (5, 2, 3), (5, 1, 3)], [[5, 5]]),
+    # not from 0, one twice, and one left out
+    ([(5, 1, 0)], [[5, 5]]),
+    ([(5, 0, 3), (5, 1, 3), (5, 1, 3)], [[5, 5]]),
+    ([(5, 0, 0), (5, 2, 0)], [[5, 5]]),
+    # a count of 0 says nothing
+    ([(5, 0, 0), (5, 1, 0), (5, 2, 0)], []),
+    ([(5, 0, 0), (5, 1, 0), (5, 2, 3)], []),
+    ([(5, 0, 0), (5, 2, 0), (5, 1, 0)], [[5, 5]]),
+    # a count of more or of fewer than there are, in all of them or in one
+    ([(5, 0, 3), (5, 1, 3)], [[5, 5]]),
+    ([(5, 0, 2), (5, 1, 2), (5, 2, 2)], [[5, 5]]),
+    ([(5, 0, 3), (5, 1, 4), (5, 2, 3)], [[5, 5]]),
+    ([(5, 0, 3), (5, 1, 3), (5, 2, 2)], [[5, 5]]),
+    # as many as have a number, and one more
+    ([(5, number, 0) for number in range(256)], []),
+    ([(5, number % 256, 0) for number in range(257)], [[5, 5]]),
+    # two tiles by turns
+    ([(0, 0, 2), (5, 0, 2), (0, 1, 2), (5, 1, 2)], []),
+    ([(0, 0, 2), (5, 1, 2), (0, 1, 2), (5, 0, 2)], [[5, 5]]),
+    ([(0, 0, 2), (5, 0, 1), (0, 1, 2)], []),
+    # two beside each other, and one outside the grid
+    ([(4, 1, 1), (0, 0, 1), (3, 0, 2), (65_535, 1, 1), (2, 0, 0)], [[3, 4], [65_535, 65_535]]),
+    # all that are told, and one more
+    ([(tile, tile % 2, 0) for tile in range(200)], [[tile, tile] for tile in range(1, 200, 2)]),
+    ([(tile, tile % 2, 0) for tile in range(202)], [[tile, tile] for tile in range(1, 202, 2)]),
+    ([(tile, 1, 0) for tile in range(202)], [[0, 201]]),
+]
 
 # What is put into a main header, and how many delimiters without FF the walk passes there
 FILLERS = {
@@ -452,6 +492,13 @@ def moved(tile, why):
 def filler_text(count):
     delimiters = "DELIMITER" if count == 1 else "DELIMITERS"
     return f"{count} {delimiters} WITHOUT FF, which no edition of the standard allows" if count else "none"
+
+
+def order_text(ranges):
+    """Of tiles that are out of order, of which the first 100 ranges are told."""
+    named = [f"{first}-{last}" if last > first else f"{first}" for first, last in ranges]
+    more = f" and {len(named) - 100} ranges more" * (len(named) > 100)
+    return f"TILE-PARTS OUT OF ORDER, of tiles: {' '.join(named[:100])}{more}"
 
 
 def cap(bits, words):
@@ -885,13 +932,13 @@ class Runs:
         listed = [(tile, at + more, size) for tile, at, size in SAMPLE_LISTED]
         self.case(Case(["list", file], out=listing(start, len(SAMPLE) + more, 57 + more, 45 + more, listed, listed)))
         status, out, said = self.run("list", "--json", file)
-        rows = [{"tile": tile, "offset": at, "length": size} for tile, at, size in listed]
+        rows = [{"tile": tile, "offset": at, "length": size} | NOT_NUMBERED for tile, at, size in listed]
         accepted = {
             "file": file,
             "status": "accepted",
             "codestream": {"start": start, "length": len(SAMPLE) + more},
             "header": {"first_sot": 57 + more, "decode_length": 45 + more, "tlm": rows},
-            "parts": [row | {"file_offset": start + row["offset"]} for row in rows],
+            "parts": [row | {"file_offset": start + row["offset"]} | NUMBERED for row in rows],
             "unread": 0,
         }
         self.hold(f"list --json {file}", (status, json.loads(out), said), (0, accepted, ""))
@@ -949,6 +996,43 @@ class Runs:
             self.hold(f"tile 0 of {file}", (status, said, len((self.folder / OUT).read_bytes())), (0, "", size))
             status, _, said = self.run("grid", file, "-o", "out.svg")
             self.hold(f"grid {file}", (status, said), (0, ""))
+
+    def orders(self):
+        """The numbers of tile-parts in JSON, and the tiles that `show` says are out of order, bare and in a JP2. `list` is as ever."""
+        for number, (parts, ranges) in enumerate(ORDERS):
+            content = with_header(siz(), parts=b"".join(numbered(*each) for each in parts))
+            for file, start in (f"order{number}.j2k", 0), (f"order{number}.jp2", START):
+                (self.folder / file).write_bytes(jp2(content) if start else content)
+                self.hold(f"list {file}", self.run("list", file), (0, self.listing((self.folder / file).read_bytes()), ""))
+                status, out, said = self.run("list", "--json", file)
+                saw = [(row["tile"], row["tpsot"], row["tnsot"]) for row in json.loads(out)["parts"]]
+                self.hold(f"list --json {file}", (status, saw, said), (0, parts, ""))
+                self.ordered(file, ranges)
+        # where only TLM is wrong they are told too, and where there is no grid
+        swapped = numbered(5, 1, 2) + numbered(5, 0, 2)
+        (self.folder / "order-tlm4.j2k").write_bytes(with_header(siz(), segment(0xFF55, b"\0"), parts=swapped))
+        self.ordered("order-tlm4.j2k", [[5, 5]], 1, about("order-tlm4.j2k", sentence(4, len(HEADER))))
+        (self.folder / "order-no-grid.j2k").write_bytes(with_header(size_segment((8, 8), (0, 4)), parts=swapped))
+        self.ordered("order-no-grid.j2k", [[5, 5]])
+        # a million of them, of as many tiles as there may be, and quickly, emulator and all: each tile is asked for over its own
+        turns = [(tile, number) for number in range(16) for tile in range(65_535)]
+        parts = b"".join(numbered(tile, number ^ (tile % 3 == 0), 16) for tile, number in turns)
+        (self.folder / "order-many.j2k").write_bytes(with_header(size_segment((255, 257), (1, 1)), parts=parts))
+        before = time.monotonic()
+        self.ordered("order-many.j2k", [[tile, tile] for tile in range(0, 65_535, 3)])
+        took = time.monotonic() - before
+        self.hold("show order-many.j2k, quickly", took < 10, True)
+        print(f"command: show order-many.j2k, twice: {took:.2f} s")
+        (self.folder / "order-many.j2k").unlink()
+
+    def ordered(self, file, ranges, status=0, said=""):
+        """What `show` tells of tiles that are out of order, as text, before the scan's end, and as JSON."""
+        saw, out, error = self.run("show", file)
+        told = re.findall("^order .*\n.{10}", out, re.M)
+        wanted = [f"order       {order_text(ranges)}\nscan ended"] if ranges else []
+        self.hold(f"show {file}", (saw, told, error), (status, wanted, said))
+        found = json.loads(self.run("show", "--json", file)[1])["tile_parts"]["out_of_order_ranges"]
+        self.hold(f"show --json {file}", found, ranges)
 
     def editions(self):
         """Sample A with CAP between SIZ and TLM, bare and in a JP2, announced and not, sound and not: by the older edition, which is the
@@ -1248,14 +1332,14 @@ class Runs:
         """JSON says what the text says."""
         status, out, _ = self.run("list", "--json", "a.jp2", "cut.jp2", "missing")
         found = [json.loads(line) for line in out.splitlines()]
-        row = lambda tile, at, size: {"tile": tile, "offset": at, "length": size}
+        row = lambda tile, at, size: {"tile": tile, "offset": at, "length": size} | NOT_NUMBERED
         tlm = [row(*each) for each in SAMPLE_LISTED]
         accepted = {
             "file": "a.jp2",
             "status": "accepted",
             "codestream": {"start": START, "length": 89},
             "header": {"first_sot": 57, "decode_length": 45, "tlm": tlm},
-            "parts": [each | {"file_offset": START + each["offset"]} for each in tlm],
+            "parts": [each | {"file_offset": START + each["offset"]} | NUMBERED for each in tlm],
             "unread": 0,
         }
         words = WORDS[9]
@@ -1284,6 +1368,8 @@ class Runs:
         self.hold("show --json", found["fetch"], {"enough": 59, "region": 89, "enlargements": 0})
         tiles = {"present": 2, "missing": 4, "missing_ranges": [[1, 4]], "outside_ranges": []}
         self.hold("show --json", found["tiles"], tiles)
+        parts = {"count": 2, "bytes": 30, "first": {"offset": 57, "file_offset": START + 57}, "out_of_order_ranges": []}
+        self.hold("show --json", found["tile_parts"], parts)
         ended = {"at": "EOC", "offset": 87, "file_offset": START + 87, "bytes": None, "unread": 0}
         self.hold("show --json", found["scan_ended"], ended)
         _, out, _ = self.run("show", "--json", "too-many.j2k")
@@ -1374,10 +1460,13 @@ class Runs:
         help_text = self.run("list", "--help")[1]
         for words in "carried-on    on over the segments in the order of the file", "[default: restarting]":
             self.hold(f"list --help: {words}", words in help_text, True)
+        row = json.dumps(json.loads(self.run("list", "--json", "a.j2k")[1])["parts"][1], separators=(",", ":"))
+        self.hold("list --help: JSON", f"  {row}\n" in help_text, True)
         help_text = self.run("tile", "--help")[1]
         for words in "in-place    the tile stays where it lies, with its own pixels", "[default: in-place]":
             self.hold(f"tile --help: {words}", words in help_text, True)
         self.hold("show --help: filler", f"  {filler_text(1)}\n" in self.run("show", "--help")[1], True)
+        self.hold("show --help: order", f"  {order_text([[5, 5], [9, 12]])}\n" in self.run("show", "--help")[1], True)
         self.hold("--version", self.run("--version"), (0, "winterhasp 0.1.0\n", ""))
         for words in [], *([command] for command in COMMANDS):
             status, out, error = self.run(*words, "--help")
@@ -1626,6 +1715,7 @@ class Runs:
             self.hold(f"show {name}", saw, [width, height, 3, tiles])
             whole = found["tiles"]["missing"], found["scan_ended"]["at"], found["scan_ended"]["unread"]
             self.hold(f"show {name}, its end", whole, (0, "EOC", 0))
+            self.hold(f"show {name}, its order", found["tile_parts"]["out_of_order_ranges"], [])
             listed = {int(line.split()[1]) for line in out.splitlines() if line.startswith("part ")}
             self.hold(f"list {name}, its tiles", listed, set(range(tiles)))
             status, out, _ = self.run("grid", name, "-o", "-")
@@ -1643,9 +1733,9 @@ class Runs:
 
 
 GROUPS = [
-    Runs.accepted, Runs.refused, Runs.components, Runs.tiles, Runs.packed, Runs.fetches, Runs.fillers, Runs.numberings, Runs.editions,
-    Runs.rules, Runs.never_over_the_input, Runs.machines, Runs.pictures, Runs.not_read, Runs.words, Runs.not_written, Runs.streams,
-    Runs.damaged, Runs.folders, Runs.large, Runs.shrinking, Runs.encoders,
+    Runs.accepted, Runs.refused, Runs.components, Runs.tiles, Runs.packed, Runs.fetches, Runs.fillers, Runs.numberings, Runs.orders,
+    Runs.editions, Runs.rules, Runs.never_over_the_input, Runs.machines, Runs.pictures, Runs.not_read, Runs.words, Runs.not_written,
+    Runs.streams, Runs.damaged, Runs.folders, Runs.large, Runs.shrinking, Runs.encoders,
 ]  # fmt: skip
 
 

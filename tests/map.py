@@ -33,10 +33,12 @@ SHOWN = {
     "header/walk": ("2, 10, 18 to 21", ["header"]),
     "header/parse": ("2, 18, 20", ["header", "enough"]),
     "parts/scan": ("3", ["scan"]),
+    "parts/order": ("22", ["order"]),
     "parts/split": ("4", ["split"]),
     "records/main_header": ("10, 19, 21", ["header", "enough"]),
     "records/scan": ("11", ["scan"]),
-    "records/tables": ("10, 11, 19, 21", []),
+    "records/order": ("23", ["order"]),
+    "records/tables": ("10, 11, 19, 21, 23", ["header", "scan", "order"]),
     "tile/siz": ("5, 6, 12 to 16", ["rewrite", "assembly", "components"]),
     "tile/original": ("5, 6", ["rewrite", "assembly"]),
     "tile/annex_b": ("12 to 16", ["rewrite", "assembly", "components"]),
@@ -52,6 +54,7 @@ SHOWN = {
     "host/find": ("", ["marker"]),
     "host/parse": ("", ["header"]),
     "host/scan": ("", ["scan"]),
+    "host/order": ("", ["order"]),
     "host/split": ("", ["split"]),
     "host/rewrite": ("", ["rewrite"]),
     "host/rules": ("", ["rewrite", "assembly", "components"]),
@@ -60,8 +63,11 @@ SHOWN = {
     "host/siz": ("", ["siz", "pixel"]),
     "host/components": ("", ["components"]),
     "host/growth": ("", ["growth"]),
-    "probe": ("", ["scan", "search"]),
+    "probe": ("", ["search"]),
+    "probe/own": ("", ["header", "scan", "order"]),
     "probe/main_header": ("", ["header"]),
+    "probe/scan": ("", ["scan"]),
+    "probe/order": ("", ["order"]),
 }
 
 # Definitions that go with a module of another name.
@@ -72,6 +78,7 @@ ALSO = {
     "header/numbering": ["IsoTlm"],
     "header/walk": ["Base"],
     "parts/scan": ["Sot", "Iso", "Tiles"],
+    "parts/order": ["Iso", "Tiles"],
     "parts/split": ["Sot", "Tiles"],
     "tile/annex_b": ["Iso"],
     "tile/original": ["Iso"],
@@ -99,8 +106,9 @@ Proofs of single functions stand in `proofs/MODULE/FUNCTION/Proof.antt`.
 TAIL = """
 Over all of them stands crate `laws`, with no code: `proofs/Demand3*.antt` (what a codestream that is accepted promises of
 the tiles cut out of it), `proofs/Sample*.antt` (sample A and the edges of the rules), `proofs/Settled.antt` (each entry point's
-contract settles its outcome), `proofs/Rows.antt` (tables of rows and of records agree) and `proofs/Region*.antt` (how much header
-is enough). Crate `chain`, with no code either, says what a walk is: `specs/Chain.antt`, `proofs/ChainLaws.antt`.
+contract settles its outcome), `proofs/Rows.antt` (tables of rows and of records agree), `proofs/Region*.antt` (how much header
+is enough) and `proofs/OrderPremises.antt` (what the laws on the order of tile-parts ask for). Crate `chain`, with no code either,
+says what a walk is: `specs/Chain.antt`, `proofs/ChainLaws.antt`.
 """
 
 

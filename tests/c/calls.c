@@ -210,7 +210,9 @@ static void main_header(const uint8_t *sample, uint8_t *decode_header)
     CHECK(memcmp(out, sample, 45) == 0 && out[45] == HELD);
     const uint8_t *second = table + WINTERHASP_ROW_BYTES;
     CHECK(winterhasp_row_index(second) == 5 && winterhasp_row_offset(second) == 71 && winterhasp_row_length(second) == 16);
+    CHECK(!winterhasp_row_is_numbered(second) && second[18] == 0 && second[19] == 0 && second[20] == 0);
     CHECK(all_held(second + WINTERHASP_ROW_BYTES, WINTERHASP_ROW_BYTES));
+    CHECK(winterhasp_tile_in_order(table, 2 * WINTERHASP_ROW_BYTES, 5) == 0);
     memcpy(decode_header, out, 45);
 }
 
@@ -324,6 +326,9 @@ static void parts(const uint8_t *sample)
     CHECK(value == 2);
     CHECK(winterhasp_scan_sot_markers(sample, SAMPLE_BYTES, FIRST_SOT, table, sizeof table, &value) == 0 && value == 2);
     CHECK(winterhasp_row_index(table) == 0 && winterhasp_row_offset(table) == FIRST_SOT && winterhasp_row_length(table) == 14);
+    CHECK(winterhasp_row_is_numbered(table) && winterhasp_row_tpsot(table) == 0 && winterhasp_row_tnsot(table) == 1);
+    CHECK(winterhasp_tile_in_order(table, sizeof table, 5) == 1 && winterhasp_tile_in_order(table, sizeof table, 1) == 0);
+    CHECK(winterhasp_tile_in_order(table, sizeof table - 1, 5) == 0 && winterhasp_tile_in_order(NULL, 0, 5) == 0);
     CHECK(winterhasp_scan_sot_markers(sample, 80, FIRST_SOT, table, sizeof table, &value) == WINTERHASP_TILE_PART_CUT_SHORT);
     CHECK(value == 71);
 

@@ -13,6 +13,7 @@ use borrow.Author.Tests.{eq-eqb}
 use Rattle.numbers.specs.Bytes.{be, put}
 use Rattle.numbers.proofs.BytesLaws.{be-bound}
 use Rattle.numbers.proofs.Choice.{by-bool}
+use Rattle.types.specs.declared.PartNumbers.the-variants.{NotKnown}
 use Rattle.types.specs.declared.TilePartEntry.{TilePartEntry}
 use Rattle.types.proofs.RowStanding.{Layout, length-more, length-all, put-last, stored}
 use Rattle.header.specs.Step.{segmentEnd}
@@ -77,12 +78,12 @@ module _ (s : List ℕ) (at : ℕ) where
   -- what is read at an entry's place is its record
   pub entry-read : (k i offset : ℕ) {narrow wide index bytes : ℕ} → narrow ≡ indexSize (stlm s at) → wide ≡ lengthSize (stlm s at)
       → index ≡ cond (eqb narrow 0) (k + i) (be narrow s (at + 6 + i * (narrow + wide))) → bytes ≡ be wide s (at + 6 + i * (narrow + wide) + narrow)
-      → record { «tile_index» = index; offset = record { 0 = offset }; length = bytes } ≡ recordOf offset (entryOn s at k i)
+      → record { «tile_index» = index; numbers = NotKnown; offset = record { 0 = offset }; length = bytes } ≡ recordOf offset (entryOn s at k i)
   unfolding entryOn entryIn
   entry-read k i offset {narrow} {wide} {index} {bytes} n w x b =
       let x' : index ≡ entryOn s at k i .index = x ∙ rw (n, w) (sym (cond-again (eqb (indexSize (stlm s at)) 0) (k + i) i (be (indexSize (stlm s at)) s (entryPlace s at i)))) in
       let b' : bytes ≡ entryOn s at k i .bytes = b ∙ rw (n, w) in
-      λ j. record { «tile_index» = x' j; offset = record { 0 = offset }; length = b' j }
+      λ j. record { «tile_index» = x' j; numbers = NotKnown; offset = record { 0 = offset }; length = b' j }
 
 module _ {B : Type 0} (L : Layout B) where
   -- the entries before the i-th are written: those that are left make the table that all make of the one lent

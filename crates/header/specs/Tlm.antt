@@ -6,6 +6,7 @@ use lib.ListN.{length, getD}
 use lib.Dec.{leb, eqb}
 use Rattle.numbers.specs.Bytes.{be}
 use Rattle.types.specs.Refusals.{refusal}
+use Rattle.types.specs.declared.PartNumbers.the-variants.{NotKnown}
 use Rattle.types.specs.declared.TilePartEntry.{TilePartEntry}
 use Rattle.header.specs.Step.{segmentEnd}
 use Rattle.header.specs.declared.tlm.Tlm.{Tlm}
@@ -90,7 +91,7 @@ entriesOn s at k i (suc n) = entryOn s at k i ∷ entriesOn s at k (i + 1) n
 
 -- an entry's record, whose tile-part starts at a place
 abbrev pub recordOf : ℕ → Entry → TilePartEntry
-recordOf from e = record { «tile_index» = e .index; offset = record { 0 = from }; length = e .bytes }
+recordOf from e = record { «tile_index» = e .index; numbers = NotKnown; offset = record { 0 = from }; length = e .bytes }
 
 -- entries as records: the first starts at a place, each next where the one before ends
 unfoldable pub placed : ℕ → List Entry → List TilePartEntry

@@ -11,6 +11,7 @@ ghost use Rattle.types.specs.Row.{rowBytes, rowsOf};
 ghost use Rattle.header.specs.Tlm.{indexSize, lengthSize, Within, tlmAt, Accepted, entryCount};
 ghost use Rattle.header.specs.Tlm.{recordOf, unindexed, entryOn, entriesOn, placed, total};
 use types::CodestreamOffset;
+use types::PartNumbers;
 use types::ROW;
 use types::Refusal;
 use types::TilePartEntry;
@@ -100,6 +101,7 @@ pub fn tlm_entry(
     let length = entry_length(codestream, place + index_bytes, length_bytes);
     TilePartEntry {
         tile_index,
+        numbers: PartNumbers::NotKnown,
         offset,
         length,
     }

@@ -7,6 +7,7 @@ pub mod extent;
 pub mod find;
 pub mod growth;
 pub mod offsets;
+pub mod order;
 pub mod parse;
 pub mod rewrite;
 pub mod rules;

@@ -10,7 +10,7 @@ use header::numbering::Numbering;
 use header::reading::Reading;
 use header::reading::ReadingNumbers;
 
-// TLM entries without an index are numbered on over the segments, and CAP is passed over as any segment. `table` gets a row of 18 bytes for each TLM entry, `out` the decode header. `first_sot`: the first SOT's offset, or a refusal's
+// TLM entries without an index are numbered on over the segments, and CAP is passed over as any segment. `table` gets a row of 21 bytes for each TLM entry, `out` the decode header. `first_sot`: the first SOT's offset, or a refusal's
 // place; `decode_length`: the decode header's length; `entries`: the rows; `fillers`: the delimiters whose high byte is not FF.
 #[no_mangle]
 pub extern "C" fn winterhasp_parse_main_header(

@@ -6,7 +6,7 @@ ghost use Rattle.types.specs.Row.{rowBytes};
 ghost use Rattle.parts.specs.Scan.{scanned, scanNumber, scanValue, scannedTable};
 use types::CodestreamOffset;
 
-// `value`: entries, or a refusal's place. The table has a row for each 18 bytes.
+// `value`: entries, or a refusal's place. The table has a row for each 21 bytes.
 #[no_mangle]
 pub extern "C" fn winterhasp_scan_sot_markers(
     codestream: &[u8],

@@ -13,6 +13,7 @@ use Rattle.types.specs.Markers.{SOC, SIZ}
 use Rattle.types.specs.Row.{rowsOf}
 use Rattle.types.specs.declared.Area.{Area}
 use Rattle.types.specs.declared.Refusal.{Refusal}
+use Rattle.types.specs.declared.PartNumbers.the-variants.{Known}
 use Rattle.types.specs.declared.TilePartEntry.{TilePartEntry}
 use Rattle.header.specs.declared.parse.MainHeader.the-variants.{Header}
 use Rattle.header.proofs.ParseLaws.{judged-long}
@@ -54,8 +55,9 @@ all-bytes [] e i = omega arith
 all-bytes (x ∷ rest) e zero = ltb-true x 256 (both (ltb x 256) (allBelow rest) e .0)
 all-bytes (x ∷ rest) e (suc i) = all-bytes rest (both (ltb x 256) (allBelow rest) e .1) i
 
+-- a tile-part by itself, number 0 of 1
 abbrev entry : ℕ → ℕ → ℕ → TilePartEntry
-entry index offset long = record { «tile_index» = index; offset = record { 0 = offset }; length = long }
+entry index offset long = record { «tile_index» = index; numbers = Known 0 1; offset = record { 0 = offset }; length = long }
 
 A-bytes : allBelow A ≡ true
 unfolding walks allBelow
@@ -151,13 +153,16 @@ least-taken InPlace = (refl, refl, refl, refl)
 -- ---- an entry of 12 bytes or longer
 
 -- 10 bytes, the last two of the SOT segment being EOC: no part stands in them, so the split gives none
-pub short-taken : (rule : Rule) → Taken rule (least (two 0xff90 ++ two 10 ++ two 0 ++ four 10 ++ two 0xffd9)) 42 (entry 0 42 10 ∷ []) 0 (full rule 0 0 1 1)
+abbrev cut-off : TilePartEntry
+cut-off = record { «tile_index» = 0; numbers = Known 0xff 0xd9; offset = record { 0 = 42 }; length = 10 }
+
+pub short-taken : (rule : Rule) → Taken rule (least (two 0xff90 ++ two 10 ++ two 0 ++ four 10 ++ two 0xffd9)) 42 (cut-off ∷ []) 0 (full rule 0 0 1 1)
 unfolding computed
 short-taken AnnexB = (refl, refl, refl, refl)
 short-taken Original = (refl, refl, refl, refl)
 short-taken InPlace = (refl, refl, refl, refl)
 
-pub short-split : partsOf (joined (least (two 0xff90 ++ two 10 ++ two 0 ++ four 10 ++ two 0xffd9)) (entry 0 42 10 ∷ [])) ≡ []
+pub short-split : partsOf (joined (least (two 0xff90 ++ two 10 ++ two 0 ++ four 10 ++ two 0xffd9)) (cut-off ∷ [])) ≡ []
 unfolding computed
 short-split = refl
 

@@ -1,24 +1,26 @@
 -- The scan over the parts of a tile, joined with Isot 0, and EOC: at each part stand SOT, Lsot 10, Isot 0 and its length in Psot, so the scan passes
 -- the parts one by one, and EOC ends it.
-use Prim.Native.Nat.{ℕ, suc, _+_, _≤_}
+use Prim.Native.Nat.{ℕ, suc, _+_, _-_, _≤_, _<_}
 use native.Mathlib.Nat.{add-zero}
 use native.Mathlib.Omega.{arith}
-use mathlib.Core.Path.{_≡_, refl, sym, ap, _∙_}
+use mathlib.Core.Path.{_≡_, refl, sym, ap, ap₂, _∙_}
 use mathlib.Core.Logic.{⊎-elim}
 use mathlib.Core.Bool.{true}
 use mathlib.Core.List.{List, [], _∷_, _++_, map, append-assoc, append-nil}
-use lib.ListN.{length, length-append, length-take, length-drop}
+use lib.ListN.{length, getD, length-append, length-take, length-drop}
 use borrow.Author.Tests.{le-leb, eq-eqb}
 use Rattle.numbers.specs.Bytes.{be, bytesOf, put}
 use Rattle.numbers.proofs.BytesLaws.{be-rest, be-front, be-part, be-put, be-put-before, be-put-after, be-bytesOf, length-bytes}
+use Rattle.numbers.proofs.Rows.{be-one}
 use Rattle.types.specs.Markers.{SOT, EOC}
+use Rattle.types.specs.declared.PartNumbers.the-variants.{Known}
 use Rattle.types.specs.declared.TilePartEntry.{TilePartEntry}
-use Rattle.parts.specs.Sot.{lsot, isot, psot}
-use Rattle.parts.specs.Scan.{scanStepAt, scanFrom, judged}
+use Rattle.parts.specs.Sot.{lsot, isot, psot, tpsot, tnsot}
+use Rattle.parts.specs.Scan.{sotStepAt, scanStepAt, scanFrom, judged}
 use Rattle.parts.specs.Tiles.{bytesAt, AllLong}
 use Rattle.parts.specs.declared.scan.ScanStep.the-variants.{Part}
 use Rattle.parts.specs.declared.scan.Scanned.the-variants.{Table}
-use Rattle.parts.proofs.ScanLaws.{step-sot, sot-no-eoc, sot-part, same-part, Scans, scans-end, scans-part}
+use Rattle.parts.proofs.ScanLaws.{step-sot, sot-no-eoc, sot-rest, sot-part, same-part, Scans, scans-end, scans-part}
 use Rattle.parts.proofs.ScanAnswers.{scans-judged}
 use Rattle.parts.proofs.Iso.{eoc-ends}
 use Rattle.tile.specs.Assembly.{isSot, patched, joined}
@@ -70,23 +72,79 @@ module _ (s : List ℕ) (tile : ℕ) (e : TilePartEntry) (o : OfTile s tile e) (
   patched-psot =
       rw patched-is (be-put-after 4 (bytesAt s e) 4 (bytesOf 2 0) 0 (omega (arith, length-bytesAt)) ∙ read-part 4 6 (omega arith))
 
+  -- a part's numbers, bytes 10 and 11 of its SOT, stay: Isot alone is patched
+  part-byte : (i : ℕ) → i < 12 → getD (bytesAt s e) i 0 ≡ getD s (e .offset .0 + i) 0
+  part-byte i h = sym (be-one (bytesAt s e) i) ∙ read-part 1 i (omega arith) ∙ be-one s (e .offset .0 + i)
+
+  patched-byte : (i : ℕ) → 6 ≤ i → i < 12 → getD (patched (bytesAt s e)) i 0 ≡ getD (bytesAt s e) i 0
+  unfolding bytesOf
+  patched-byte i from to =
+      let there : 4 + (2 + (i - 6)) ≡ i = omega arith in
+      rw patched-is
+      (sym (be-one (put (bytesAt s e) 4 (bytesOf 2 0)) i)
+      ∙ ap (be 1 (put (bytesAt s e) 4 (bytesOf 2 0))) (sym there)
+      ∙ be-put-after 1 (bytesAt s e) 4 (bytesOf 2 0) (i - 6) (omega (arith, length-bytesAt))
+      ∙ ap (be 1 (bytesAt s e)) there
+      ∙ be-one (bytesAt s e) i)
+
+  pub part-numbers : Known (tpsot (bytesAt s e) 0) (tnsot (bytesAt s e) 0) ≡ e .numbers
+  part-numbers =
+      ap₂ Known (part-byte 10 (omega arith)) (part-byte 11 (omega arith))
+      ∙ sym (ap (λ (x : TilePartEntry). x .numbers) (o .stands .entry))
+
   -- ---- behind any front, and with anything after it
 
-  module _ (some : psot s (e .offset .0) ≡ 0 → ⊥) (front y : List ℕ) where
-    read-at : (k i : ℕ) → i + k ≤ e .length → be k (front ++ (patched (bytesAt s e) ++ y)) (length front + i) ≡ be k (patched (bytesAt s e)) i
+  module _ (front y : List ℕ) where
+    whole : List ℕ
+    whole = front ++ (patched (bytesAt s e) ++ y)
+
+    length-whole : length whole ≡ length front + (e .length + length y)
+    unfolding whole
+    length-whole = simp length-append (omega (arith, patched-long))
+
+    read-at : (k i : ℕ) → i + k ≤ e .length → be k whole (length front + i) ≡ be k (patched (bytesAt s e)) i
+    unfolding whole
     read-at k i h = be-rest k front (patched (bytesAt s e) ++ y) i ∙ be-front k (patched (bytesAt s e)) y i (omega (arith, patched-long))
 
-    step-there : scanStepAt (front ++ (patched (bytesAt s e) ++ y)) (length front) ≡ Part (record { «tile_index» = 0; offset = record { 0 = length front }; length = e .length })
-    step-there =
-        let a : List ℕ = front ++ (patched (bytesAt s e) ++ y) in
-        let marker : be 2 a (length front) ≡ SOT = ap (be 2 a) (sym (add-zero (length front))) ∙ read-at 2 0 (omega arith) ∙ patched-marker in
-        let zero : isot a (length front) ≡ 0 = read-at 2 4 (omega arith) ∙ patched-isot in
-        let kept : psot a (length front) ≡ psot s (e .offset .0) = read-at 4 6 (omega arith) ∙ patched-psot in
+    read-byte : (i : ℕ) → 6 ≤ i → i < 12 → getD whole (length front + i) 0 ≡ getD (bytesAt s e) i 0
+    read-byte i from to = sym (be-one whole (length front + i)) ∙ read-at 1 i (omega arith) ∙ be-one (patched (bytesAt s e)) i ∙ patched-byte i from to
+
+    numbers-there : Known (tpsot whole (length front)) (tnsot whole (length front)) ≡ e .numbers
+    numbers-there = ap₂ Known (read-byte 10 (omega arith) (omega arith)) (read-byte 11 (omega arith) (omega arith)) ∙ part-numbers
+
+    psot-there : psot whole (length front) ≡ psot s (e .offset .0)
+    psot-there = read-at 4 6 (omega arith) ∙ patched-psot
+
+    isot-there : isot whole (length front) ≡ 0
+    isot-there = read-at 2 4 (omega arith) ∙ patched-isot
+
+    lsot-there : lsot whole (length front) ≡ 10
+    lsot-there = read-at 2 2 (omega arith) ∙ patched-lsot
+
+    sot-there : scanStepAt whole (length front) ≡ sotStepAt whole (length front)
+    sot-there =
+        let marker : be 2 whole (length front) ≡ SOT = ap (be 2 whole) (sym (add-zero (length front))) ∙ read-at 2 0 (omega arith) ∙ patched-marker in
+        step-sot whole (length front) (omega (arith, length-whole)) (sot-no-eoc whole (length front) marker) (omega (arith, length-whole)) marker
+
+    pub step-there : (psot s (e .offset .0) ≡ 0 → ⊥)
+        → scanStepAt (front ++ (patched (bytesAt s e) ++ y)) (length front)
+        ≡ Part (record { «tile_index» = 0; numbers = e .numbers; offset = record { 0 = length front }; length = e .length })
+    unfolding whole
+    step-there some =
         let size : psot s (e .offset .0) ≡ e .length = ⊎-elim (λ l. l) (λ z. absurd (some (z .0))) (o .stands .long) in
-        let whole : length a ≡ length front + (e .length + length y) = simp length-append (omega (arith, patched-long)) in
-        step-sot a (length front) (omega arith) (sot-no-eoc a (length front) marker) (omega arith) marker
-        ∙ sot-part a (length front) (read-at 2 2 (omega arith) ∙ patched-lsot) (λ z. some (sym kept ∙ z)) (omega arith)
-        ∙ same-part zero (kept ∙ size)
+        sot-there
+        ∙ sot-part whole (length front) lsot-there (λ z. some (sym psot-there ∙ z)) (omega (arith, psot-there, length-whole))
+        ∙ same-part isot-there numbers-there (psot-there ∙ size)
+
+    -- with Psot 0 it takes all that stands after it
+    pub step-last : psot s (e .offset .0) ≡ 0
+        → scanStepAt (front ++ (patched (bytesAt s e) ++ y)) (length front)
+        ≡ Part (record { «tile_index» = 0; numbers = e .numbers; offset = record { 0 = length front }; length = e .length + length y })
+    unfolding whole
+    step-last z =
+        sot-there
+        ∙ sot-rest whole (length front) lsot-there (psot-there ∙ z)
+        ∙ same-part isot-there numbers-there (omega (arith, length-whole))
 
 -- ---- all of them, and EOC
 
@@ -101,7 +159,7 @@ rescan s tile (more {e = e} {rest = rest} o all) long some front =
     let after = rescan s tile all (long .1) (some .1) (front ++ part) in
     rw (append-assoc part y (bytesOf 2 EOC))
     (scans-part (front ++ (part ++ (y ++ bytesOf 2 EOC))) (length front) _ _
-    (step-there s tile e o (long .0) (some .0) front (y ++ bytesOf 2 EOC))
+    (step-there s tile e o (long .0) front (y ++ bytesOf 2 EOC) (some .0))
     (rw (there, append-assoc front part (y ++ bytesOf 2 EOC)) at after))
 
 length-under : (at : ℕ) (es : List TilePartEntry) → length (underZero at es) ≡ length es

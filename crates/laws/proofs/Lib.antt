@@ -9,6 +9,7 @@ pub mod Demand3Items
 pub mod Demand3Edition
 pub mod Demand3Rewalked
 pub mod Demand3Rescanned
+pub mod Demand3Order
 pub mod Demand3
 pub mod Region
 pub mod Rows
@@ -16,3 +17,4 @@ pub mod Settling
 pub mod Settled
 pub mod Demand3Premises
 pub mod RegionPremises
+pub mod OrderPremises

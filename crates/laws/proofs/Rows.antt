@@ -1,13 +1,15 @@
--- A table of records and the same table as rows of 18 bytes: the functions that write rows and those that write records answer alike, and leave the
--- same table. The rows are 18 times as many bytes as there are records, and what stands after n rows are the rows of what stands after n records.
+-- A table of records and the same table as rows of 21 bytes: the functions that write rows and those that write records answer alike, and leave the
+-- same table. The rows are 21 times as many bytes as there are records, and what stands after n rows are the rows of what stands after n records.
 use Prim.Native.Nat.{ℕ, _*_, _/_}
 use native.Mathlib.Omega.{arith}
 use mathlib.Core.Path.{_≡_, refl, sym, ap, _∙_}
 use mathlib.Core.List.{List, _++_}
 use lib.ListN.{length, drop}
-use Rattle.types.specs.Row.{rowBytes, rowsOf}
+use Rattle.types.specs.Row.{rowBytes, rowsOf, recordsIn}
 use Rattle.types.specs.declared.TilePartEntry.{TilePartEntry}
-use Rattle.types.proofs.RowLaws.{length-rows}
+use Rattle.types.proofs.RowReading.{All, records-back}
+use Rattle.parts.specs.Order.{inOrder}
+use Rattle.types.proofs.RowLaws.{Fits, length-rows}
 use Rattle.types.proofs.RowStanding.{rows, all-append, all-drop}
 use Rattle.header.specs.Parse.{parsed, tableBy, tableAfter}
 use Rattle.header.specs.declared.numbering.Numbering.{Numbering}
@@ -56,3 +58,8 @@ pub header-table-agrees : (n : Numbering) (a : MainHeader) (s : List ℕ) (t : L
 unfolding tableAfter recordsAfter
 header-table-agrees n (Header h) s t = rows-over (tableBy n s) (h .«tlm_entries») t
 header-table-agrees n (Refused r) s t = refl
+
+-- ---- the order of a tile's tile-parts
+
+pub order-agrees : (tile : ℕ) {t : List TilePartEntry} → All Fits t → inOrder tile (recordsIn (rowsOf t)) ≡ inOrder tile t
+order-agrees tile fits = ap (inOrder tile) (records-back fits)

@@ -1,8 +1,9 @@
--- What is unfolded to compute a walk, a numbering, an edition, a marker, a scan, a split, an assembly, a search or component sizes over sample bytes.
+-- What is unfolded to compute a walk, a numbering, an edition, a marker, a scan, the order of tile-parts, a split, an assembly, a search or component sizes over sample bytes.
+use mathlib.Core.List.{flatten}
 use Rattle.numbers.specs.Bits.{bit, ones}
 use Rattle.numbers.specs.Bytes.{be, bytesOf, put}
 use Rattle.numbers.specs.Ceiling.{ceilDiv}
-use Rattle.types.specs.Row.{rowOf, rowsOf, recordsAt, recordsFrom, recordsIn}
+use Rattle.types.specs.Row.{numbersAt, numberBytes, rowOf, rowsOf, recordsAt, recordsFrom, recordsIn}
 use Rattle.chain.specs.Chain.{also, onMove, counted, chain}
 use Rattle.header.specs.Step.{delimits, highFF, isFiller, segmentEnd, stepAt, moveOf, moveAt, stepsFrom}
 use Rattle.header.specs.Extent.{endedAs, extentEnd, extentOf}
@@ -16,6 +17,7 @@ use Rattle.header.specs.Find.{firstOf, findIn, finding}
 use Rattle.parts.specs.Scan.{eocAt, sotStepAt, scanStepAt, scanFrom, entriesFrom, scanned, written, scannedTable}
 use Rattle.parts.specs.Split.{partEnd, splitStepAt, splitFrom, partsFrom, partsOf}
 use Rattle.parts.specs.Tiles.{ofTile}
+use Rattle.parts.specs.Order.{numbersOf, numberedAs, runFrom, runs, inOrder}
 use Rattle.tile.specs.Siz.{pair, oneTile}
 use Rattle.tile.specs.Original.{fitting, reaching, axisOf, columnsOf, bothAxes, inGrid, tileArea}
 use Rattle.tile.specs.AnnexB.{laid, cellsOf, fromOf, toOf, cellArea, inCells, onGrid, gridTile}
@@ -24,7 +26,7 @@ use Rattle.tile.specs.Rewrite.{sized, moved, cutBy, sizeOf, sizeIn, tileSize, c
 use Rattle.tile.specs.Assembly.{rangeOf, andPart, partsIn, isSot, patched, partSize, sizeFor, joined, assembled, answerFor, assemblyAnswer, assemblyOut}
 use Rattle.reader.specs.Components.{sizWhole, countHeld, apart, allApart, ordered, componentsRead, atTile, componentsInTile, divided, componentAt, isThere, componentIn, chosen, componentOf, componentInTile}
 use Rattle.reader.specs.Search.{boxAt, content, passed, onBox, foundFrom, isJp2, foundIn}
-use Rattle.laws.specs.Sample.{two, four, sizFrom, sizOf, siz, header, grid, counting, tlm, announcing, cap, sot, part, head, withTlm, A, signature, jp2c}
+use Rattle.laws.specs.Sample.{two, four, sizFrom, sizOf, siz, header, grid, counting, tlm, announcing, cap, sotOf, sot, part, head, withTlm, A, signature, jp2c}
 use Rattle.parts.specs.Scan as scan
 use Rattle.parts.specs.Split as split
 use Rattle.tile.specs.Rewrite as rewrite
@@ -32,7 +34,7 @@ use Rattle.reader.specs.Search as search
 use Rattle.reader.specs.Siz as siz-reading
 
 unfoldable pub samples : Unit {0}
-unfolding be bytesOf put rowOf rowsOf two four sizFrom sizOf siz header grid counting tlm sot part head withTlm A signature jp2c also onMove counted chain
+unfolding be bytesOf put numbersAt numberBytes rowOf rowsOf two four sizFrom sizOf siz header grid counting tlm sotOf sot part head withTlm A signature jp2c also onMove counted chain
 samples = tt
 
 unfoldable pub extents : Unit {0}
@@ -58,6 +60,10 @@ findings = tt
 unfoldable pub scan-runs : Unit {0}
 unfolding samples eocAt sotStepAt scanStepAt scan.moveOf scan.moveAt scanFrom entriesFrom scan.endedAs scan.judged scan.withRoom scanned written scannedTable ofTile
 scan-runs = tt
+
+unfoldable pub orders : Unit {0}
+unfolding scan-runs flatten recordsAt recordsFrom recordsIn numbersOf numberedAs runFrom runs inOrder
+orders = tt
 
 unfoldable pub split-runs : Unit {0}
 unfolding samples partEnd splitStepAt split.moveOf split.moveAt splitFrom partsFrom partsOf

@@ -1,16 +1,20 @@
 -- The starred edges (docs/RULES.md, "Edges"), in the order there, each as a comment over its theorems; and the two of growth, which have no star. All are
 -- computed but these, which are of every codestream of a length or with a first SOT at a place, and those of 65,535 TLM entries and more, which go by counts.
-use Prim.Native.Nat.{ℕ, _+_, _≤_, min}
+use Prim.Native.Nat.{ℕ, zero, suc, _+_, _≤_, min}
 use native.Mathlib.Omega.{arith}
 use mathlib.Core.Path.{_≡_, refl, sym, ap, _∙_}
-use mathlib.Core.Bool.{Bool, true, false}
-use mathlib.Core.List.{List, [], _∷_, _++_}
+use mathlib.Core.Bool.{Bool, true, false, _&&_, _||_}
+use mathlib.Core.List.{List, [], _∷_, _++_, map, flatten}
 use lib.ListN.{length, take, replicate}
+use lib.Dec.{eqb}
+use borrow.Author.Tests.{ne-eqb}
 use Rattle.numbers.specs.Bytes.{bytesOf}
 use Rattle.types.specs.Markers.{SOC, CAP, SOT}
 use Rattle.types.specs.Refusals.{refusal}
-use Rattle.types.specs.Row.{rowOf, rowsOf}
+use Rattle.types.specs.Row.{rowOf, rowsOf, recordsIn}
 use Rattle.types.specs.declared.Area.{Area}
+use Rattle.types.specs.declared.PartNumbers.{PartNumbers}
+use Rattle.types.specs.declared.PartNumbers.the-variants.{Known, NotKnown}
 use Rattle.types.specs.declared.TilePartEntry.{TilePartEntry}
 use Rattle.types.specs.declared.CodestreamOffset.{CodestreamOffset}
 use Rattle.header.specs.Step.{stepAt}
@@ -39,6 +43,8 @@ use Rattle.header.specs.declared.parse.MainHeader.the-variants.{Header}
 use Rattle.parts.specs.Scan.{entriesFrom, scanned, scannedTable}
 use Rattle.parts.specs.Split.{partsOf}
 use Rattle.parts.specs.Tiles.{ofTile}
+use Rattle.parts.specs.Order.{inOrder}
+use Rattle.parts.proofs.OrderAnswers.{TPsotByte}
 use Rattle.parts.specs.declared.scan.Scanned.the-variants.{Table}
 use Rattle.tile.specs.Rewrite.{fromZero, tileSize, rewritten, rewriteAnswer, rewriteOut}
 use Rattle.tile.specs.Assembly.{assemblyAnswer, assemblyOut}
@@ -55,9 +61,9 @@ use Rattle.reader.specs.Growth.{regionAt, grown}
 use Rattle.reader.specs.declared.search.Found.the-variants.{Codestream}
 use Rattle.reader.proofs.GrowthLaws.{region-pow, whole-suffices, truncated-not, grown-end, grown-on}
 use Rattle.reader.proofs.GrowthFirst.{grown-only}
-use Rattle.laws.proofs.SampleComputing.{samples, extents, walks, numberings, editions, findings, scan-runs, split-runs, tiles, searches, siz-readings, components}
+use Rattle.laws.proofs.SampleComputing.{samples, extents, walks, numberings, editions, findings, scan-runs, orders, split-runs, tiles, searches, siz-readings, components}
 use Rattle.laws.proofs.SampleNumbering.{three}
-use Rattle.laws.specs.Sample.{two, zeros, sizOf, header, grid, counting, tlm, announcing, cap, sot, part, head, withTlm, A, signature, jp2c}
+use Rattle.laws.specs.Sample.{two, zeros, sizOf, header, grid, counting, tlm, announcing, cap, sotOf, sot, part, head, withTlm, A, signature, jp2c}
 use Rattle.laws.proofs.SampleStandard as standard
 use Rattle.laws.proofs.SampleNumbering as many
 use Rattle.header.specs.declared.parse.MainHeader.the-variants as parse
@@ -89,8 +95,15 @@ filled first long entries fillers =
 abbrev accepted : ℕ → ℕ → ℕ → MainHeader
 accepted first long entries = filled first long entries 0
 
+abbrev recorded : PartNumbers → ℕ → ℕ → ℕ → TilePartEntry
+recorded numbers index offset long = record { «tile_index» = index; numbers = numbers; offset = record { 0 = offset }; length = long }
+
+-- of TLM, and of an SOT that says 0 of 1
 abbrev entry : ℕ → ℕ → ℕ → TilePartEntry
-entry index offset long = record { «tile_index» = index; offset = record { 0 = offset }; length = long }
+entry = recorded NotKnown
+
+abbrev only : ℕ → ℕ → ℕ → TilePartEntry
+only = recorded (Known 0 1)
 
 -- where a marker is found
 abbrev at : ℕ → Finding
@@ -109,7 +122,7 @@ unfolding walks
 A-table = refl
 
 -- its tile-parts
-pub A-scan : entriesFrom A 57 ≡ entry 0 57 14 ∷ entry 5 71 16 ∷ []
+pub A-scan : entriesFrom A 57 ≡ only 0 57 14 ∷ only 5 71 16 ∷ []
 unfolding scan-runs
 A-scan = refl
 
@@ -598,7 +611,7 @@ pub psot-5 : scanned (sot 0 5 ++ zeros 10) 0 1 ≡ Table 1
 unfolding scan-runs
 psot-5 = refl
 
-pub psot-5-entry : entriesFrom (sot 0 5 ++ zeros 10) 0 ≡ entry 0 0 5 ∷ []
+pub psot-5-entry : entriesFrom (sot 0 5 ++ zeros 10) 0 ≡ only 0 0 5 ∷ []
 unfolding scan-runs
 psot-5-entry = refl
 
@@ -615,6 +628,145 @@ one-after = refl
 pub twelve-after : scanned (part 0 14 [] ++ zeros 12) 0 1 ≡ Table 1
 unfolding scan-runs
 twelve-after = refl
+
+-- ---- * A, tile 5; tile 1, which has no entry; by TLM's records, whose numbers are not known.
+
+pub A-in-order : inOrder 5 (entriesFrom A 57) ≡ true
+unfolding orders
+A-in-order = refl
+
+pub A-no-entry : inOrder 1 (entriesFrom A 57) ≡ false
+unfolding orders
+A-no-entry = refl
+
+pub A-by-tlm : inOrder 5 (tlmTable A) ≡ false
+unfolding orders walks
+A-by-tlm = refl
+
+-- ---- * One tile-part, its TPsot and TNsot: 0 and 1; 0 and 0; 0 and 2; 1 and 1; 1 and 0.
+
+-- the tile-parts of tile 7 with these numbers, SOT by SOT
+abbrev parts7 : List (ℕ × ℕ) → List ℕ
+parts7 ns = flatten (map (λ (n : ℕ × ℕ). sotOf 7 12 (n .0) (n .1)) ns)
+
+abbrev order7 : List (ℕ × ℕ) → Bool
+order7 ns = inOrder 7 (entriesFrom (parts7 ns) 0)
+
+pub one-of-1 : order7 ((0, 1) ∷ []) ≡ true
+unfolding orders
+one-of-1 = refl
+
+pub one-of-none-given : order7 ((0, 0) ∷ []) ≡ true
+unfolding orders
+one-of-none-given = refl
+
+pub one-of-2 : order7 ((0, 2) ∷ []) ≡ false
+unfolding orders
+one-of-2 = refl
+
+pub number-1-alone : order7 ((1, 1) ∷ []) ≡ false
+unfolding orders
+number-1-alone = refl
+
+pub number-1-silent : order7 ((1, 0) ∷ []) ≡ false
+unfolding orders
+number-1-silent = refl
+
+-- ---- * Two: (0, 2), (1, 2); swapped; (0, 0), (1, 2); (0, 2), (1, 0); (0, 2), (1, 1); (0, 2), (0, 2). The third before the second.
+
+pub two-of-2 : order7 ((0, 2) ∷ (1, 2) ∷ []) ≡ true
+unfolding orders
+two-of-2 = refl
+
+pub swapped : order7 ((1, 2) ∷ (0, 2) ∷ []) ≡ false
+unfolding orders
+swapped = refl
+
+pub given-late : order7 ((0, 0) ∷ (1, 2) ∷ []) ≡ true
+unfolding orders
+given-late = refl
+
+pub given-once : order7 ((0, 2) ∷ (1, 0) ∷ []) ≡ true
+unfolding orders
+given-once = refl
+
+pub given-apart : order7 ((0, 2) ∷ (1, 1) ∷ []) ≡ false
+unfolding orders
+given-apart = refl
+
+pub number-twice : order7 ((0, 2) ∷ (0, 2) ∷ []) ≡ false
+unfolding orders
+number-twice = refl
+
+pub third-before-second : order7 ((0, 3) ∷ (2, 3) ∷ (1, 3) ∷ []) ≡ false
+unfolding orders
+third-before-second = refl
+
+-- ---- * Two of tile 7 with one of tile 9 between, before or behind them; with a record of tile 7 whose numbers are not known behind them.
+
+abbrev of-7 : ℕ → TilePartEntry
+of-7 n = recorded (Known n 2) 7 0 12
+
+abbrev of-9 : TilePartEntry
+of-9 = recorded (Known 5 1) 9 0 12
+
+pub another-between : inOrder 7 (of-7 0 ∷ of-9 ∷ of-7 1 ∷ []) ≡ true
+unfolding orders
+another-between = refl
+
+pub another-before : inOrder 7 (of-9 ∷ of-7 0 ∷ of-7 1 ∷ []) ≡ true
+unfolding orders
+another-before = refl
+
+pub another-behind : inOrder 7 (of-7 0 ∷ of-7 1 ∷ of-9 ∷ []) ≡ true
+unfolding orders
+another-behind = refl
+
+pub not-known-behind : inOrder 7 (of-7 0 ∷ of-7 1 ∷ entry 7 0 12 ∷ []) ≡ false
+unfolding orders
+not-known-behind = refl
+
+-- ---- * The first of a row's last 3 bytes, the others being 0 and 1: 0; 1; 2.
+
+abbrev row7 : ℕ → List ℕ
+row7 known = take 18 (rowOf (only 7 0 12)) ++ (known ∷ 0 ∷ 1 ∷ [])
+
+pub row-known : inOrder 7 (recordsIn (row7 1)) ≡ true
+unfolding orders
+row-known = refl
+
+pub row-not-known : inOrder 7 (recordsIn (row7 0)) ≡ false
+unfolding orders
+row-not-known = refl
+
+pub row-2 : inOrder 7 (recordsIn (row7 2)) ≡ false
+unfolding orders
+row-2 = refl
+
+-- a partial row is none
+pub row-short : inOrder 7 (recordsIn (take 20 (row7 1))) ≡ false
+unfolding orders
+row-short = refl
+
+-- ---- * 256 tile-parts with TPsot 0 to 255 and TNsot 0; the last one's TNsot 255. One more, whatever its numbers are.
+
+-- so many from a number on
+unfoldable pub numbered : ℕ → ℕ → List TilePartEntry
+numbered zero n = []
+numbered (suc k) n = recorded (Known n 0) 7 0 12 ∷ numbered k (n + 1)
+
+pub parts-256 : inOrder 7 (numbered 256 0) ≡ true
+unfolding orders numbered
+parts-256 = refl
+
+pub parts-255-given : inOrder 7 (numbered 255 0 ++ (recorded (Known 255 255) 7 0 12 ∷ [])) ≡ false
+unfolding orders numbered
+parts-255-given = refl
+
+pub parts-257 : (numbers : PartNumbers) → TPsotByte numbers → inOrder 7 (numbered 256 0 ++ (recorded numbers 7 0 12 ∷ [])) ≡ false
+unfolding orders numbered
+parts-257 (Known t m) byte = ap (λ (b : Bool). (b && (eqb m 0 || eqb m 257)) && true) (ne-eqb t 256 (λ z. omega arith))
+parts-257 NotKnown byte = refl
 
 -- ---- * Split of a part with Psot 14 and 11 more bytes: one part.
 
@@ -1033,7 +1185,7 @@ thirty-one-written = refl
 -- ---- beside the table: the order of refusals and what is left untouched
 
 -- a table of one row and a byte: the row is written, the byte is not; with no row 18, and nothing
-pub row-written : scannedTable (part 0 14 []) 0 (replicate 19 7) ≡ rowOf (entry 0 0 14) ++ (7 ∷ [])
+pub row-written : scannedTable (part 0 14 []) 0 (replicate 22 7) ≡ rowOf (only 0 0 14) ++ (7 ∷ [])
 unfolding scan-runs
 row-written = refl
 

@@ -1,8 +1,9 @@
 -- Each entry point's contract settles its outcome: nothing is required, and of any two outcomes that it allows the answers and all that was lent are equal.
 -- A function stands here by its path; its `ended` and `clauses` are made from its source, so what changes there changes here. In a proof e has an equation
 -- of x and y for each `ensures`, in the source's order. They are put in the order of an outcome: the answer, then the parameters, `tt` where none is lent.
-use Prim.Native.Nat.{ℕ}
-use mathlib.Core.List.{List}
+use Prim.Native.Nat.{ℕ, min}
+use mathlib.Core.List.{List, _++_}
+use lib.ListN.{take, drop}
 use denote.Ref.{now}
 use Rattle.numbers.proofs as numbers
 use Rattle.types.proofs as types
@@ -92,6 +93,18 @@ scan-tell m κs a g = settles m (before m (last m)) λ x y e i. (e .0 i, (tt, (e
 pub scan-sot-markers : {M : Type 1} → Settles M parts.scan.scan_sot_markers.ended parts.scan.scan_sot_markers.clauses
 scan-sot-markers m κs a g = settles m (before m (last m)) λ x y e i. (e .0 i, (tt, (tt, (e .1 i, tt))))
 
+pub order-step : {M : Type 1} → Settles M parts.order.order_step.ended parts.order.order_step.clauses
+order-step m κs a g = settles m (last m) λ x y e i. (e i, x .1)
+
+pub order-end : {M : Type 1} → Settles M parts.order.order_end.ended parts.order.order_end.clauses
+order-end m κs a g = settles m (last m) λ x y e i. (e i, x .1)
+
+pub order-tell : {M : Type 1} → Settles M parts.order.tell.ended parts.order.tell.clauses
+order-tell m κs a g = settles m (last m) λ x y e i. (e i, x .1)
+
+pub tile-in-order : {M : Type 1} → Settles M parts.order.tile_in_order.ended parts.order.tile_in_order.clauses
+tile-in-order m κs a g = settles m (last m) λ x y e i. (e i, x .1)
+
 pub split-count : {M : Type 1} → Settles M parts.split.split_count.ended parts.split.split_count.clauses
 split-count m κs a g = settles m (last m) λ x y e i. (e i, x .1)
 
@@ -114,6 +127,24 @@ pub records-parse-main-header : {M : Type 1} → Settles M records.main_header.p
 records-parse-main-header m κs a g =
     by-first m (λ r. recordsAfter (a .1 .0 .numbering) r (now (a .0)) (now (a .1 .1 .0))) (λ r. outAfter r (now (a .0)) (now (a .1 .1 .1 .0))) λ x y e i.
     (e .0 i, (tt, (tt, (e .1 i, (e .2 i, tt)))))
+
+pub records-tile-in-order : {M : Type 1} → Settles M records.order.tile_in_order.ended records.order.tile_in_order.clauses
+records-tile-in-order m κs a g = settles m (last m) λ x y e i. (e i, x .1)
+
+pub new-table : {M : Type 1} → Settles M records.tables.new_table.ended records.tables.new_table.clauses
+new-table m κs a g = settles m (last m) λ x y e i. (e i, x .1)
+
+pub scan-into : {M : Type 1} → Settles M records.tables.scan_into.ended records.tables.scan_into.clauses
+scan-into m κs a g = settles m (before m (last m)) λ x y e i. (record { answer = e .0 i; table = e .1 i }, x .1)
+
+pub header-into : {M : Type 1} → Settles M records.tables.header_into.ended records.tables.header_into.clauses
+header-into m κs a g =
+    by-first m (λ r. recordsAfter (a .1 .0 .numbering) r (now (a .0)) (take (min (a .1 .1 .1 .0) 2048) (a .1 .1 .0)) ++ drop (min (a .1 .1 .1 .0) 2048) (a .1 .1 .0))
+    (λ r. outAfter r (now (a .0)) (now (a .1 .1 .1 .1 .0))) λ x y e i.
+    (record { answer = e .0 i; table = e .1 i }, (tt, (tt, (tt, (tt, (e .2 i, tt))))))
+
+pub order-within : {M : Type 1} → Settles M records.tables.order_within.ended records.tables.order_within.clauses
+order-within m κs a g = settles m (last m) λ x y e i. (e i, x .1)
 
 pub scan-table : {M : Type 1} → Settles M records.tables.scan_table.ended records.tables.scan_table.clauses
 scan-table m κs a g = settles m (before m (last m)) λ x y e i. (record { answer = e .0 i; table = e .1 i }, x .1)
@@ -195,6 +226,9 @@ winterhasp-parse-main-header-by-reading m κs a g = settles m (before m (before 
 pub winterhasp-scan-sot-markers : {M : Type 1} → Settles M host.scan.winterhasp_scan_sot_markers.ended host.scan.winterhasp_scan_sot_markers.clauses
 winterhasp-scan-sot-markers m κs a g = settles m (before m (before m (last m))) λ x y e i. (e .0 i, (tt, (tt, (e .1 .1 i, (e .1 .0 i, tt)))))
 
+pub winterhasp-tile-in-order : {M : Type 1} → Settles M host.order.winterhasp_tile_in_order.ended host.order.winterhasp_tile_in_order.clauses
+winterhasp-tile-in-order m κs a g = settles m (last m) λ x y e i. (e i, x .1)
+
 pub winterhasp-split-count : {M : Type 1} → Settles M host.split.winterhasp_split_count.ended host.split.winterhasp_split_count.clauses
 winterhasp-split-count m κs a g = settles m (last m) λ x y e i. (e i, x .1)
 
@@ -263,7 +297,13 @@ winterhasp-component-within m κs a g = settles m (before m (before m (before m 
 
 -- ---- probe, for C
 
-pub winterhasp-scan-records : {M : Type 1} → Settles M probe.winterhasp_scan_records.ended probe.winterhasp_scan_records.clauses
+pub own-count : {M : Type 1} → Settles M probe.own.count.ended probe.own.count.clauses
+own-count m κs a g = settles m (last m) λ x y e i. (e i, x .1)
+
+pub winterhasp-records-in-order : {M : Type 1} → Settles M probe.order.winterhasp_records_in_order.ended probe.order.winterhasp_records_in_order.clauses
+winterhasp-records-in-order m κs a g = settles m (last m) λ x y e i. (e i, x .1)
+
+pub winterhasp-scan-records : {M : Type 1} → Settles M probe.scan.winterhasp_scan_records.ended probe.scan.winterhasp_scan_records.clauses
 winterhasp-scan-records m κs a g = settles m (before m (before m (last m))) λ x y e i. (e .0 i, (tt, (tt, (e .1 .1 i, (e .1 .0 i, tt)))))
 
 pub winterhasp-codestream-of : {M : Type 1} → Settles M probe.winterhasp_codestream_of.ended probe.winterhasp_codestream_of.clauses

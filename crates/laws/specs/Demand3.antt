@@ -83,10 +83,10 @@ pub record Assembles (rule : Rule) (s : List ℕ) (tile : ℕ) (es : List TilePa
 
 -- ---- ".. has its first SOT where its header ends, and its scan from there gives the same lengths in order, all under index 0."
 
--- entries from a position on, each where the one before ends, with the same lengths in order and index 0
+-- entries from a position on, each where the one before ends, with the same lengths and numbers in order and index 0
 unfoldable pub underZero : ℕ → List TilePartEntry → List TilePartEntry
 underZero at [] = []
-underZero at (e ∷ rest) = record { «tile_index» = 0; offset = record { 0 = at }; length = e .length } ∷ underZero (at + e .length) rest
+underZero at (e ∷ rest) = record { «tile_index» = 0; numbers = e .numbers; offset = record { 0 = at }; length = e .length } ∷ underZero (at + e .length) rest
 
 -- a codestream with this header and the parts of these entries
 pub record Standing (header : List ℕ) (es : List TilePartEntry) (codestream : List ℕ) : Type 0 where

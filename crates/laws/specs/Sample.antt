@@ -64,10 +64,15 @@ unfoldable pub cap : ℕ → ℕ → List ℕ → List ℕ
 unfolding two four
 cap lcap pcap words = two CAP ++ two lcap ++ four pcap ++ words
 
--- SOT: tile, Psot; tile-part 0 of 1
-unfoldable pub sot : ℕ → ℕ → List ℕ
+-- SOT: tile, Psot, TPsot, TNsot
+unfoldable pub sotOf : ℕ → ℕ → ℕ → ℕ → List ℕ
 unfolding two four
-sot tile psot = two SOT ++ two 10 ++ two tile ++ four psot ++ (0 ∷ 1 ∷ [])
+sotOf tile psot tpsot tnsot = two SOT ++ two 10 ++ two tile ++ four psot ++ (tpsot ∷ tnsot ∷ [])
+
+-- tile-part 0 of 1
+unfoldable pub sot : ℕ → ℕ → List ℕ
+unfolding sotOf
+sot tile psot = sotOf tile psot 0 1
 
 -- a tile-part: SOT, SOD and a body
 unfoldable pub part : ℕ → ℕ → List ℕ → List ℕ

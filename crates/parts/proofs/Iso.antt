@@ -2,17 +2,18 @@
 -- from each to the next, so it lists them all, and EOC ends it. Where the last has Psot 0, its entry takes EOC too.
 use Prim.Native.Nat.{ℕ, suc, _+_, _≤_}
 use native.Mathlib.Omega.{arith}
-use mathlib.Core.Path.{_≡_, refl, ap, _∙_}
+use mathlib.Core.Path.{_≡_, refl, sym, ap, ap₂, _∙_}
 use mathlib.Core.List.{List, [], _∷_, _++_, append-assoc, append-nil}
 use lib.ListN.{length, take, length-append}
 use borrow.Author.Tests.{le-leb, eq-eqb}
 use Rattle.numbers.specs.Bytes.{be, bytesOf}
 use Rattle.numbers.specs.Rows.{Row, bytesOfRows, widths}
 use Rattle.numbers.proofs.BytesLaws.{length-bytes, be-rest, be-front, be-bytesOf}
-use Rattle.numbers.proofs.Rows.{length-rows, be-row, be-behind}
+use Rattle.numbers.proofs.Rows.{length-rows, be-row, be-behind, be-one}
 use Rattle.types.specs.Markers.{SOT, SOD, EOC}
+use Rattle.types.specs.declared.PartNumbers.the-variants.{Known}
 use Rattle.types.specs.declared.TilePartEntry.{TilePartEntry}
-use Rattle.parts.specs.Sot.{lsot, isot, psot}
+use Rattle.parts.specs.Sot.{lsot, isot, psot, tpsot, tnsot}
 use Rattle.parts.specs.Scan.{eocAt, sotStepAt, scanStepAt, scanned}
 use Rattle.parts.specs.Iso.{TilePart, sotRows, partBytes, lengthOf, Ranges, AllRanges, partsBytes, listed, listedFrom}
 use Rattle.parts.specs.declared.scan.ScanStep.the-variants.{Part, Ended}
@@ -32,6 +33,7 @@ record Read (s : List ℕ) (at Psot : ℕ) (t : TilePart) : Type 0 where
   ten : lsot s at ≡ 10
   tile : isot s at ≡ t .Isot
   size : psot s at ≡ Psot
+  numbers : Known (tpsot s at) (tnsot s at) ≡ Known (t .TPsot) (t .TNsot)
 
 part-read : (front : List ℕ) (Psot : ℕ) (t : TilePart) (rest : List ℕ) → Ranges Psot t → Read (front ++ (partBytes Psot t ++ rest)) (length front) Psot t
 unfolding partBytes sotRows widths
@@ -41,12 +43,15 @@ part-read front Psot t rest g =
     let before : ℕ → List Row = λ k. take k (sotRows Psot t) in
     let marker : be 2 s (length front) ≡ SOT = be-behind 2 front _ ∙ be-row [] 2 SOT _ tail (omega arith) in
     let long : length front + 12 ≤ length s = simp (length-append, length-rows) (omega arith) in
+    let number : tpsot s (length front) ≡ t .TPsot = sym (be-one s _) ∙ be-rest 1 front _ _ ∙ be-row (before 4) 1 (t .TPsot) _ tail (omega (arith, g .TPsot)) in
+    let count : tnsot s (length front) ≡ t .TNsot = sym (be-one s _) ∙ be-rest 1 front _ _ ∙ be-row (before 5) 1 (t .TNsot) _ tail (omega (arith, g .TNsot)) in
     rw (append-assoc (bytesOfRows (sotRows Psot t)))
     (record {
       step = step-sot s (length front) (omega arith) (sot-no-eoc s (length front) marker) long marker;
       ten = be-rest 2 front _ _ ∙ be-row (before 1) 2 10 _ tail (omega arith);
       tile = be-rest 2 front _ _ ∙ be-row (before 2) 2 (t .Isot) _ tail (omega arith);
       size = be-rest 4 front _ _ ∙ be-row (before 3) 4 Psot _ tail (g .Psot);
+      numbers = ap₂ Known number count;
     })
 
 pub part-standard : (front : List ℕ) (t : TilePart) (rest : List ℕ) → Ranges (lengthOf t) t
@@ -55,7 +60,7 @@ part-standard front t rest g =
     let s : List ℕ = front ++ (partBytes (lengthOf t) t ++ rest) in
     let r = part-read front (lengthOf t) t rest g in
     let whole : length s ≡ length front + (lengthOf t + length rest) = simp (length-append, length-part) in
-    r .step ∙ sot-part s (length front) (r .ten) (λ z. omega arith) (omega arith) ∙ same-part (r .tile) (r .size)
+    r .step ∙ sot-part s (length front) (r .ten) (λ z. omega arith) (omega arith) ∙ same-part (r .tile) (r .numbers) (r .size)
 
 -- with Psot 0: to the codestream's end, EOC's two bytes included
 pub part-standard-last : (front : List ℕ) (t : TilePart) → Ranges 0 t
@@ -64,7 +69,7 @@ part-standard-last front t g =
     let s : List ℕ = front ++ (partBytes 0 t ++ bytesOf 2 EOC) in
     let r = part-read front 0 t (bytesOf 2 EOC) g in
     let whole : length s ≡ length front + (lengthOf t + 2) = simp (length-append, length-part, length-bytes) in
-    r .step ∙ sot-rest s (length front) (r .ten) (r .size) ∙ same-part (r .tile) (omega arith)
+    r .step ∙ sot-rest s (length front) (r .ten) (r .size) ∙ same-part (r .tile) (r .numbers) (omega arith)
 
 -- ---- all of them
 

@@ -1,3 +1,5 @@
+pub mod OrderLaws
+pub mod OrderAnswers
 pub mod ScanLaws
 pub mod ScanFill
 pub mod ScanAnswers
@@ -5,3 +7,4 @@ pub mod SplitLaws
 pub mod TilesAdjoin
 pub mod TilesJoined
 pub mod Iso
+pub mod IsoOrder

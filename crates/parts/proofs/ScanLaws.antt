@@ -12,6 +12,7 @@ use borrow.Author.Tests.{le-leb, lt-leb, eq-eqb, ne-eqb, leb-true, eqb-true, eqb
 use Rattle.numbers.specs.Bytes.{be}
 use Rattle.types.specs.Refusals.{refusal}
 use Rattle.types.specs.Markers.{SOT, EOC}
+use Rattle.types.specs.declared.PartNumbers.{PartNumbers}
 use Rattle.types.specs.declared.Refusal.{Refusal}
 use Rattle.types.specs.declared.TilePartEntry.{TilePartEntry}
 use Rattle.chain.specs.Chain.{on, Chain, Rises, also}
@@ -241,10 +242,10 @@ leads-on s at n h =
     (λ l. absurd (omega (arith, l .1, entries-next s (at + partAt s at .length) h .room))) (n .long)
 
 -- records, field by field
-pub same-entry : {i j at n m : ℕ} → i ≡ j → n ≡ m
-    → _≡_ {A = TilePartEntry} (record { «tile_index» = i; offset = record { 0 = at }; length = n }) (record { «tile_index» = j; offset = record { 0 = at }; length = m })
-same-entry e f = cc
+pub same-entry : {i j at n m : ℕ} {p q : PartNumbers} → i ≡ j → p ≡ q → n ≡ m
+    → _≡_ {A = TilePartEntry} (record { «tile_index» = i; numbers = p; offset = record { 0 = at }; length = n }) (record { «tile_index» = j; numbers = q; offset = record { 0 = at }; length = m })
+same-entry e f g = cc
 
-pub same-part : {i j at n m : ℕ} → i ≡ j → n ≡ m
-    → _≡_ {A = ScanStep} (Part (record { «tile_index» = i; offset = record { 0 = at }; length = n })) (Part (record { «tile_index» = j; offset = record { 0 = at }; length = m }))
-same-part e f = ap Part (same-entry e f)
+pub same-part : {i j at n m : ℕ} {p q : PartNumbers} → i ≡ j → p ≡ q → n ≡ m
+    → _≡_ {A = ScanStep} (Part (record { «tile_index» = i; numbers = p; offset = record { 0 = at }; length = n })) (Part (record { «tile_index» = j; numbers = q; offset = record { 0 = at }; length = m }))
+same-part e f g = ap Part (same-entry e f g)

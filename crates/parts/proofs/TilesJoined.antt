@@ -26,10 +26,10 @@ use Rattle.parts.proofs.SplitLaws.{step-few, step-part, end-rest, end-p
 -- ---- what a scan's entries of one tile are
 
 -- Psot is the length, or it is 0 in the last
-Ends : List ℕ → TilePartEntry → List TilePartEntry → Type 0
+abbrev pub Ends : List ℕ → TilePartEntry → List TilePartEntry → Type 0
 Ends s e rest = (psot s (e .offset .0) ≡ e .length) ⊎ ((psot s (e .offset .0) ≡ 0) × (rest ≡ []))
 
-data Parts (s : List ℕ) : List TilePartEntry → Type 0 where
+pub data Parts (s : List ℕ) : List TilePartEntry → Type 0 where
   none : Parts s []
   more : {e : TilePartEntry} {rest : List TilePartEntry} → Stands s (e .offset .0) e → Ends s e rest → Parts s rest → Parts s (e ∷ rest)
 
@@ -40,7 +40,7 @@ at-end s e (step {at = at} {next = next} found past rest) = let p = move-passed 
 
 one-more : (s : List ℕ) (t at : ℕ) {next stop : ℕ} {visits : List Visit} → moveAt s at ≡ on next → Run (moveAt s) next visits stop
     → Parts s (ofTile t (map (recorded s) visits)) → Parts s (ofTile t (map (recorded s) (record { at = at; next = next } ∷ visits)))
-unfolding ofTile Ends
+unfolding ofTile
 one-more s t at {next} {stop} {visits} found rest parts =
     let p = move-passed s at next found in
     let e : TilePartEntry = recorded s (record { at = at; next = next }) in
@@ -53,6 +53,10 @@ run-parts : (s : List ℕ) (t : ℕ) {at stop : ℕ} {visits : List Visit} → R
 unfolding ofTile
 run-parts s t stay = none
 run-parts s t (step {at = at} found past rest) = one-more s t at found rest (run-parts s t rest)
+
+pub tile-parts : (s : List ℕ) (start t : ℕ) → Parts s (ofTile t (entriesFrom s start))
+unfolding entriesFrom scanFrom
+tile-parts s start t = run-parts s t (chain-run ended (moveAt s) (length s) (rises s) start)
 
 -- ---- one part of the joined buffer, with what stands before and after it
 
@@ -115,7 +119,7 @@ module _ (s : List ℕ) (e : TilePartEntry) (stands : Stands s (e .offset .0) e)
 
 parts-out : (s : List ℕ) {es : List TilePartEntry} → Parts s es → AllLong es → (before : List ℕ)
     → partsFrom (before ++ joined s es) (length before) ≡ map (bytesAt s) es
-unfolding joined AllLong Ends
+unfolding joined AllLong
 parts-out s none long before =
     parts-ended (before ++ []) (length before) (step-few (before ++ []) (length before) (rw append-nil (omega arith)))
 parts-out s (more {e = e} {rest = rest} stands ends tail) long before =
@@ -125,5 +129,5 @@ parts-out s (more {e = e} {rest = rest} stands ends tail) long before =
 -- the entries of a tile in any scan, accepted or refused, if each is 12 bytes or longer
 pub split-joined : (s : List ℕ) (start t : ℕ) → AllLong (ofTile t (entriesFrom s start))
     → partsOf (joined s (ofTile t (entriesFrom s start))) ≡ map (bytesAt s) (ofTile t (entriesFrom s start))
-unfolding partsOf entriesFrom scanFrom
-split-joined s start t long = parts-out s (run-parts s t (chain-run ended (moveAt s) (length s) (rises s) start)) long []
+unfolding partsOf
+split-joined s start t long = parts-out s (tile-parts s start t) long []

@@ -3,3 +3,4 @@ pub mod Scan
 pub mod Split
 pub mod Tiles
 pub mod Iso
+pub mod Order

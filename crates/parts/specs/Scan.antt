@@ -9,9 +9,10 @@ use Rattle.types.specs.Refusals.{refusal}
 use Rattle.types.specs.Markers.{SOT, EOC}
 use Rattle.types.specs.Row.{rowBytes, rowsOf}
 use Rattle.types.specs.declared.Refusal.{Refusal}
+use Rattle.types.specs.declared.PartNumbers.the-variants.{Known}
 use Rattle.types.specs.declared.TilePartEntry.{TilePartEntry}
 use Rattle.chain.specs.Chain.{Move, end, on, Visit, Chain, chain}
-use Rattle.parts.specs.Sot.{lsot, isot, psot}
+use Rattle.parts.specs.Sot.{lsot, isot, psot, tpsot, tnsot}
 use Rattle.parts.specs.declared.scan.ScanStep.{ScanStep}
 use Rattle.parts.specs.declared.scan.Scanned.{Scanned}
 use Rattle.parts.specs.declared.scan.ScanStep.the-variants as step
@@ -19,7 +20,7 @@ use Rattle.parts.specs.declared.scan.Scanned.the-variants as answer
 
 -- the record of a tile-part of n bytes
 abbrev pub entryOf : List ℕ → ℕ → ℕ → TilePartEntry
-entryOf s at n = record { «tile_index» = isot s at; offset = record { 0 = at }; length = n }
+entryOf s at n = record { «tile_index» = isot s at; numbers = Known (tpsot s at) (tnsot s at); offset = record { 0 = at }; length = n }
 
 -- EOC stands there, both bytes of it
 unfoldable pub eocAt : List ℕ → ℕ → Bool

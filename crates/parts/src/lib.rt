@@ -1,3 +1,4 @@
 // Tile-parts: the records of a codestream's tile-parts, found from SOT to SOT, and one tile's buffer taken apart again.
+pub mod order;
 pub mod scan;
 pub mod split;

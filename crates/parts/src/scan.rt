@@ -7,6 +7,7 @@ ghost use Rattle.types.specs.Row.{rowBytes, rowsOf};
 ghost use Rattle.parts.specs.Sot.{psot};
 ghost use Rattle.parts.specs.Scan.{entryOf, eocAt, partAt, sotStepAt, scanStepAt, scanFrom, judged, entriesFrom, scanned, scanNumber, scanValue, scannedTable};
 use types::CodestreamOffset;
+use types::PartNumbers;
 use types::ROW;
 use types::Refusal;
 use types::TilePartEntry;
@@ -17,6 +18,8 @@ use types::markers::LSOT_VALUE;
 use types::markers::PSOT;
 use types::markers::SOT;
 use types::markers::SOT_SEGMENT;
+use types::markers::TNSOT;
+use types::markers::TPSOT;
 
 // Places are codestream offsets.
 pub enum ScanStep {
@@ -45,8 +48,11 @@ fn entry_at(codestream: &[u8], at: usize, bytes: u64) -> TilePartEntry
     ensures { λ r. ⌜ r ≡ entryOf (now (codestream .entry)) at bytes ⌝ }
 {
     let tile_index = numbers::read_u16(codestream, at + ISOT);
+    let tpsot = codestream[at + TPSOT];
+    let tnsot = codestream[at + TNSOT];
     TilePartEntry {
         tile_index,
+        numbers: PartNumbers::Known { tpsot, tnsot },
         offset: CodestreamOffset::at(at),
         length: bytes,
     }

@@ -1,2 +1,3 @@
 pub mod main_header
+pub mod order
 pub mod scan

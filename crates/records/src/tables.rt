@@ -2,8 +2,11 @@
 // Over a slice of records: a change of a function here is made in twins/records.twin too, then `python3 tools/twin.py records` (README.md,
 // "For the next developer").
 ghost use mathlib.Core.Path.{_≡_};
-ghost use lib.ListN.{length};
+ghost use Prim.Native.Nat.{min};
+ghost use mathlib.Core.List.{_++_};
+ghost use lib.ListN.{length, take, drop};
 ghost use Rattle.header.specs.Parse.{parsed, outAfter};
+ghost use Rattle.parts.specs.Order.{inOrder};
 ghost use Rattle.parts.specs.Scan.{scanned};
 ghost use Rattle.records.specs.MainHeader.{recordsAfter};
 ghost use Rattle.records.specs.Scan.{scannedRecords};
@@ -12,6 +15,7 @@ use header::parse::MainHeader;
 use header::reading::Reading;
 use parts::scan::Scanned;
 use types::CodestreamOffset;
+use types::PartNumbers;
 use types::TilePartEntry;
 
 pub struct ScanTable {
@@ -24,11 +28,12 @@ pub struct HeaderTable {
     pub table: [TilePartEntry; 2048],
 }
 
-fn new_table() -> [TilePartEntry; 2048]
+pub fn new_table() -> [TilePartEntry; 2048]
     ensures { λ r. ⌜ r ≡ blank ⌝ }
 {
     let none = TilePartEntry {
         tile_index: 0,
+        numbers: PartNumbers::NotKnown,
         offset: CodestreamOffset(0),
         length: 0,
     };
@@ -47,13 +52,65 @@ fn header_with(answer: MainHeader, table: [TilePartEntry; 2048]) -> HeaderTable
     HeaderTable { answer, table }
 }
 
+// As many of the table's records as are asked for are lent.
+fn at_most(rows: usize) -> usize
+    ensures { λ r. ⌜ r ≡ min rows 2048 ⌝ }
+{
+    if rows < 2048 { rows } else { 2048 }
+}
+
+// The scan into the first `rows` records of a table.
+pub fn scan_into(
+    codestream: &[u8],
+    first_sot_offset: CodestreamOffset,
+    lent: [TilePartEntry; 2048],
+    rows: usize,
+) -> ScanTable
+    ensures { λ r. ⌜ r .answer ≡ scanned (now (codestream .entry)) («first_sot_offset» .0) (min rows 2048) ⌝ }
+    ensures { λ r. ⌜ r .table ≡ scannedRecords (now (codestream .entry)) («first_sot_offset» .0) (take (min rows 2048) lent) ++ drop (min rows 2048) lent ⌝ }
+{
+    let mut table = lent;
+    let room = at_most(rows);
+    let answer = crate::scan::scan_sot_markers(codestream, first_sot_offset, &mut table[..room]);
+    scan_with(answer, table)
+}
+
+// The reading of a main header, the same way.
+pub fn header_into(
+    codestream: &[u8],
+    reading: Reading,
+    lent: [TilePartEntry; 2048],
+    rows: usize,
+    out: &mut [u8],
+) -> HeaderTable
+    ensures { λ r. ⌜ r .answer ≡ parsed reading (now (codestream .entry)) (min rows 2048) (length (now (out .entry))) ⌝ }
+    ensures { λ r. ⌜ r .table ≡ recordsAfter (reading .numbering) (r .answer) (now (codestream .entry)) (take (min rows 2048) lent) ++ drop (min rows 2048) lent ⌝ }
+    ensures { λ r. ⌜ now (out .exit) ≡ outAfter (r .answer) (now (codestream .entry)) (now (out .entry)) ⌝ }
+{
+    let mut table = lent;
+    let room = at_most(rows);
+    let answer = crate::main_header::parse_main_header(
+        codestream,
+        reading,
+        &mut table[..room],
+        out,
+    );
+    header_with(answer, table)
+}
+
+// The order of a tile's tile-parts in the first `rows` records of a table.
+pub fn order_within(table: [TilePartEntry; 2048], rows: usize, tile: u16) -> bool
+    ensures { λ r. ⌜ r ≡ inOrder tile (take (min rows 2048) table) ⌝ }
+{
+    let room = at_most(rows);
+    crate::order::tile_in_order(&table[..room], tile)
+}
+
 pub fn scan_table(codestream: &[u8], first_sot_offset: CodestreamOffset) -> ScanTable
     ensures { λ r. ⌜ r .answer ≡ scanned (now (codestream .entry)) («first_sot_offset» .0) 2048 ⌝ }
     ensures { λ r. ⌜ r .table ≡ scannedRecords (now (codestream .entry)) («first_sot_offset» .0) blank ⌝ }
 {
-    let mut table = new_table();
-    let answer = crate::scan::scan_sot_markers(codestream, first_sot_offset, &mut table);
-    scan_with(answer, table)
+    scan_into(codestream, first_sot_offset, new_table(), 2048)
 }
 
 pub fn header_table(codestream: &[u8], reading: Reading, out: &mut [u8]) -> HeaderTable
@@ -61,7 +118,5 @@ pub fn header_table(codestream: &[u8], reading: Reading, out: &mut [u8]) -> Head
     ensures { λ r. ⌜ r .table ≡ recordsAfter (reading .numbering) (r .answer) (now (codestream .entry)) blank ⌝ }
     ensures { λ r. ⌜ now (out .exit) ≡ outAfter (r .answer) (now (codestream .entry)) (now (out .entry)) ⌝ }
 {
-    let mut table = new_table();
-    let answer = crate::main_header::parse_main_header(codestream, reading, &mut table, out);
-    header_with(answer, table)
+    header_into(codestream, reading, new_table(), 2048, out)
 }

@@ -1,5 +1,5 @@
 // Answers the stored list of cases in `cases`, a line for each; what it must write is what the original answered, and for
-// component sizes, tiles by Annex B or kept in place, markers and the number of fillers, which that does not tell, the model
+// component sizes, tiles by Annex B or kept in place, markers, the number of fillers and the order of tile-parts, which that does not tell, the model
 // (rust/beside, program `cases`). A case is its kind, a byte; the length of its payload, 4 bytes; the payload.
 mod answers;
 mod print;
@@ -68,6 +68,8 @@ fn answer(kind: u8, payload: &[u8]) {
         19 => answers::header_records(payload, older(Numbering::CarriedOn)),
         20 => answers::header(payload, newer()),
         21 => answers::header_records(payload, newer()),
+        22 => answers::order(payload),
+        23 => answers::order_records(payload),
         _ => print::text(b"unknown kind"),
     }
     print::text(b"\n");

@@ -7,6 +7,7 @@ use reader::components::ComponentRead;
 use reader::components::ComponentsRead;
 use tile::rewrite::Written;
 use types::Area;
+use types::PartNumbers;
 use types::ROW;
 use types::Refusal;
 use types::TilePartEntry;
@@ -92,27 +93,50 @@ fn refused(why: Refusal) {
     number(why.place);
 }
 
-// The first rows of a table, which has as many.
-pub(crate) fn rows(table: &[u8], count: u64) {
+// The first rows of a table, which has as many; each with its numbers, or without.
+pub(crate) fn rows(table: &[u8], count: u64, numbered: bool) {
     let end = numbers::minimum(count, (table.len() / ROW) as u64) as usize;
     for i in 0..end {
-        record(types::read_row(table, i * ROW));
+        record(types::read_row(table, i * ROW), numbered);
     }
 }
 
-// The first records of a table, which has as many.
-pub(crate) fn records(table: [TilePartEntry; 2048], count: u64) {
+// The first records of a table, which has as many, the same way.
+pub(crate) fn records(table: [TilePartEntry; 2048], count: u64, numbered: bool) {
     let end = numbers::minimum(count, 2048) as usize;
     for i in 0..end {
-        record(table[i]);
+        record(table[i], numbered);
     }
 }
 
-fn record(entry: TilePartEntry) {
+fn record(entry: TilePartEntry, numbered: bool) {
     let offset = entry.offset;
+    let known = entry.numbers;
     number(entry.tile_index as u64);
     number(offset.0);
     number(entry.length);
+    if numbered {
+        part_numbers(known);
+    }
+}
+
+fn part_numbers(known: PartNumbers) {
+    match known {
+        PartNumbers::Known { tpsot, tnsot } => {
+            number(tpsot as u64);
+            number(tnsot as u64);
+        }
+        PartNumbers::NotKnown => text(b" not known"),
+    }
+}
+
+// Whether a tile's tile-parts stand in order.
+pub(crate) fn order(answer: bool) {
+    if answer {
+        text(b", in order");
+    } else {
+        text(b", not in order");
+    }
 }
 
 // The first bytes of a buffer, which has as many, after a space.

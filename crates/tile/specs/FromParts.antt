@@ -4,11 +4,12 @@
 use Prim.Native.Nat.{ℕ, _+_}
 use mathlib.Core.List.{List, [], _∷_}
 use lib.ListN.{length}
+use Rattle.types.specs.declared.PartNumbers.the-variants.{NotKnown}
 use Rattle.types.specs.declared.TilePartEntry.{TilePartEntry}
 
--- where a part lies; its index is not looked at
+-- where a part lies; its index and its numbers are not looked at
 abbrev pub lying : ℕ → ℕ → TilePartEntry
-lying at long = record { «tile_index» = 0; offset = record { 0 = at }; length = long }
+lying at long = record { «tile_index» = 0; numbers = NotKnown; offset = record { 0 = at }; length = long }
 
 -- parts one after the other, from a position on
 unfoldable pub laid : ℕ → List (List ℕ) → List TilePartEntry

@@ -1,5 +1,5 @@
-// A codestream of one tile: header, tile-parts, EOC (docs/RULES.md, "Assembly"). Ranges come as rows of 18 bytes, whose index is not looked
-// at; a partial row at the end is none.
+// A codestream of one tile: header, tile-parts, EOC (docs/RULES.md, "Assembly"). Ranges come as rows of 21 bytes, of which offset and length
+// alone are looked at; a partial row at the end is none.
 ghost use mathlib.Core.Path.{_≡_};
 ghost use Prim.Native.Nat.{_+_, _-_, _^_, _≤_, min};
 ghost use lib.ListN.{length};

@@ -9,8 +9,8 @@ use lib.Seq.{drop-append-seam}
 use Rattle.numbers.specs.Bytes.{be, put}
 use Rattle.numbers.proofs.BytesLaws.{be-rest, put-start}
 use Rattle.types.specs.declared.TilePartEntry.{TilePartEntry}
-use Rattle.types.specs.Row.{rowBytes, entryAt, rowOf, rowsOf, recordsAt, recordsFrom, recordsIn}
-use Rattle.types.proofs.RowLaws.{Fits, length-row, length-rows, entry-put}
+use Rattle.types.specs.Row.{rowBytes, numbersAt, entryAt, rowOf, rowsOf, recordsAt, recordsFrom, recordsIn}
+use Rattle.types.proofs.RowLaws.{Fits, numbers-moved, length-row, length-rows, entry-put}
 
 -- ---- one by one
 
@@ -45,7 +45,9 @@ row-here e rest f =
 entry-past : (front s : List ℕ) → entryAt (front ++ s) (length front) ≡ entryAt s 0
 entry-past front s =
     let first : be 2 (front ++ s) (length front) ≡ be 2 s 0 = ap (be 2 (front ++ s)) (sym (add-zero (length front))) ∙ be-rest 2 front s 0 in
-    λ i. record { «tile_index» = first i; offset = record { 0 = be-rest 8 front s 2 i }; length = be-rest 8 front s 10 i }
+    let last : numbersAt (front ++ s) (length front + 18) ≡ numbersAt s 18 =
+    numbers-moved (front ++ s) s (length front + 18) 18 (λ i h. ap (be 1 (front ++ s)) (omega arith) ∙ be-rest 1 front s (18 + i)) in
+    λ i. record { «tile_index» = first i; numbers = last i; offset = record { 0 = be-rest 8 front s 2 i }; length = be-rest 8 front s 10 i }
 
 row-ends : (front : List ℕ) (e : TilePartEntry) → length front + rowBytes ≡ length (front ++ rowOf e)
 row-ends front e = simp length-append (omega (arith, length-row e))

@@ -1,4 +1,4 @@
-// What passes between the crates: refusals, the two kinds of offset, areas, tile-part records, and a record's 18 bytes; and
+// What passes between the crates: refusals, the two kinds of offset, areas, tile-part records, and a record's 21 bytes; and
 // the standard's marker codes and places of fields.
 pub mod markers;
 pub mod siz;
@@ -8,7 +8,7 @@ ghost use Prim.Native.Nat.{_+_, _≤_, _<_, _^_};
 ghost use lib.ListN.{length};
 ghost use Rattle.numbers.specs.Bytes.{put};
 ghost use Rattle.types.specs.Offsets.{inFile, inCodestream};
-ghost use Rattle.types.specs.Row.{rowBytes, entryAt, rowOf};
+ghost use Rattle.types.specs.Row.{rowBytes, numbersAt, numberBytes, entryAt, rowOf};
 
 // A refusal (docs/RULES.md, "Refusals"): its number, and its place, an offset whose start depends on the number; for 17 and
 // rowBytes it is what is needed.
@@ -21,7 +21,6 @@ pub struct Refusal {
 pub struct FileOffset(pub u64);
 
 // Counted from the start of the codestream.
-#[repr(C)]
 pub struct CodestreamOffset(pub u64);
 
 pub enum InFile {
@@ -94,10 +93,19 @@ pub struct Area {
     pub y1: u32,
 }
 
-// One tile-part: its tile (Isot), where it starts in the codestream, and its length from the SOT marker on.
-#[repr(C)]
+// A tile-part's number among its tile's, and how many its tile has.
+pub enum PartNumbers {
+    // As its SOT has them; a TNsot of 0 says that the count is not given there.
+    Known { tpsot: u8, tnsot: u8 },
+    // A TLM entry has neither.
+    NotKnown,
+}
+
+// One tile-part: its tile (Isot), its numbers, where it starts in the codestream, and its length from the SOT marker on. With the
+// numbers second a record has 24 bytes, and with them last 32.
 pub struct TilePartEntry {
     pub tile_index: u16,
+    pub numbers: PartNumbers,
     pub offset: CodestreamOffset,
     pub length: u64,
 }
@@ -111,8 +119,41 @@ pub fn end_of(entry: TilePartEntry) -> CodestreamOffset
     CodestreamOffset(from.0 + entry.length)
 }
 
-// The bytes of a record in a lent table: index 2, offset 8, length 8.
-pub const ROW: usize = 18;
+// The bytes of a record in a lent table: index 2, offset 8, length 8, numbers 3, which are 1, TPsot and TNsot where they are
+// known, and else 0, 0, 0.
+pub const ROW: usize = 21;
+
+// Any first byte but 1 says that they are not known.
+fn read_numbers(table: &[u8], at: usize) -> PartNumbers
+    requires { ⌜ at + 3 ≤ length (now table) ⌝ }
+    ensures { λ r. ⌜ r ≡ numbersAt (now (table .entry)) at ⌝ }
+{
+    let told = table[at];
+    if told != 1 {
+        return PartNumbers::NotKnown;
+    }
+    let tpsot = table[at + 1];
+    let tnsot = table[at + 2];
+    PartNumbers::Known { tpsot, tnsot }
+}
+
+fn write_numbers(table: &mut [u8], at: usize, numbers: PartNumbers)
+    requires { ⌜ at + 3 ≤ length (now table) ⌝ }
+    ensures { λ _. ⌜ now (table .exit) ≡ put (now (table .entry)) at (numberBytes numbers) ⌝ }
+{
+    match numbers {
+        PartNumbers::Known { tpsot, tnsot } => {
+            table[at] = 1;
+            table[at + 1] = tpsot;
+            table[at + 2] = tnsot;
+        }
+        PartNumbers::NotKnown => {
+            table[at] = 0;
+            table[at + 1] = 0;
+            table[at + 2] = 0;
+        }
+    }
+}
 
 pub fn read_row(table: &[u8], at: usize) -> TilePartEntry
     requires { ⌜ at + rowBytes ≤ length (now table) ⌝ }
@@ -121,8 +162,10 @@ pub fn read_row(table: &[u8], at: usize) -> TilePartEntry
     let tile_index = numbers::read_u16(table, at);
     let offset = CodestreamOffset(numbers::read_u64(table, at + 2));
     let length = numbers::read_u64(table, at + 10);
+    let known = read_numbers(table, at + 18);
     TilePartEntry {
         tile_index,
+        numbers: known,
         offset,
         length,
     }
@@ -133,7 +176,9 @@ pub fn write_row(table: &mut [u8], at: usize, entry: TilePartEntry)
     ensures { λ _. ⌜ now (table .exit) ≡ put (now (table .entry)) at (rowOf entry) ⌝ }
 {
     let offset = entry.offset;
+    let known = entry.numbers;
     numbers::write_u16(table, at, entry.tile_index);
     numbers::write_u64(table, at + 2, offset.0);
     numbers::write_u64(table, at + 10, entry.length);
+    write_numbers(table, at + 18, known);
 }

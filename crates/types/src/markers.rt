@@ -20,5 +20,9 @@ pub const LSOT_VALUE: u16 = 10;
 pub const ISOT: usize = 4;
 // Where the tile-part's length stands.
 pub const PSOT: usize = 6;
+// Where the tile-part's number among its tile's stands, in one byte.
+pub const TPSOT: usize = 10;
+// Where the number of its tile's tile-parts stands, in one byte.
+pub const TNSOT: usize = 11;
 // End of codestream.
 pub const EOC: u16 = 0xffd9;

@@ -151,6 +151,30 @@ pub const SCAN_RECORDS: Wanted = Wanted {
     ..SCAN
 };
 
+/// The original doesn't read what they are told by.
+pub const IN_ORDER: &str = "in order";
+pub const NOT_IN_ORDER: &str = "not in order";
+pub const ORDER: Wanted = Wanted {
+    name: "tile_in_order",
+    answers: &[(IN_ORDER, 0), (NOT_IN_ORDER, 0)],
+};
+pub const ORDER_OF_RECORDS: Wanted = Wanted {
+    name: "records_in_order",
+    ..ORDER
+};
+/// Of the codestream that is assembled of a tile, by our own answer before.
+pub const ORDER_ASSEMBLED: Wanted = Wanted {
+    name: "order of what is assembled",
+    ..ORDER
+};
+
+pub fn order(holds: bool) -> &'static str {
+    match holds {
+        true => IN_ORDER,
+        false => NOT_IN_ORDER,
+    }
+}
+
 pub const COUNT: &str = "count";
 pub const SPLIT_COUNT: Wanted = Wanted {
     name: "split_count",

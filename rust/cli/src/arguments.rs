@@ -29,6 +29,11 @@ Lines:
   end | refused NUMBER PLACE | unread      the last; standard error has the words
 Offsets behind `codestream` count from the codestream's start.
 
+JSON, of a tile-part that stands there:
+  {\"tile\":5,\"offset\":71,\"file_offset\":71,\"length\":16,\"tpsot\":0,\"tnsot\":1}
+has its own numbers too: tpsot is its number among its tile's, from 0, and tnsot how many its tile has, or 0 where it doesn't say.
+Of one by the header's own table both are null, since they are not known there.
+
 Numberings, of tile-parts for which the header's own table has no tile:
   restarting    from 0 in each of the table's segments, as the listing program and the ported program do
   carried-on    on over the segments in the order of the file, as the standard has it; more than 65,535 are refused
@@ -66,7 +71,13 @@ sample, and x1, y1 lie behind the last.
 Filler:
   1 DELIMITER WITHOUT FF, which no edition of the standard allows
 is two bytes in the main header that stand where a marker does: the first is not FF, and the second is 92, or 30 to 3F. They are
-passed over, and the file is accepted all the same; tell its supplier, since OpenJPEG refuses it. JSON has their number as fillers.";
+passed over, and the file is accepted all the same; tell its supplier, since OpenJPEG refuses it. JSON has their number as fillers.
+
+Order:
+  TILE-PARTS OUT OF ORDER, of tiles: 5 9-12
+is tiles whose tile-parts are not numbered 0, 1, 2 and on in the order of the file, or one of whose tile-parts says that there are
+more or fewer than there are. The file is accepted all the same; with no such tile the line is not there. JSON has the first and the
+last tile of each range as out_of_order_ranges, and `winterhasp list --json` has the numbers of each tile-part.";
 
 const TILE: &str = "\
 Examples:

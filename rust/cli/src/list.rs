@@ -408,6 +408,8 @@ impl Serialize for Rows<'_> {
             offset: part.offset.0,
             file_offset: start.and_then(|start| Some(part.place_in_file(start)?.0)),
             length: part.length,
+            tpsot: part.numbers.map(|numbers| numbers.tpsot),
+            tnsot: part.numbers.map(|numbers| numbers.tnsot),
         }))
     }
 }
@@ -419,4 +421,7 @@ struct JsonRow {
     #[serde(skip_serializing_if = "Option::is_none")]
     file_offset: Option<u64>,
     length: u64,
+    /// As its SOT gives them; the header's own table does not know them.
+    tpsot: Option<u8>,
+    tnsot: Option<u8>,
 }

@@ -17,7 +17,7 @@ use crate::offsets::Offsets;
 use crate::output::{print, tell};
 use crate::siz::{box_text, Grid, Pair, Siz};
 use crate::stages::{capabilities, packed_headers, parts_without_tlm, End, Fetch, Stages, Stopped};
-use crate::tiles::{ranges_text, Tiles};
+use crate::tiles::{out_of_order, ranges_text, Tiles};
 use crate::trouble::{about, sentence, Refused, Status, Trouble};
 
 pub fn show(arguments: &arguments::Show) -> Result<Status, Trouble> {
@@ -122,6 +122,8 @@ struct TileParts {
     count: u64,
     bytes: u64,
     first: Offsets,
+    /// First and last of each range of tiles whose parts are out of order.
+    out_of_order_ranges: Vec<[usize; 2]>,
 }
 
 #[derive(Serialize)]
@@ -189,7 +191,7 @@ impl Report {
             let parts = stages.parts;
             let parts = parts.or_else(|| parts_of_refused(stages.refused, codestream, fetch));
             let grid = siz.as_ref().and_then(Siz::grid);
-            report.add_parts(codestream, parts.as_deref().unwrap_or_default(), grid);
+            report.add_parts(codestream, parts.unwrap_or_default(), grid);
         }
         let trouble = refusal.map(|refusal| match (of_file, tile) {
             (None, Some(tile)) => format!("tile {tile}: {}", sentence(refusal, start)),
@@ -208,18 +210,19 @@ impl Report {
         });
     }
 
-    fn add_parts(&mut self, codestream: Codestream, parts: &[TilePart], grid: Option<Grid>) {
+    fn add_parts(&mut self, codestream: Codestream, parts: Vec<TilePart>, grid: Option<Grid>) {
         let Some(first) = parts.first() else {
             return;
         };
+        let end = End::of(codestream.bytes, &parts);
+        self.scan_ended = end.map(|end| Ended::of(end, codestream.start));
+        self.tiles = grid.map(|grid| TilesReport::of(&Tiles::of(&parts), grid));
         self.tile_parts = Some(TileParts {
             count: parts.len() as u64,
             bytes: parts.iter().map(|part| part.length).sum(),
             first: Offsets::of(first.offset, codestream.start),
+            out_of_order_ranges: pairs(out_of_order(parts)),
         });
-        let end = End::of(codestream.bytes, parts);
-        self.scan_ended = end.map(|end| Ended::of(end, codestream.start));
-        self.tiles = grid.map(|grid| TilesReport::of(&Tiles::of(parts), grid));
     }
 
     fn json(&self) -> Result<String, Trouble> {
@@ -229,7 +232,7 @@ impl Report {
     }
 
     fn text(&self) -> String {
-        let tiles = self.tiles.as_ref();
+        let (parts, tiles) = (self.tile_parts.as_ref(), self.tiles.as_ref());
         let before = [
             ("file", Some(format!("{}, {} bytes", self.file, self.bytes))),
             ("container", self.container_text()),
@@ -246,10 +249,11 @@ impl Report {
             ("tlm", self.header.as_ref().map(Header::tlm_text)),
             ("filler", self.header.as_ref().map(Header::filler_text)),
             ("ppm", self.header.as_ref().and_then(Header::ppm_text)),
-            ("tile-parts", self.tile_parts.as_ref().map(TileParts::text)),
+            ("tile-parts", parts.map(TileParts::text)),
             ("present", self.present_text()),
             ("missing", tiles.map(TilesReport::missing_text)),
             ("outside", tiles.and_then(TilesReport::outside_text)),
+            ("order", parts.and_then(TileParts::order_text)),
             ("scan ended", self.scan_ended.as_ref().map(Ended::text)),
             ("refused", self.refused.as_ref().map(Refused::text)),
         ];
@@ -473,8 +477,14 @@ impl TileParts {
             count,
             bytes,
             first,
+            ..
         } = self;
         format!("{count}, {bytes} bytes, from {} on", first.text())
+    }
+
+    fn order_text(&self) -> Option<String> {
+        let tiles = &self.out_of_order_ranges;
+        (!tiles.is_empty()).then(|| format!("TILE-PARTS OUT OF ORDER, of tiles: {}", told(tiles)))
     }
 }
 

@@ -2,7 +2,7 @@
 
 use std::ops::RangeInclusive;
 
-use winterhasp::TilePart;
+use winterhasp::{tile_in_order, TilePart};
 
 use crate::siz::{Grid, MOST_TILES};
 
@@ -58,6 +58,19 @@ impl Tiles {
     }
 }
 
+/// The tiles whose parts stand out of order. Each is asked for over its own parts alone, since there may be
+/// as many tiles as indices.
+pub fn out_of_order(mut parts: Vec<TilePart>) -> Vec<RangeInclusive<usize>> {
+    // Parts of a tile stay in the order of the file.
+    parts.sort_by_key(|part| part.index);
+    let mut found = vec![false; INDICES];
+    for tile in parts.chunk_by(|part, next| part.index == next.index) {
+        let index = tile[0].index;
+        found[usize::from(index)] = !tile_in_order(index, tile);
+    }
+    ranges(found.into_iter())
+}
+
 /// The numbers at which it is so, as ranges.
 fn ranges(so: impl Iterator<Item = bool>) -> Vec<RangeInclusive<usize>> {
     let mut found: Vec<RangeInclusive<usize>> = Vec::new();
@@ -91,16 +104,21 @@ pub fn ranges_text(ranges: &[RangeInclusive<usize>], most: usize) -> String {
 
 #[cfg(test)]
 mod tests {
-    use super::{ranges_text, Tiles};
+    use super::{out_of_order, ranges_text, Tiles};
     use crate::siz::Grid;
-    use winterhasp::{CodestreamOffset, TilePart};
+    use winterhasp::{CodestreamOffset, PartNumbers, TilePart};
 
-    fn tiles(indices: &[u16]) -> Tiles {
-        let part = |&index| TilePart {
+    fn part(index: u16, numbers: Option<PartNumbers>) -> TilePart {
+        TilePart {
             index,
             offset: CodestreamOffset(0),
             length: 14,
-        };
+            numbers,
+        }
+    }
+
+    fn tiles(indices: &[u16]) -> Tiles {
+        let part = |&index| part(index, None);
         Tiles::of(&indices.iter().map(part).collect::<Vec<_>>())
     }
 
@@ -137,6 +155,18 @@ mod tests {
         let tiles = tiles(&[0, 65_535]);
         assert_eq!((tiles.present(grid), tiles.missing(grid)), (2, None));
         assert!(tiles.outside(grid).is_empty());
+    }
+
+    #[test]
+    fn tiles_are_out_of_order_each_by_its_own_parts() {
+        let part = |(index, tpsot, tnsot)| part(index, Some(PartNumbers { tpsot, tnsot }));
+        // 0 is in order among the others, 4 has its second part before its first, and of 65,535 one is missing
+        let parts = [(4, 1, 2), (0, 0, 0), (65_535, 0, 2), (4, 0, 2), (0, 1, 2)];
+        assert_eq!(
+            out_of_order(parts.map(part).to_vec()),
+            [4..=4, 65_535..=65_535]
+        );
+        assert!(out_of_order(Vec::new()).is_empty());
     }
 
     #[test]

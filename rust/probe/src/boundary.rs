@@ -2,32 +2,11 @@
 //!
 //! One reason serves for every call: each pointer and length are those of one slice, or of one
 //! number; what is read is shared and what is written is borrowed by nobody else; the archive keeps
-//! none of them after it returns. A slice of records is counted in records, which are laid out as the
-//! archive's own.
+//! none of them after it returns.
 
 use crate::host::Reading;
 
-/// A tile-part: its tile's index, its offset and its length.
-#[repr(C)]
-#[derive(Debug, Default, Clone, Copy, PartialEq, Eq)]
-pub struct TilePartEntry {
-    pub tile_index: u16,
-    pub offset: u64,
-    pub length: u64,
-}
-
-impl TilePartEntry {
-    pub fn new(tile_index: u16, offset: u64, length: u64) -> Self {
-        TilePartEntry {
-            tile_index,
-            offset,
-            length,
-        }
-    }
-}
-
 mod archive {
-    use super::TilePartEntry;
     use crate::host::Reading;
 
     extern "C" {
@@ -35,7 +14,7 @@ mod archive {
             codestream: *const u8,
             codestream_len: usize,
             reading: Reading,
-            table: *mut TilePartEntry,
+            table: *mut u8,
             table_len: usize,
             out: *mut u8,
             out_len: usize,
@@ -49,10 +28,12 @@ mod archive {
             codestream: *const u8,
             codestream_len: usize,
             first_sot_offset: u64,
-            table: *mut TilePartEntry,
+            table: *mut u8,
             table_len: usize,
             value: *mut u64,
         ) -> u32;
+
+        pub fn winterhasp_records_in_order(table: *const u8, table_len: usize, tile: u16) -> u32;
 
         pub fn winterhasp_codestream_of(
             file: *const u8,
@@ -64,11 +45,12 @@ mod archive {
     }
 }
 
-/// As `parse_main_header_by_reading`, with the TLM entries as records.
+/// As `parse_main_header_by_reading`, with the TLM entries as records, for which the rows of `table` stand:
+/// 2,048 at most.
 pub fn header_records(
     codestream: &[u8],
     reading: Reading,
-    table: &mut [TilePartEntry],
+    table: &mut [u8],
     out: &mut [u8],
     [first_sot, decode_length, entries, fillers]: &mut [u64; 4],
 ) -> u32 {
@@ -90,13 +72,8 @@ pub fn header_records(
     }
 }
 
-/// The tile-parts from the offset `first_sot` on go to `table`, their number to `value`.
-pub fn scan_records(
-    codestream: &[u8],
-    first_sot: u64,
-    table: &mut [TilePartEntry],
-    value: &mut u64,
-) -> u32 {
+/// As `scan_sot_markers`, with the tile-parts as records, in the same way.
+pub fn scan_records(codestream: &[u8], first_sot: u64, table: &mut [u8], value: &mut u64) -> u32 {
     // SAFETY: as at the top of this file.
     unsafe {
         archive::winterhasp_scan_records(
@@ -108,6 +85,12 @@ pub fn scan_records(
             value,
         )
     }
+}
+
+/// As `tile_in_order`, of records, in the same way.
+pub fn records_in_order(table: &[u8], tile: u16) -> u32 {
+    // SAFETY: as at the top of this file.
+    unsafe { archive::winterhasp_records_in_order(table.as_ptr(), table.len(), tile) }
 }
 
 /// The codestream's bytes go to `out`, their number to `value`; where the search refuses there are

@@ -11,4 +11,4 @@ mod boundary;
 #[path = "../../winterhasp/src/boundary.rs"]
 pub mod host;
 
-pub use boundary::{codestream_of, header_records, scan_records, TilePartEntry};
+pub use boundary::{codestream_of, header_records, records_in_order, scan_records};

@@ -60,6 +60,8 @@ mod archive {
             value: *mut u64,
         ) -> u32;
 
+        pub fn winterhasp_tile_in_order(table: *const u8, table_len: usize, tile: u16) -> u32;
+
         pub fn winterhasp_split_count(tile: *const u8, tile_len: usize) -> u64;
 
         pub fn winterhasp_split_part(
@@ -262,7 +264,7 @@ pub fn main_header_extent(prefix: &[u8], value: &mut u64) -> u32 {
     unsafe { archive::winterhasp_main_header_extent(prefix.as_ptr(), prefix.len(), value) }
 }
 
-/// TLM entries go to `table` as rows of 18 bytes, numbered on over the segments where they have no
+/// TLM entries go to `table` as rows of 21 bytes, numbered on over the segments where they have no
 /// index, the decode header to `out`; CAP is passed over. Numbers: first SOT, the decode header's
 /// length, entries, fillers.
 pub fn parse_main_header(
@@ -340,7 +342,7 @@ pub fn find_marker(codestream: &[u8], marker: u16, value: &mut u64) -> u32 {
     unsafe { archive::winterhasp_find_marker(codestream.as_ptr(), codestream.len(), marker, value) }
 }
 
-/// The tile-parts from `first_sot` on go to `table` as rows of 18 bytes, their number to `value`.
+/// The tile-parts from `first_sot` on go to `table` as rows of 21 bytes, their number to `value`.
 pub fn scan_sot_markers(
     codestream: &[u8],
     first_sot: u64,
@@ -358,6 +360,12 @@ pub fn scan_sot_markers(
             value,
         )
     }
+}
+
+/// 1 where the tile-parts of `tile` among the rows of `table` stand in order, and else 0.
+pub fn tile_in_order(table: &[u8], tile: u16) -> u32 {
+    // SAFETY: as at the top of this file.
+    unsafe { archive::winterhasp_tile_in_order(table.as_ptr(), table.len(), tile) }
 }
 
 /// How many tile-parts `tile` holds.

@@ -78,7 +78,7 @@ mod tests {
     fn lends_what_is_asked_for() {
         let answered = lend(|lent: &mut Lent, [value]: &mut [u64; 1]| {
             *value = 3;
-            if lent.table.len() < 54 {
+            if lent.table.len() < 63 {
                 TABLE_TOO_SMALL
             } else if lent.out.len() < 3 {
                 OUTPUT_TOO_SMALL
@@ -87,7 +87,7 @@ mod tests {
             }
         });
         let (lent, [value]) = answered.expect("there is memory");
-        assert_eq!((lent.table.len(), lent.out.len(), value), (54, 3, 3));
+        assert_eq!((lent.table.len(), lent.out.len(), value), (63, 3, 3));
     }
 
     #[test]

@@ -41,6 +41,7 @@ mod lent;
 mod marker;
 mod numbering;
 mod offsets;
+mod order;
 mod reading;
 mod refusal;
 mod rule;
@@ -62,6 +63,7 @@ pub use header::{parse_main_header, parse_main_header_by_reading, MainHeader};
 pub use marker::find_marker;
 pub use numbering::Numbering;
 pub use offsets::{CodestreamOffset, FileOffset};
+pub use order::tile_in_order;
 pub use reading::Reading;
 pub use refusal::{Origin, Refusal};
 pub use rule::Rule;
@@ -74,4 +76,4 @@ pub use tile::{
     build_minimal_codestream_from_parts, build_minimal_codestream_from_parts_by_rule,
     rewrite_siz_for_tile, rewrite_siz_for_tile_by_rule,
 };
-pub use tile_part::{TilePart, TilePartBytes, TileParts};
+pub use tile_part::{PartNumbers, TilePart, TilePartBytes, TileParts};

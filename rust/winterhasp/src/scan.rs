@@ -9,13 +9,14 @@ use crate::tile_part::{from_rows, TilePart};
 /// The tile-parts from `first_sot` on, in the codestream's order.
 ///
 /// ```
-/// use winterhasp::{scan_sot_markers, CodestreamOffset};
+/// use winterhasp::{scan_sot_markers, CodestreamOffset, PartNumbers};
 ///
 /// let codestream = std::fs::read("sample-a.j2k")?;
 /// let parts = scan_sot_markers(&codestream, CodestreamOffset(57))?;
 /// assert_eq!(parts[1].index, 5);
 /// assert_eq!(parts[1].offset, CodestreamOffset(71));
 /// assert_eq!(parts[1].length, 16);
+/// assert_eq!(parts[1].numbers, Some(PartNumbers { tpsot: 0, tnsot: 1 }));
 ///
 /// let cut_short = &codestream[..80];
 /// let refusal = scan_sot_markers(cut_short, CodestreamOffset(57)).unwrap_err();

@@ -1,10 +1,21 @@
 //! Tile-parts: one by its record, which is a row of bytes to the archive, and those of one tile.
 
 use crate::offsets::{CodestreamOffset, FileOffset};
+use crate::order::tile_in_order;
 use crate::scan::scan_sot_markers;
 
-/// Bytes of a row: index 2, offset 8, length 8, big-endian.
-pub const ROW: usize = 18;
+/// Bytes of a row: index 2, offset 8, length 8, big-endian; then 1 and the two numbers where these are
+/// known, and else three times 0.
+pub const ROW: usize = 21;
+
+/// A tile-part's number among its tile's, and how many its tile has, as its SOT gives them.
+#[derive(Debug, Clone, Copy, PartialEq, Eq)]
+pub struct PartNumbers {
+    /// Its number, from 0.
+    pub tpsot: u8,
+    /// How many tile-parts its tile has; 0 where its SOT doesn't say.
+    pub tnsot: u8,
+}
 
 /// Where a tile-part stands in its codestream.
 #[derive(Debug, Clone, Copy, PartialEq, Eq)]
@@ -15,6 +26,8 @@ pub struct TilePart {
     pub offset: CodestreamOffset,
     /// In bytes, from the SOT marker on.
     pub length: u64,
+    /// Known of a tile-part that was found by its SOT, and not of one in a header's length table.
+    pub numbers: Option<PartNumbers>,
 }
 
 impl TilePart {
@@ -23,7 +36,8 @@ impl TilePart {
     /// ```
     /// use winterhasp::{CodestreamOffset, FileOffset, TilePart};
     ///
-    /// let part = TilePart { index: 5, offset: CodestreamOffset(71), length: 16 };
+    /// let offset = CodestreamOffset(71);
+    /// let part = TilePart { index: 5, offset, length: 16, numbers: None };
     /// assert_eq!(part.place_in_file(FileOffset(85)), Some(FileOffset(156)));
     /// ```
     pub fn place_in_file(&self, start: FileOffset) -> Option<FileOffset> {
@@ -31,11 +45,13 @@ impl TilePart {
     }
 
     fn from_row(row: &[u8; ROW]) -> Self {
-        let [i0, i1, o0, o1, o2, o3, o4, o5, o6, o7, l0, l1, l2, l3, l4, l5, l6, l7] = *row;
+        let [i0, i1, o0, o1, o2, o3, o4, o5, o6, o7, l0, l1, l2, l3, l4, l5, l6, l7, known, tpsot, tnsot] =
+            *row;
         TilePart {
             index: u16::from_be_bytes([i0, i1]),
             offset: CodestreamOffset(u64::from_be_bytes([o0, o1, o2, o3, o4, o5, o6, o7])),
             length: u64::from_be_bytes([l0, l1, l2, l3, l4, l5, l6, l7]),
+            numbers: (known == 1).then_some(PartNumbers { tpsot, tnsot }),
         }
     }
 
@@ -43,7 +59,10 @@ impl TilePart {
         let mut row = [0; ROW];
         row[..2].copy_from_slice(&self.index.to_be_bytes());
         row[2..10].copy_from_slice(&self.offset.0.to_be_bytes());
-        row[10..].copy_from_slice(&self.length.to_be_bytes());
+        row[10..18].copy_from_slice(&self.length.to_be_bytes());
+        if let Some(PartNumbers { tpsot, tnsot }) = self.numbers {
+            row[18..].copy_from_slice(&[1, tpsot, tnsot]);
+        }
         row
     }
 }
@@ -86,7 +105,8 @@ impl TileParts {
     ///
     /// ```
     /// # use winterhasp::{CodestreamOffset, TilePart, TileParts};
-    /// let part = TilePart { index: 5, offset: CodestreamOffset(71), length: 16 };
+    /// # let offset = CodestreamOffset(71);
+    /// let part = TilePart { index: 5, offset, length: 16, numbers: None };
     /// assert_eq!(TileParts::of(5, &[part]).map(|tile| tile.index()), Some(5));
     /// ```
     pub fn index(&self) -> u16 {
@@ -97,13 +117,29 @@ impl TileParts {
     ///
     /// ```
     /// # use winterhasp::{CodestreamOffset, TilePart, TileParts};
-    /// let part = TilePart { index: 5, offset: CodestreamOffset(71), length: 16 };
+    /// # let offset = CodestreamOffset(71);
+    /// let part = TilePart { index: 5, offset, length: 16, numbers: None };
     /// let other = TilePart { index: 6, ..part };
     /// let tile = TileParts::of(5, &[other, part]).unwrap();
     /// assert_eq!(tile.parts(), [part]);
     /// ```
     pub fn parts(&self) -> &[TilePart] {
         &self.parts
+    }
+
+    /// Whether they stand in order: see [`tile_in_order`].
+    ///
+    /// ```
+    /// # use winterhasp::{CodestreamOffset, PartNumbers, TilePart, TileParts};
+    /// # let offset = CodestreamOffset(71);
+    /// let numbers = |tpsot| Some(PartNumbers { tpsot, tnsot: 2 });
+    /// let [first, second] = [0, 1].map(|n| TilePart { index: 5, offset, length: 16, numbers: numbers(n) });
+    /// let in_order = |parts: [TilePart; 2]| TileParts::of(5, &parts).map(|tile| tile.in_order());
+    /// assert_eq!(in_order([first, second]), Some(true));
+    /// assert_eq!(in_order([second, first]), Some(false));
+    /// ```
+    pub fn in_order(&self) -> bool {
+        tile_in_order(self.index, &self.parts)
     }
 }
 
@@ -131,12 +167,10 @@ impl<'a> TilePartBytes<'a> {
     pub fn of(index: u16, parts: impl IntoIterator<Item = &'a [u8]>) -> Option<Self> {
         let whole = |part: &'a [u8]| {
             let found = scan_sot_markers(part, CodestreamOffset(0)).ok()?;
-            let alone = TilePart {
-                index,
-                offset: CodestreamOffset(0),
-                length: part.len() as u64,
+            let [alone] = found[..] else {
+                return None;
             };
-            (found == [alone]).then_some(part)
+            (alone.index == index && alone.length == part.len() as u64).then_some(part)
         };
         let parts: Vec<_> = parts.into_iter().map(whole).collect::<Option<_>>()?;
         (!parts.is_empty()).then_some(TilePartBytes { index, parts })
@@ -152,6 +186,7 @@ impl<'a> TilePartBytes<'a> {
                 index: self.index,
                 offset: CodestreamOffset(offset - length),
                 length,
+                numbers: None,
             }
         };
         (self.parts.iter().map(record).collect(), self.parts.concat())
@@ -160,7 +195,7 @@ impl<'a> TilePartBytes<'a> {
 
 #[cfg(test)]
 mod tests {
-    use super::{from_rows, to_rows, CodestreamOffset, TilePart, TilePartBytes};
+    use super::{from_rows, to_rows, CodestreamOffset, PartNumbers, TilePart, TilePartBytes};
 
     #[test]
     fn a_row_is_big_endian_and_comes_back() {
@@ -168,10 +203,32 @@ mod tests {
             index: 0x0102,
             offset: CodestreamOffset(0x0304_0506_0708_090A),
             length: 0x0B0C_0D0E_0F10_1112,
+            numbers: None,
         };
         let rows = to_rows(&[part]);
-        assert!(rows.iter().copied().eq(1..=18));
+        assert!(rows[..18].iter().copied().eq(1..=18));
+        assert_eq!(rows[18..], [0; 3]);
         assert_eq!(from_rows(&rows), [part]);
+        let (tpsot, tnsot) = (20, 21);
+        let known = TilePart {
+            numbers: Some(PartNumbers { tpsot, tnsot }),
+            ..part
+        };
+        let rows = to_rows(&[known]);
+        assert_eq!(rows[18..], [1, 20, 21]);
+        assert_eq!(from_rows(&rows), [known]);
+    }
+
+    #[test]
+    fn any_first_byte_but_1_means_not_known() {
+        for known in 0..=u8::MAX {
+            let mut row = [7; 21];
+            row[18] = known;
+            let [part] = from_rows(&row)[..] else {
+                panic!("one row");
+            };
+            assert_eq!(part.numbers.is_some(), known == 1);
+        }
     }
 
     /// A tile-part of 14 bytes that says it has `psot`.

@@ -24,9 +24,14 @@ use borrow.Kind.Array as array
 use borrow.Kind.Value as value
 use Rattle.types.proofs.TilePartEntry as T
 use Rattle.types.proofs.TilePartEntry.Laws as L
+use Rattle.types.specs.declared.PartNumbers.the-variants.{NotKnown}
 
 abbrev pub row : RattleType
 row = declared.row T.the-type
+
+-- what the rules take for an element past the end
+abbrev pub nought : row .Denot
+nought = record { «tile_index» = 0; numbers = NotKnown; offset = record { 0 = 0 }; length = 0 }
 
 -- by value, and behind a reference
 abbrev pub spelled : Ty

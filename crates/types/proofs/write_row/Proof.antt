@@ -1,4 +1,4 @@
--- Three writes that adjoin are the row.
+-- Four writes that adjoin are the row.
 use borrow.Author.Needs.{needs}
 use Rattle.types.proofs.RowLaws.{put-row}
 use Rattle.types.proofs.write_row.Statement.{statement}
@@ -19,12 +19,18 @@ add-write-u64-2 c = search needs
 write-u64-requires-2 : tie.Need-write-u64-requires-2
 write-u64-requires-2 c κs = search needs
 
+add-write-numbers : tie.Need-add-write-numbers
+add-write-numbers c = search needs
+
+write-numbers-requires : tie.Need-write-numbers-requires
+write-numbers-requires c κs = search needs
+
 same-length : tie.Need-same-length
 same-length c = search needs
 
 returns : tie.Need-returns
 returns c =
-    let a = c .before .before .before .before .before .before .before .before .before .before .before .before .before .before .args in
+    let a = c .before .before .before .before .before .before .before .before .before .before .before .before .before .before .before .before .before .before .args in
     cc (put-row (a .entry) (a .table .now) (a .at) (search needs))
 
 pub write-row-spec : {M : Type 1} → statement M
@@ -36,5 +42,7 @@ write-row-spec =
     write-u64-requires
     add-write-u64-2
     write-u64-requires-2
+    add-write-numbers
+    write-numbers-requires
     same-length
     returns)

@@ -1,4 +1,4 @@
-//! The original's tile-part entries as the model has them.
+//! The original's tile-part entries as the model has them: three fields, over which it is compared.
 
 use original::markers::TilePartEntry;
 

@@ -8,6 +8,7 @@ mod extent;
 mod growth;
 mod header;
 mod marker;
+mod order;
 mod part;
 mod pixel;
 mod plain;
@@ -30,6 +31,7 @@ pub const COMPARISONS: &[&dyn Compared] = &[
     &header::COMPARISON,
     &marker::COMPARISON,
     &scan::COMPARISON,
+    &order::COMPARISON,
     &split::COMPARISON,
     &rewrite::COMPARISON,
     &assembly::COMPARISON,
@@ -47,6 +49,7 @@ pub const BENCHMARKS: &[Benchmark] = &[
     header::BENCHMARK,
     marker::BENCHMARK,
     scan::BENCHMARK,
+    order::BENCHMARK,
     split::BENCHMARK,
     rewrite::BENCHMARK,
     rewrite::BENCHMARK_OF_ANNEX_B,
@@ -84,4 +87,6 @@ pub const KINDS: &[Kind] = &[
     header::RECORDS_CARRIED_ON,
     header::NEWER,
     header::RECORDS_NEWER,
+    order::KIND,
+    order::RECORDS,
 ];

@@ -1,50 +1,51 @@
-//! Tables of records, for what is said of tables of rows.
+//! Tables of records, for what is said of tables of rows. A slice of records can't cross to C, as a
+//! record holds an enum: the archive loads the rows that it is lent into records of its own, calls, and
+//! writes their rows back.
 
-use probe::TilePartEntry;
+use crate::model::{records, rows_of, ROW};
 
-use crate::model::{number, rows, Entry, ROW};
+/// Records that the archive has at most.
+pub const MOST: usize = 2_048;
 
-/// Lends `call` as many records as `table` has whole rows, each with its row's numbers, and makes
-/// them rows again.
-pub fn instead_of(table: &mut [u8], call: impl FnOnce(&mut [TilePartEntry]) -> u32) -> u32 {
-    let mut records: Vec<_> = table.as_chunks().0.iter().map(record).collect();
-    let status = call(&mut records);
-    let written = rows(&records.iter().map(entry).collect::<Vec<_>>());
-    table[..written.len()].copy_from_slice(&written);
+/// Lends `call` the rows of `table` as records write them, and what stands behind the last whole row.
+/// A row that is left as it was lent stays as it was, to the byte.
+pub fn instead_of(table: &mut [u8], call: impl FnOnce(&mut [u8]) -> u32) -> u32 {
+    let whole = table.len() / ROW * ROW;
+    let lent = [&rows_of(&records(table)), &table[whole..]].concat();
+    let mut left = lent.clone();
+    let status = call(&mut left);
+    let rows = lent.chunks(ROW).zip(left.chunks(ROW));
+    for (place, (before, after)) in table.chunks_mut(ROW).zip(rows) {
+        if before != after {
+            place.copy_from_slice(after);
+        }
+    }
     status
-}
-
-fn record(row: &[u8; ROW]) -> TilePartEntry {
-    let (index, place) = row.split_at(2);
-    let (offset, length) = place.split_at(8);
-    TilePartEntry::new(number(index) as u16, number(offset), number(length))
-}
-
-fn entry(record: &TilePartEntry) -> Entry {
-    (record.tile_index, record.offset, record.length)
 }
 
 #[cfg(test)]
 mod tests {
-    use super::instead_of;
-    use probe::TilePartEntry;
+    use super::{instead_of, ROW};
 
     #[test]
     fn what_is_not_written_stays() {
-        let before: Vec<u8> = (0..40).collect();
+        let before: Vec<u8> = (0..50).collect();
         let mut table = before.clone();
-        let status = instead_of(&mut table, |records| {
-            assert_eq!(records.len(), 2);
-            assert_eq!(records[0].tile_index, 0x0001);
-            assert_eq!(records[0].offset, 0x0203_0405_0607_0809);
-            assert_eq!(records[0].length, 0x0A0B_0C0D_0E0F_1011);
-            records[1] = TilePartEntry::new(1, 2, 3);
+        let status = instead_of(&mut table, |rows| {
+            assert_eq!(rows[..18], before[..18]);
+            // 18 is no 1: the numbers are not known
+            assert_eq!(rows[18..21], [0; 3]);
+            assert_eq!(rows[42..], before[42..]);
+            rows[ROW] = 77;
+            rows[49] = 78;
             5
         });
         assert_eq!(status, 5);
-        assert_eq!(table[..18], before[..18]);
-        let written = [0, 1, 0, 0, 0, 0, 0, 0, 0, 2, 0, 0, 0, 0, 0, 0, 0, 3];
-        assert_eq!(table[18..36], written);
-        assert_eq!(table[36..], before[36..]);
+        assert_eq!(table[..21], before[..21]);
+        assert_eq!(table[21], 77);
+        assert_eq!(table[22..39], before[22..39]);
+        assert_eq!(table[39..42], [0; 3]);
+        assert_eq!(table[42..49], before[42..49]);
+        assert_eq!(table[49], 78);
     }
 }

@@ -66,10 +66,16 @@ impl Refusal {
 }
 
 /// Bytes of an entry in a table.
-pub const ROW: usize = 18;
+pub const ROW: usize = 21;
 
-/// A tile-part: its tile's index, its offset and its length.
+/// A tile-part: its tile's index, its offset and its length, which the original tells too.
 pub type Entry = (u16, u64, u64);
+
+/// TPsot and TNsot, where they are known.
+pub type Numbers = Option<[u8; 2]>;
+
+/// A tile-part, and its numbers, which the original doesn't tell.
+pub type Record = (Entry, Numbers);
 
 /// An offset and a length.
 pub type Range = (u64, u64);
@@ -77,15 +83,45 @@ pub type Range = (u64, u64);
 /// On the reference grid: x0, y0, and x1, y1, which no longer belong to it.
 pub type Area = [u32; 4];
 
+/// Without their numbers.
+pub fn entries(records: &[Record]) -> Vec<Entry> {
+    records.iter().map(|(entry, _)| *entry).collect()
+}
+
+/// With numbers that are not known.
 pub fn rows(entries: &[Entry]) -> Vec<u8> {
-    let row = |(index, offset, length): &Entry| {
-        let front = index.to_be_bytes().into_iter();
-        front
-            .chain(offset.to_be_bytes())
-            .chain(length.to_be_bytes())
-            .collect::<Vec<_>>()
+    entries
+        .iter()
+        .flat_map(|&entry| row((entry, None)))
+        .collect()
+}
+
+pub fn rows_of(records: &[Record]) -> Vec<u8> {
+    records.iter().copied().flat_map(row).collect()
+}
+
+fn row(((index, offset, length), numbers): Record) -> [u8; ROW] {
+    let mut row = [0; ROW];
+    row[..2].copy_from_slice(&index.to_be_bytes());
+    row[2..10].copy_from_slice(&offset.to_be_bytes());
+    row[10..18].copy_from_slice(&length.to_be_bytes());
+    if let Some([tpsot, tnsot]) = numbers {
+        row[18..].copy_from_slice(&[1, tpsot, tnsot]);
+    }
+    row
+}
+
+/// What the whole rows of a table hold.
+pub fn records(table: &[u8]) -> Vec<Record> {
+    let record = |row: &[u8; ROW]| {
+        let (entry, numbers) = row.split_at(18);
+        let (index, place) = entry.split_at(2);
+        let (offset, length) = place.split_at(8);
+        let entry = (number(index) as u16, number(offset), number(length));
+        let known = numbers[0] == 1;
+        (entry, known.then_some([numbers[1], numbers[2]]))
     };
-    entries.iter().flat_map(row).collect()
+    table.as_chunks().0.iter().map(record).collect()
 }
 
 /// The number that `bytes` are.

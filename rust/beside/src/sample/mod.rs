@@ -10,6 +10,7 @@ pub mod fillers;
 pub mod headers;
 pub mod markers;
 pub mod numbers;
+pub mod orders;
 pub mod parts;
 pub mod short;
 pub mod sizes;

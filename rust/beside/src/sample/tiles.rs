@@ -18,12 +18,15 @@ pub struct Input {
 impl Input {
     /// The ranges as rows; the index is `filler`, as nobody is to read it.
     pub fn rows(&self, filler: u16) -> Vec<u8> {
-        rows_of(&self.ranges, filler)
+        rows_of_ranges(&self.ranges, filler)
     }
 
-    /// The same with any index, and a part of a row behind them, which is none.
+    /// The same with any index and numbers, and a part of a row behind them, which is none.
     pub fn rows_and_more(&self, random: &mut Random) -> Vec<u8> {
         let mut rows = self.rows(random.number() as u16);
+        for row in rows.as_chunks_mut::<ROW>().0 {
+            row[18..].copy_from_slice(&random.bytes(3));
+        }
         let partial = random.below(ROW);
         rows.extend(random.fill(partial));
         rows
@@ -36,7 +39,7 @@ impl Input {
     }
 }
 
-pub fn rows_of(ranges: &[Range], index: u16) -> Vec<u8> {
+pub fn rows_of_ranges(ranges: &[Range], index: u16) -> Vec<u8> {
     let entry = |&(offset, length): &Range| (index, offset, length);
     rows(&ranges.iter().map(entry).collect::<Vec<_>>())
 }
@@ -50,7 +53,7 @@ pub fn joined(parts: &[&[u8]]) -> (Vec<u8>, Vec<u8>) {
         (offset, length)
     };
     let ranges: Vec<_> = parts.iter().map(place).collect();
-    (parts.concat(), rows_of(&ranges, 0))
+    (parts.concat(), rows_of_ranges(&ranges, 0))
 }
 
 pub fn inputs(random: &mut Random) -> Vec<Input> {

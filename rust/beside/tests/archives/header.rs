@@ -2,7 +2,7 @@
 //! records.
 
 use beside::model::header::NO_SUCH_MARKER;
-use beside::model::rows;
+use beside::model::{rows, ROW};
 use beside::readings;
 use beside::sample::caps;
 use beside::sample::codestream::{Codestream, COM, EOC, EPH, PPM, SIZ, SOC, SOD, SOT, TLM};
@@ -10,11 +10,14 @@ use beside::sample::fillers::counted;
 use beside::sample::numbers;
 use beside::sample::tlms::STLM;
 use beside::sample::{opened, sample_a};
-use probe::{host, TilePartEntry};
+use probe::host;
+
+/// That the archive holds at most.
+const RECORDS: usize = 2_048;
 
 /// Status, numbers, table, output; 20 rows and 200 bytes are lent.
 fn parsed(codestream: &[u8]) -> (u32, [u64; 4], Vec<u8>, Vec<u8>) {
-    let (mut table, mut out) = (vec![0xEE; 360], vec![0xEE; 200]);
+    let (mut table, mut out) = (vec![0xEE; 20 * ROW], vec![0xEE; 200]);
     let mut values = [7; 4];
     let status = host::parse_main_header(codestream, &mut table, &mut out, &mut values);
     (status, values, table, out)
@@ -24,7 +27,7 @@ fn entries(built: &mut Codestream) -> Vec<u8> {
     built.marker(SOT);
     let (status, [_, _, entries, _], mut table, _) = parsed(&built.bytes);
     assert_eq!(status, 0);
-    table.truncate(18 * entries as usize);
+    table.truncate(ROW * entries as usize);
     table
 }
 
@@ -40,9 +43,9 @@ fn sample_a_is_as_listed() {
     let sample = sample_a();
     let (status, values, table, out) = parsed(&sample);
     assert_eq!((status, values), (0, [57, 45, 2, 0]));
-    assert_eq!(table[..36], rows(&[(0, 57, 14), (5, 71, 16)]));
+    assert_eq!(table[..42], rows(&[(0, 57, 14), (5, 71, 16)]));
     assert_eq!(out[..45], sample[..45]);
-    assert!(table[36..]
+    assert!(table[42..]
         .iter()
         .chain(&out[45..])
         .all(|&byte| byte == 0xEE));
@@ -71,10 +74,10 @@ fn numbered(codestream: &[u8], numbering: Option<u32>) -> Result<Vec<u16>, (u32,
 }
 
 /// What the rows and the records hold, read as is said or without a word: the tiles' indices, or the
-/// refusal.
+/// refusal. Of more entries than there are records only the rows are read, and the records are too few.
 fn read_as(codestream: &[u8], reading: Option<host::Reading>) -> Result<Vec<u16>, (u32, u64)> {
     let rows = 66_000;
-    let (mut table, mut out) = (vec![0xEE; 18 * rows], vec![0; codestream.len()]);
+    let (mut table, mut out) = (vec![0xEE; ROW * rows], vec![0; codestream.len()]);
     let mut values = [7; 4];
     let status = match reading {
         None => host::parse_main_header(codestream, &mut table, &mut out, &mut values),
@@ -86,26 +89,29 @@ fn read_as(codestream: &[u8], reading: Option<host::Reading>) -> Result<Vec<u16>
             &mut values,
         ),
     };
-    let mut records = vec![TilePartEntry::default(); rows];
+    let mut records = vec![0; ROW * rows];
     let reading = reading.unwrap_or(readings::DEFAULT);
     let mut of_records = [7; 4];
     let status_of_records =
         probe::header_records(codestream, reading, &mut records, &mut out, &mut of_records);
-    assert_eq!((status_of_records, of_records), (status, values));
     if status != 0 {
+        assert_eq!((status_of_records, of_records), (status, values));
         assert_eq!(values[1..], [7; 3]);
         assert!(table.iter().all(|&byte| byte == 0xEE));
-        assert!(records
-            .iter()
-            .all(|record| *record == TilePartEntry::default()));
+        assert!(records.iter().all(|&byte| byte == 0));
         return Err((status, values[0]));
     }
     let entries = values[2] as usize;
+    let written = &table[..ROW * entries];
+    if entries > RECORDS {
+        assert_eq!((status_of_records, of_records[0]), (18, values[2]));
+        assert!(records.iter().all(|&byte| byte == 0));
+    } else {
+        assert_eq!((status_of_records, of_records), (status, values));
+        assert_eq!(records[..written.len()], *written);
+    }
     let index = |row: &[u8]| u16::from_be_bytes([row[0], row[1]]);
-    let indices: Vec<u16> = table.chunks_exact(18).take(entries).map(index).collect();
-    let of_records = records[..entries].iter().map(|record| record.tile_index);
-    assert!(of_records.eq(indices.iter().copied()));
-    Ok(indices)
+    Ok(written.chunks_exact(ROW).map(index).collect())
 }
 
 /// Without a number, by 0, and by one that means nothing.
@@ -210,7 +216,7 @@ fn where_the_walk_stops() {
 fn too_little_room() {
     let sample = sample_a();
     for (rows, size, expected) in [(2, 45, 0), (2, 44, 17), (1, 45, 18), (1, 44, 18)] {
-        let (mut table, mut out) = (vec![0xEE; 18 * rows], vec![0xEE; size]);
+        let (mut table, mut out) = (vec![0xEE; ROW * rows], vec![0xEE; size]);
         let mut values = [7; 4];
         let status = host::parse_main_header(&sample, &mut table, &mut out, &mut values);
         assert_eq!(status, expected);
@@ -223,40 +229,34 @@ fn too_little_room() {
 }
 
 /// Read as by default.
-fn with_records(
-    codestream: &[u8],
-    table: &mut [TilePartEntry],
-    out: &mut [u8],
-    values: &mut [u64; 4],
-) -> u32 {
+fn with_records(codestream: &[u8], table: &mut [u8], out: &mut [u8], values: &mut [u64; 4]) -> u32 {
     probe::header_records(codestream, readings::DEFAULT, table, out, values)
 }
 
 #[test]
 fn sample_a_s_entries_as_records() {
     let sample = sample_a();
-    let record = TilePartEntry::new;
-    let untouched = record(9, 9, 9);
-    let (mut table, mut out, mut values) = ([untouched; 3], [0xEE; 45], [7; 4]);
+    let untouched = (9, 9, 9);
+    let (mut table, mut out, mut values) = (rows(&[untouched; 3]), [0xEE; 45], [7; 4]);
     let status = with_records(&sample, &mut table, &mut out, &mut values);
     assert_eq!((status, values), (0, [57, 45, 2, 0]));
-    assert_eq!(table, [record(0, 57, 14), record(5, 71, 16), untouched]);
+    assert_eq!(table, rows(&[(0, 57, 14), (5, 71, 16), untouched]));
     assert_eq!(out, sample[..45]);
 
-    let (mut table, mut out, mut values) = ([untouched; 1], [0xEE; 45], [7; 4]);
+    let (mut table, mut out, mut values) = (rows(&[untouched]), [0xEE; 45], [7; 4]);
     let status = with_records(&sample, &mut table, &mut out, &mut values);
     assert_eq!((status, values), (18, [2, 7, 7, 7]));
-    assert_eq!((table, out), ([untouched; 1], [0xEE; 45]));
+    assert_eq!((table, out), (rows(&[untouched]), [0xEE; 45]));
 }
 
 /// Of rows and of records; where there is no room the number stays.
 #[test]
 fn fillers_are_counted_as_by_hand() {
     for (codestream, count) in counted() {
-        let (mut rows, mut out, mut values) = ([0; 18], vec![0; codestream.len()], [7; 4]);
+        let (mut rows, mut out, mut values) = ([0; ROW], vec![0; codestream.len()], [7; 4]);
         let status = host::parse_main_header(&codestream, &mut rows, &mut out, &mut values);
         assert_eq!((status, values[3]), (0, count), "{codestream:02X?}");
-        let (mut records, mut of_records) = ([TilePartEntry::default()], [7; 4]);
+        let (mut records, mut of_records) = ([0; ROW], [7; 4]);
         let status = with_records(&codestream, &mut records, &mut out, &mut of_records);
         assert_eq!((status, of_records), (0, values), "{codestream:02X?}");
 

@@ -5,10 +5,10 @@ use Rattle.replay.proofs.print.records.Statement.{statement}
 use Rattle.replay.proofs.print.records.Tie as tie
 
 abbrev Inv-loop : tie.InvT-loop
-Inv-loop table count end i₀ i = (end ≤ 2048) × (i ≤ end)
+Inv-loop table count numbered end i₀ i = (end ≤ 2048) × (i ≤ end)
 
 abbrev μ-loop : tie.MeasureT-loop
-μ-loop table count end i₀ i = end - i
+μ-loop table count numbered end i₀ i = end - i
 
 minimum-requires : tie.Need-minimum-requires Inv-loop μ-loop
 minimum-requires c κs = search needs

@@ -3,7 +3,6 @@
 use beside::lent::Lent;
 use beside::random::Random;
 use beside::tally::{hex, Tally};
-use probe::TilePartEntry;
 
 use super::pages::{Guarded, Side};
 
@@ -14,12 +13,8 @@ pub const ROOM: usize = 1 << 20;
 pub struct Pools {
     inputs: [Guarded; 3],
     memory: [Guarded; 2],
-    table: Guarded,
     numbers: Guarded,
 }
-
-/// What is lent to be written, and a table of records beside it.
-type Written<const V: usize, const M: usize> = (Lent<V, M>, Vec<TilePartEntry>);
 
 impl Pools {
     pub fn new() -> Self {
@@ -27,7 +22,6 @@ impl Pools {
         Pools {
             inputs: [(); 3].map(pool),
             memory: [(); 2].map(pool),
-            table: pool(()),
             numbers: Guarded::new(1),
         }
     }
@@ -37,9 +31,9 @@ impl Pools {
         &mut self,
         side: Side,
         inputs: &[Vec<u8>; I],
-        (before, table): &Written<V, M>,
-        call: impl Fn([&[u8]; I], [&mut [u8]; M], &mut [TilePartEntry], &mut [u64; V]) -> u32,
-    ) -> Written<V, M> {
+        before: &Lent<V, M>,
+        call: impl Fn([&[u8]; I], [&mut [u8]; M], &mut [u64; V]) -> u32,
+    ) -> Lent<V, M> {
         let mut pools = self.inputs.iter_mut();
         let inputs = inputs.each_ref().map(|bytes| {
             let pool = pools.next().expect("a pool for each input");
@@ -50,16 +44,14 @@ impl Pools {
             let pool = pools.next().expect("a pool for each stretch of memory");
             pool.exclusive(side, bytes)
         });
-        let table = self.table.exclusive(side, table);
         let values = self.numbers.numbers(side, before.values);
         let lent = memory.each_mut().map(|lent| &mut **lent);
-        let status = call(inputs, lent, table, values);
-        let after = Lent {
+        let status = call(inputs, lent, values);
+        Lent {
             status,
             values: *values,
             memory: memory.map(|lent| lent.to_vec()),
-        };
-        (after, table.to_vec())
+        }
     }
 }
 
@@ -80,30 +72,14 @@ impl Calls<'_> {
         label: impl Fn(u32) -> &'static str,
         call: impl Fn([&[u8]; I], [&mut [u8]; M], &mut [u64; V]) -> u32,
     ) {
-        self.with_table(inputs, sizes, 0, label, |inputs, memory, _, values| {
-            call(inputs, memory, values)
-        });
-    }
-
-    /// With a table of so many `records` besides.
-    pub fn with_table<const I: usize, const V: usize, const M: usize>(
-        &mut self,
-        inputs: [Vec<u8>; I],
-        sizes: [usize; M],
-        records: usize,
-        label: impl Fn(u32) -> &'static str,
-        call: impl Fn([&[u8]; I], [&mut [u8]; M], &mut [TilePartEntry], &mut [u64; V]) -> u32,
-    ) {
         let inputs = inputs.map(|bytes| bytes.as_slice().to_vec());
         let random = &mut self.random;
-        let before = (Lent::preset(random, sizes), preset_table(random, records));
-        let mut table = before.1.clone();
-        let ordinary = before.0.left_by(|memory, values| {
+        let before = Lent::preset(random, sizes);
+        let ordinary = before.left_by(|memory, values| {
             let inputs = inputs.each_ref().map(Vec::as_slice);
-            call(inputs, memory, &mut table, values)
+            call(inputs, memory, values)
         });
         let answer = label(ordinary.status);
-        let ordinary = (ordinary, table);
         for side in [Side::Front, Side::Back] {
             let guarded = self.pools.call(side, &inputs, &before, &call);
             let input = || {
@@ -115,13 +91,4 @@ impl Calls<'_> {
             self.tally.compare(answer, &guarded, &ordinary, input);
         }
     }
-}
-
-/// As `Lent::preset` has bytes.
-fn preset_table(random: &mut Random, records: usize) -> Vec<TilePartEntry> {
-    let mut record = || {
-        let index = random.number() as u16;
-        TilePartEntry::new(index, random.number(), random.number())
-    };
-    (0..records).map(|_| record()).collect()
 }

@@ -3,16 +3,16 @@
 use beside::lent::{room, table};
 use beside::model::components::NO_SUCH_COMPONENT;
 use beside::model::header::{Reading, NO_SUCH_MARKER};
-use beside::model::{self, Refusal};
+use beside::model::{self, rows_of, Refusal, ROW};
 use beside::random::Random;
 use beside::readings::{self, meant};
 use beside::sample::codestream::CAP;
 use beside::sample::damage::damage;
 use beside::sample::{
-    boxes, caps, components, headers, markers, numbers, padded, parts, sizes, tiles,
+    boxes, caps, components, headers, markers, numbers, orders, padded, parts, sizes, tiles,
 };
 use beside::wanted::{self, Wanted, COMPLETE, COUNT, NONE, NO_MARKER, TRUNCATED};
-use probe::{host, TilePartEntry};
+use probe::host;
 
 use super::calls::{Calls, ROOM};
 
@@ -27,6 +27,8 @@ pub const FUNCTIONS: &[Function] = &[
     (wanted::FIND_MARKER, find_marker),
     (wanted::SCAN, scan),
     (wanted::SCAN_RECORDS, scan_records),
+    (wanted::ORDER, order),
+    (wanted::ORDER_OF_RECORDS, order_of_records),
     (wanted::SPLIT_COUNT, split_count),
     (wanted::SPLIT_PART, split_part),
     (wanted::SPLIT_AT, split_at),
@@ -158,12 +160,12 @@ fn header_records(calls: &mut Calls) {
     let reading = any_reading(&mut calls.random);
     let (codestream, entries, size) = header_input(&mut calls.random, reading);
     let answer = header_answer(&codestream, reading);
-    calls.with_table(
+    let table = table(&mut calls.random, entries);
+    calls.call(
         [codestream],
-        [size],
-        entries.min(ROOM / size_of::<TilePartEntry>()),
+        [table, size],
         answer,
-        |[codestream], [out], table, values| {
+        |[codestream], [table, out], values| {
             probe::header_records(codestream, reading, table, out, values)
         },
     );
@@ -207,13 +209,33 @@ fn scan(calls: &mut Calls) {
 
 fn scan_records(calls: &mut Calls) {
     let (codestream, start, entries) = scan_input(&mut calls.random);
-    calls.with_table(
+    let table = table(&mut calls.random, entries);
+    calls.call(
         [codestream],
-        [],
-        entries,
+        [table],
         usual,
-        |[codestream], [], table, [value]| probe::scan_records(codestream, start, table, value),
+        |[codestream], [table], [value]| probe::scan_records(codestream, start, table, value),
     );
+}
+
+/// Of rows with any bytes behind them, for a tile that is there or not.
+fn order_by(calls: &mut Calls, answer: fn(&[u8], u16) -> u32) {
+    let random = &mut calls.random;
+    let mut table = rows_of(&orders::table(random));
+    let partial = random.below(ROW);
+    table.extend(random.bytes(partial));
+    let table = perhaps_damaged(random, table);
+    let tile = random.pick(&orders::TILES);
+    let told = |status| wanted::order(status == 1);
+    calls.call([table], [], told, |[table], [], []| answer(table, tile));
+}
+
+fn order(calls: &mut Calls) {
+    order_by(calls, host::tile_in_order);
+}
+
+fn order_of_records(calls: &mut Calls) {
+    order_by(calls, probe::records_in_order);
 }
 
 fn tile_parts(random: &mut Random) -> Vec<u8> {

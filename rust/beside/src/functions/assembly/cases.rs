@@ -73,7 +73,7 @@ fn read(payload: &[u8]) -> Input {
     let (header, rest) = rest.split_at(number(size) as usize);
     let (count, rest) = rest.split_at(2);
     let (rows, codestream) = rest.split_at(ROW * number(count) as usize);
-    let range = |row: &[u8]| (number(&row[2..10]), number(&row[10..]));
+    let range = |row: &[u8]| (number(&row[2..10]), number(&row[10..18]));
     Input {
         header: header.to_vec(),
         ranges: rows.chunks(ROW).map(range).collect(),

@@ -15,7 +15,7 @@ use crate::model::{Range, Refusal};
 use crate::sample::damage::damage;
 use crate::sample::parts::{many, sot};
 use crate::sample::sizes::{annex_b_number, header, MOVED, SAMPLE_A};
-use crate::sample::tiles::{inputs, inputs_of_annex_b, random_input, rows_of, Input};
+use crate::sample::tiles::{inputs, inputs_of_annex_b, random_input, rows_of_ranges, Input};
 use crate::sample::zeros::zeros;
 use crate::tally::{hex, Tally};
 use crate::wanted;
@@ -152,7 +152,7 @@ fn past_4_gigabytes(run: &mut Run) {
         (vec![whole; 2], 61),
         (vec![whole; 1000], 61),
     ] {
-        let rows = rows_of(&ranges, 9);
+        let rows = rows_of_ranges(&ranges, 9);
         let before = Lent::preset(&mut run.random, [size]);
         let judge = |tally: &mut Tally, rule: Option<u32>, fields| {
             let header = header(fields);

@@ -8,6 +8,7 @@ use probe::host;
 use super::cases::payloads;
 use super::{original, records_by, rows_by};
 use crate::compare::{self, Comparison};
+use crate::functions::records::MOST;
 use crate::judge::{Case, Leaves, Told};
 use crate::lent::{room, table, Lent};
 use crate::model::header::{have_to_agree, markers, needed, parse_main_header, Header, Reading};
@@ -83,20 +84,17 @@ struct Asked {
 }
 
 fn check_with(run: &mut Run, codestream: &[u8], entries: usize, size: usize) {
-    let table = table(&mut run.random, entries);
-    let before = Lent::preset(&mut run.random, [table, size]);
     let told = Told::by(|| (run.original)(codestream));
     let agreed = told.clone().only_if(have_to_agree(codestream));
     let asked = |numbering, edition| {
         let reading = host::Reading { numbering, edition };
-        let document = parse_main_header(codestream, meant(reading));
         Asked {
             reading,
             told: match numbering {
                 host::RESTARTING => told.clone(),
                 _ => agreed.clone(),
             },
-            document: document.and_then(|header| header.fit(table, size)),
+            document: parse_main_header(codestream, meant(reading)),
         }
     };
     let mut unsaid = |default| unsaid(&mut run.random, default);
@@ -106,39 +104,54 @@ fn check_with(run: &mut Run, codestream: &[u8], entries: usize, size: usize) {
     let newer = asked(either, host::NEWER);
 
     let has_cap = markers(codestream).any(|(_, marker)| marker == CAP);
-    let judge = |tally: &mut Tally, ours, asked: &Asked| {
+    let lent = |random: &mut Random, entries| {
+        let table = table(random, entries);
+        Lent::preset(random, [table, size])
+    };
+    let judge = |tally: &mut Tally, before: &Lent<4, 2>, ours, asked: &Asked| {
         let capped = has_cap && asked.reading.edition == host::NEWER;
-        let numbered_on = match (&again.document, &asked.document) {
+        let table = before.memory[0].len();
+        let fit = |asked: &Asked| {
+            let document = asked.document.clone();
+            document.and_then(|header| header.fit(table, size))
+        };
+        let document = fit(asked);
+        let numbered_on = match (fit(&again), &document) {
             (Ok(again), Ok(header)) => again.entries != header.entries,
             _ => false,
         };
-        let fillers = asked.document.as_ref().map_or(0, |header| header.fillers);
+        let fillers = document.as_ref().map_or(0, |header| header.fillers);
         let case = Case {
             ours,
             before: before.clone(),
             told: asked.told.clone(),
-            document: asked.document.clone(),
+            document,
         };
         case.judge_under(wanted::header(capped, numbered_on, fillers), tally, || {
             let (codestream, reading) = (hex_of_front(codestream), asked.reading);
             format!("{codestream}; table {table}, output {size}, {reading:?}")
         });
     };
+    let before = lent(&mut run.random, entries);
     let of_rows = |asked: &Asked| {
         before.left_by(|lent, values| rows_by(asked.reading, codestream, lent, values))
     };
     let without_a_word = before
         .left_by(|[table, out], values| host::parse_main_header(codestream, table, out, values));
-    let of_records = |asked: &Asked| {
-        before.left_by(|lent, values| records_by(asked.reading, codestream, lent, values))
+    let held = match entries <= MOST {
+        true => before.clone(),
+        false => lent(&mut run.random, MOST),
     };
-    judge(&mut run.tally, of_rows(&again), &again);
-    judge(&mut run.also[0], of_records(&again), &again);
-    judge(&mut run.also[1], without_a_word, &on);
-    judge(&mut run.also[2], of_rows(&on), &on);
-    judge(&mut run.also[3], of_records(&on), &on);
-    judge(&mut run.also[4], of_rows(&newer), &newer);
-    judge(&mut run.also[5], of_records(&newer), &newer);
+    let of_records = |asked: &Asked| {
+        held.left_by(|lent, values| records_by(asked.reading, codestream, lent, values))
+    };
+    judge(&mut run.tally, &before, of_rows(&again), &again);
+    judge(&mut run.also[0], &held, of_records(&again), &again);
+    judge(&mut run.also[1], &before, without_a_word, &on);
+    judge(&mut run.also[2], &before, of_rows(&on), &on);
+    judge(&mut run.also[3], &held, of_records(&on), &on);
+    judge(&mut run.also[4], &before, of_rows(&newer), &newer);
+    judge(&mut run.also[5], &held, of_records(&newer), &newer);
 }
 
 /// 0, or a number that means nothing, and so the same.
@@ -214,7 +227,13 @@ fn every_stlm(run: &mut Run) {
 
 /// Segments of the greatest length, and more segments than a byte numbers.
 fn many_entries(run: &mut Run) {
-    for (segments, entries, stlm) in [(1, 32_765, 0x00), (3, 16_382, 0x40), (700, 3, 0x60)] {
+    for (segments, entries, stlm) in [
+        (1, 32_765, 0x00),
+        (3, 16_382, 0x40),
+        (700, 3, 0x60),
+        (1, MOST, 0x40),
+        (2, MOST / 2, 0x60),
+    ] {
         every_room(run, &tlms::many(segments, entries, stlm));
     }
 }

@@ -36,7 +36,7 @@ pub fn rows_by(
     host::parse_main_header_by_reading(codestream, reading, table, out, values)
 }
 
-/// The same into a table of records.
+/// The same into a table of records, of as many as the archive has at most.
 pub fn records_by(
     reading: host::Reading,
     codestream: &[u8],

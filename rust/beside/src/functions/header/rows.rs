@@ -1,5 +1,5 @@
-//! The benchmark: headers of one and many TLM segments, the entries into rows of bytes or into
-//! records, and of few and many fillers, which the original passes too and does not count. Entries are
+//! The benchmark: headers of one and many TLM segments, and of few and many fillers, which the original
+//! passes too and does not count. Entries are
 //! numbered as the original does, from 0 in each segment, or on over the segments. In the newer edition
 //! ours looks for CAP too, which the original passes over: beside ours stands the original with a walk
 //! behind it that looks for CAP, in plain Rust. The table and the output that ours is lent are not
@@ -7,7 +7,7 @@
 
 use std::cell::RefCell;
 
-use probe::{host, TilePartEntry};
+use probe::host;
 
 use crate::bench::{row, Benchmark, ORIGINAL};
 use crate::model::header::{is_delimiter, parse_main_header, Header, Reading};
@@ -26,7 +26,6 @@ pub const BENCHMARK: Benchmark = Benchmark {
 struct Input {
     codestream: Vec<u8>,
     table: RefCell<Vec<u8>>,
-    records: RefCell<Vec<TilePartEntry>>,
     out: RefCell<Vec<u8>>,
 }
 
@@ -41,7 +40,6 @@ impl Input {
         Input {
             codestream,
             table: vec![0; ROW * entries.len()].into(),
-            records: vec![TilePartEntry::default(); entries.len()].into(),
             out: vec![0; decode_header.len()].into(),
         }
     }
@@ -66,15 +64,6 @@ fn by_reading(input: &Input, reading: host::Reading) -> Option<[u64; 3]> {
     let codestream = &input.codestream;
     let status =
         host::parse_main_header_by_reading(codestream, reading, &mut table, &mut out, &mut values);
-    shared(status, values)
-}
-
-fn recorded(input: &Input) -> Option<[u64; 3]> {
-    let mut values = [0; 4];
-    let (mut records, mut out) = (input.records.borrow_mut(), input.out.borrow_mut());
-    let codestream = &input.codestream;
-    let reading = readings::ORIGINAL;
-    let status = probe::header_records(codestream, reading, &mut records, &mut out, &mut values);
     shared(status, values)
 }
 
@@ -131,9 +120,9 @@ fn rows() {
     measure("no TLM, SOT at 1 MB", padded(1 << 20));
     measure("10 TLM of 100 entries", tlms::many(10, 100, 0x50));
     measure("1,000 TLM of 10 entries", tlms::many(1000, 10, 0x60));
-    both("1 TLM of 10,000 entries", tlms::many(1, 10_000, 0x60));
+    measure("1 TLM of 10,000 entries", tlms::many(1, 10_000, 0x60));
     measure("1 TLM of 32,765 entries", tlms::many(1, 32_765, 0x00));
-    both("100 TLM of 10,000 entries", tlms::many(100, 10_000, 0x60));
+    measure("100 TLM of 10,000 entries", tlms::many(100, 10_000, 0x60));
     measure("no TLM, SOT at 4 MB", padded(1 << 22));
     measure("10 fillers", fillers::many(10));
     measure("1,000 fillers", fillers::many(1_000));
@@ -165,12 +154,6 @@ fn rows() {
             theirs_newer,
         );
     }
-}
-
-fn both(name: &str, codestream: Vec<u8>) {
-    let input = Input::of(codestream);
-    row(name, &input, ours, theirs);
-    row(&format!("{name}, records"), &input, recorded, theirs);
 }
 
 fn padded(first_sot: usize) -> Vec<u8> {

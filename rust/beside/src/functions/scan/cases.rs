@@ -3,7 +3,7 @@
 
 use super::original;
 use crate::cases::{listed, Kind};
-use crate::model::number;
+use crate::model::{entries, number};
 use crate::random::Random;
 use crate::sample::damage::damaged;
 use crate::sample::{headers, parts, prefixes, sample_a, SAMPLE_A_FIRST_SOT};
@@ -32,7 +32,7 @@ pub const RECORDS: Kind = Kind {
 fn answer(payload: &[u8]) -> Option<String> {
     let (start, codestream) = payload.split_at(8);
     Some(match original(codestream, number(start)) {
-        Some(entries) => format!("scan {}{}", entries.len(), listed(&entries)),
+        Some(records) => format!("scan {}{}", records.len(), listed(&entries(&records))),
         None => "scan refused".to_string(),
     })
 }

@@ -5,20 +5,20 @@ use probe::host;
 use super::cases::inputs;
 use super::original;
 use crate::compare::{self, Comparison};
-use crate::functions::records;
+use crate::functions::records::{self, MOST};
 use crate::judge::{Case, Leaves, Told};
 use crate::lent::{room, table, Lent};
 use crate::model::header::{parse_main_header, Reading};
 use crate::model::parts::{needed, scan_sot_markers};
-use crate::model::{rows, Entry, Refusal, ACCEPTED};
+use crate::model::{rows_of, Record, Refusal, ACCEPTED};
 use crate::sample::codestream::EOC;
 use crate::sample::short::each_behind;
 use crate::sample::zeros::zeros;
 use crate::sample::{headers, parts};
-use crate::tally::hex_of_front;
+use crate::tally::{hex_of_front, Tally};
 use crate::wanted;
 
-type Original = fn(&[u8], u64) -> Option<Vec<Entry>>;
+type Original = fn(&[u8], u64) -> Option<Vec<Record>>;
 type Run = compare::Run<Original>;
 
 pub const COMPARISON: Comparison<Original> = Comparison {
@@ -43,9 +43,9 @@ fn every_input(run: &mut Run) {
     });
 }
 
-impl Leaves<1, 1> for Vec<Entry> {
+impl Leaves<1, 1> for Vec<Record> {
     fn leave(&self, before: Lent<1, 1>) -> Lent<1, 1> {
-        before.accepted([self.len() as u64], [&rows(self)])
+        before.accepted([self.len() as u64], [&rows_of(self)])
     }
 }
 
@@ -63,28 +63,36 @@ fn every_room(run: &mut Run, codestream: &[u8], start: u64) {
 }
 
 fn check_with(run: &mut Run, codestream: &[u8], start: u64, entries: usize) {
-    let table = table(&mut run.random, entries);
-    let before = Lent::preset(&mut run.random, [table]);
-    let of_records = before.left_by(|[table], [value]| {
-        records::instead_of(table, |table| {
-            probe::scan_records(codestream, start, table, value)
-        })
-    });
-    let fit = |entries: Vec<Entry>| {
-        Refusal::unless_it_lists(table, entries.len())?;
-        Ok(entries)
+    let told = Told::by(|| (run.original)(codestream, start));
+    let document = scan_sot_markers(codestream, start);
+    let mut judge = |tally: &mut Tally, entries: usize, scan: Scan| {
+        let table = table(&mut run.random, entries);
+        let before = Lent::preset(&mut run.random, [table]);
+        let fit = |records: Vec<Record>| {
+            Refusal::unless_it_lists(table, records.len())?;
+            Ok(records)
+        };
+        let case = Case {
+            ours: before.left_by(|[table], [value]| scan(codestream, start, table, value)),
+            before,
+            told: told.clone(),
+            document: document.clone().and_then(fit),
+        };
+        case.judge_under(ACCEPTED, tally, || {
+            let codestream = hex_of_front(codestream);
+            format!("{codestream} from {start}; table {table}")
+        });
     };
-    let case = Case {
-        ours: before
-            .left_by(|[table], [value]| host::scan_sot_markers(codestream, start, table, value)),
-        before,
-        told: Told::by(|| (run.original)(codestream, start)),
-        document: scan_sot_markers(codestream, start).and_then(fit),
-    };
-    case.judge_both(ACCEPTED, of_records, run, || {
-        let codestream = hex_of_front(codestream);
-        format!("{codestream} from {start}; table {table}")
-    });
+    judge(&mut run.tally, entries, host::scan_sot_markers);
+    judge(&mut run.also[0], entries.min(MOST), records_scanned);
+}
+
+type Scan = fn(&[u8], u64, &mut [u8], &mut u64) -> u32;
+
+fn records_scanned(codestream: &[u8], start: u64, table: &mut [u8], value: &mut u64) -> u32 {
+    records::instead_of(table, |table| {
+        probe::scan_records(codestream, start, table, value)
+    })
 }
 
 /// Parts whose offsets, ends and lengths need more than 32 bits, in 5 GB of zeros.
@@ -131,7 +139,15 @@ fn short_strings(run: &mut Run) {
 }
 
 fn many(run: &mut Run) {
-    for (count, size) in [(65_535, 12), (65_537, 13), (300, 500)] {
+    let most = MOST;
+    for (count, size) in [
+        (65_535, 12),
+        (65_537, 13),
+        (300, 500),
+        (most - 1, 12),
+        (most, 12),
+        (most + 1, 12),
+    ] {
         every_room(run, &parts::many(count, size), 0);
     }
 }

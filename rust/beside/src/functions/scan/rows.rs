@@ -1,11 +1,10 @@
-//! The benchmark: few and many tile-parts, side by side and spread over a gigabyte, into rows of bytes
-//! and into records. A table that is lent is not cleared between calls; the original allocates its own
+//! The benchmark: few and many tile-parts, side by side and spread over a gigabyte. A table that is lent is not cleared between calls; the original allocates its own
 //! and lets it grow, so ours is timed with a table allocated for each call too.
 
 use std::cell::RefCell;
 
 use original::markers;
-use probe::{host, TilePartEntry};
+use probe::host;
 
 use crate::bench::{row, Benchmark, ORIGINAL};
 use crate::model::ROW;
@@ -23,7 +22,6 @@ struct Input {
     codestream: Vec<u8>,
     parts: usize,
     table: RefCell<Vec<u8>>,
-    records: RefCell<Vec<TilePartEntry>>,
 }
 
 impl Input {
@@ -32,28 +30,16 @@ impl Input {
         let status = host::scan_sot_markers(&self.codestream, 0, table, &mut entries);
         (status == 0).then_some(entries)
     }
-
-    fn recorded(&self, table: &mut [TilePartEntry]) -> Option<u64> {
-        let mut entries = 0;
-        let status = probe::scan_records(&self.codestream, 0, table, &mut entries);
-        (status == 0).then_some(entries)
-    }
 }
 
 type Way = fn(&Input) -> Option<u64>;
 
-const WAYS: [(&str, Way); 4] = [
+const WAYS: [(&str, Way); 2] = [
     ("table lent", |input| {
         input.scanned(&mut input.table.borrow_mut())
     }),
     ("table allocated", |input| {
         input.scanned(&mut vec![0; ROW * input.parts])
-    }),
-    ("records lent", |input| {
-        input.recorded(&mut input.records.borrow_mut())
-    }),
-    ("records allocated", |input| {
-        input.recorded(&mut vec![TilePartEntry::default(); input.parts])
     }),
 ];
 
@@ -78,7 +64,6 @@ fn measure(parts: usize, how: &str, codestream: Vec<u8>) {
         codestream,
         parts,
         table: vec![0; ROW * parts].into(),
-        records: vec![TilePartEntry::default(); parts].into(),
     };
     for (table, ours) in WAYS {
         row(

@@ -1,2 +1,0 @@
-pub mod main_header
-pub mod winterhasp_scan_records

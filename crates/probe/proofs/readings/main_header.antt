@@ -1,1 +1,0 @@
-pub mod winterhasp_header_records

@@ -1,0 +1,1 @@
+pub mod tile_in_order
