@@ -136,7 +136,7 @@ many-not tile es bytes many =
 -- so it is of the records of every scan, and of every table of rows: each element of a slice is a byte
 visited-bytes : (s : List ℕ) → ((i : ℕ) → getD s i 0 < 256) → (visits : List Visit) → All (λ e. TPsotByte (e .numbers)) (map (recorded s) visits)
 visited-bytes s bytes [] = all.none
-visited-bytes s bytes (v ∷ visits) = all.more (bytes (v .at + 10)) (visited-bytes s bytes visits)
+visited-bytes s bytes (v ∷ visits) = all.more (bytes _) (visited-bytes s bytes visits)
 
 pub scan-many-not : (s : List ℕ) → ((i : ℕ) → getD s i 0 < 256) → (at tile : ℕ) → 256 < length (numbersOf tile (entriesFrom s at)) → inOrder tile (entriesFrom s at) ≡ false
 unfolding entriesFrom

@@ -3,7 +3,7 @@ use Prim.Native.Nat.{ℕ}
 use native.Mathlib.Omega.{arith}
 use mathlib.Core.Path.{_≡_, refl, sym, ap, _∙_}
 use mathlib.Core.List.{List, [], _++_}
-use lib.ListN.{length, take, drop, length-append, length-drop, length-replicate, drop-of-length-le}
+use lib.ListN.{length, take, drop, length-replicate, drop-of-length-le}
 use lib.Seq.{take-all}
 use Rattle.numbers.specs.Bytes.{put}
 use Rattle.numbers.proofs.BytesLaws.{length-put, put-start}
@@ -64,11 +64,13 @@ records-put n s h r table = rw (r .first) (put-start table (tableBy n s) ∙ ap 
 -- a table keeps its length
 after-by : (how : Reading) (s : List ℕ) (table : List TilePartEntry) (room : ℕ) (a : MainHeader) → parsed how s (length table) room ≡ a
     → length (recordsAfter (how .numbering) a s table) ≡ length table
-unfolding recordsAfter tableBy
+unfolding recordsAfter
 after-by how s table room (main.Header h) e =
     let d = parsed-decided how s (length table) room h e in
-    let many = length-table s h (d .read) (how .numbering) in
-    simp (length-append, length-drop, length-placed) (omega (arith, d .many, length-placed (walkFrom s 2 .stopped) (entriesBy (how .numbering) s 0 (walkFrom s 2 .visits))))
+    let entries = entriesBy (how .numbering) s 0 (walkFrom s 2 .visits) in
+    let from = h .«first_sot_offset» .0 in
+    ap length (sym (records-put (how .numbering) s h (d .read) table))
+    ∙ length-put table 0 (placed from entries) (omega (arith, d .many, length-placed from entries))
 after-by how s table room (main.Refused r) e = refl
 
 pub length-after : (how : Reading) (s : List ℕ) (table : List TilePartEntry) (room : ℕ)

@@ -11,7 +11,7 @@ ghost use Rattle.types.specs.Offsets.{inFile, inCodestream};
 ghost use Rattle.types.specs.Row.{rowBytes, numbersAt, numberBytes, entryAt, rowOf};
 
 // A refusal (docs/RULES.md, "Refusals"): its number, and its place, an offset whose start depends on the number; for 17 and
-// rowBytes it is what is needed.
+// 18 it is what is needed.
 pub struct Refusal {
     pub number: u32,
     pub place: u64,
@@ -101,8 +101,8 @@ pub enum PartNumbers {
     NotKnown,
 }
 
-// One tile-part: its tile (Isot), its numbers, where it starts in the codestream, and its length from the SOT marker on. With the
-// numbers second a record has 24 bytes, and with them last 32.
+// One tile-part: its tile (Isot), its numbers, where it starts in the codestream, and its length from the SOT marker on. The
+// numbers stand second, where they make a record no longer: 24 bytes.
 pub struct TilePartEntry {
     pub tile_index: u16,
     pub numbers: PartNumbers,
