@@ -1,7 +1,7 @@
 -- Laws of big-endian bytes, each over the width: what a number's bytes are in two halves, what is read of what was written, what is read
 -- inside a part, and bounds. Callers cite these and do not look into the definitions.
 use Prim.Native.Nat.{ℕ, zero, suc, _+_, _-_, _*_, _/_, _%_, _^_, _≤_, _<_}
-use native.Mathlib.Nat.{add-zero, zero-add, add-suc, add-assoc, mul-assoc, add-mul, div-one, mod-one, div-div-eq-div-mul, pow-suc, pow-succ', one-le-pow, mod-lt, mod-eq-of-lt, div-add-mod', div-lt-iff-lt-mul, one-mul, suc-mul, mul-le-mul, le-refl, le-of-suc-le-suc}
+use native.Mathlib.Nat.{add-zero, zero-add, add-suc, add-assoc, mul-assoc, add-mul, div-one, mod-one, div-div-eq-div-mul, pow-suc, pow-succ', one-le-pow, mul-pos, mod-lt, mod-eq-of-lt, div-add-mod', div-lt-iff-lt-mul, one-mul, suc-mul, mul-le-mul, le-refl, le-of-suc-le-suc}
 use native.Mathlib.Numerals.{add-one}
 use native.Mathlib.Omega.{arith}
 use mathlib.Core.Path.{_≡_, refl, sym, ap, ap₂, _∙_}
@@ -10,7 +10,7 @@ use lib.ListN.{take-append-drop, length, getD, set, take, drop, length-append, l
 use lib.Seq.{take-length, take-all, length-take-le, getD-append-add, getD-append-seam, getD-take, getD-drop, set-split, sets, sets-eq, take-at, drop-at, drop-drop, take-append-le, drop-append-le, take-append-add, drop-append-add, take-suc, take-add}
 use lib.Arith.{mod-mul, digits-div, digits-mod, digits-lt}
 use lib.Dec.{lit<}
-use Rattle.numbers.specs.Bytes.{be, bytesOf, put}
+use Rattle.numbers.specs.Bytes.{be, bytesOf, span, turned, put}
 use Rattle.numbers.specs.Ceiling.{ceilDiv}
 
 256^-pos : (k : ℕ) → 0 < 256 ^ k
@@ -95,6 +95,42 @@ pub put-halves : (k v : ℕ) (s : List ℕ) (at : ℕ) → at + (k + k) ≤ leng
 put-halves k v s at h =
     let high : List ℕ = bytesOf k (v / 256 ^ k) in
     rw (bytes-mod, bytes-join) (put-put s at high (bytesOf k v) k (length-bytes k (v / 256 ^ k)) (omega (arith, length-bytes k v)))
+
+-- ---- a number with its bytes the other way round
+
+span-pos : (k : ℕ) → 0 < span k
+unfolding span
+span-pos zero = lit< tt
+span-pos (suc k) = mul-pos (span-pos k) (span-pos k)
+
+high-lt : (k v : ℕ) → v < span (suc k) → v / span k < span k
+unfolding span
+high-lt k v h = div-lt-iff-lt-mul (span-pos k) .1 h
+
+turned-lt : (k v : ℕ) → v < span k → turned k v < span k
+unfolding turned
+turned-lt zero v h = h
+turned-lt (suc k) v h = digits-lt (turned-lt k (v % span k) (mod-lt v (span-pos k))) (turned-lt k (v / span k) (high-lt k v h))
+
+-- turned twice it is itself
+pub turned-twice : (k v : ℕ) → v < span k → turned k (turned k v) ≡ v
+unfolding turned
+turned-twice zero v h = refl
+turned-twice (suc k) v h =
+    let b = span k in
+    let low = turned k (v / b) in
+    let high = turned k (v % b) in
+    let fits : low < b = turned-lt k (v / b) (high-lt k v h) in
+    rw (digits-mod high fits, digits-div high fits, turned-twice k (v / b) (high-lt k v h), turned-twice k (v % b) (mod-lt v (span-pos k)))
+    (div-add-mod' v b)
+
+-- written in two halves of n bytes, the low one first
+pub turned-halves : (k n v : ℕ) (s : List ℕ) (at : ℕ) → span k ≡ 256 ^ n → v < span (suc k) → at + (n + n) ≤ length s
+    → put (put s at (bytesOf n (turned k (v % span k)))) (at + n) (bytesOf n (turned k (v / span k))) ≡ put s at (bytesOf (n + n) (turned (suc k) v))
+unfolding turned
+turned-halves k n v s at e h room =
+    let fits : turned k (v / span k) < span k = turned-lt k (v / span k) (high-lt k v h) in
+    rw (← e, digits-div (turned k (v % span k)) fits, digits-mod (turned k (v % span k)) fits) at (put-halves n (turned (suc k) v) s at room)
 
 -- what stands before it stays
 pub take-put : {A : Type 0} (s : List A) (at : ℕ) (bs : List A) → at ≤ length s → take at (put s at bs) ≡ take at s

@@ -13,6 +13,17 @@ unfoldable pub bytesOf : ℕ → ℕ → List ℕ
 bytesOf zero v = []
 bytesOf (suc k) v = bytesOf k (v / 256) ++ (v % 256 ∷ [])
 
+-- how many numbers 2^k bytes hold
+unfoldable pub span : ℕ → ℕ
+span zero = 256
+span (suc k) = span k * span k
+
+-- the number whose 2^k bytes are those of v the other way round: its halves, each turned, have changed places
+unfoldable pub turned : ℕ → ℕ → ℕ
+unfolding span
+turned zero v = v
+turned (suc k) v = turned k (v % span k) * span k + turned k (v / span k)
+
 -- s with what stands from at on replaced by bs
 unfoldable pub put : {A : Type 0} → List A → ℕ → List A → List A
 put s at bs = take at s ++ (bs ++ drop (at + length bs) s)

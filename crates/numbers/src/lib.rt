@@ -3,7 +3,7 @@
 ghost use mathlib.Core.Path.{_≡_};
 ghost use Prim.Native.Nat.{_+_, _-_, _≤_, _<_, min, max};
 ghost use lib.ListN.{length};
-ghost use Rattle.numbers.specs.Bytes.{be, bytesOf, put};
+ghost use Rattle.numbers.specs.Bytes.{be, bytesOf, turned, put};
 ghost use Rattle.numbers.specs.Ceiling.{ceilDiv};
 
 pub fn read_u16(s: &[u8], at: usize) -> u16
@@ -35,20 +35,65 @@ pub fn write_u16(out: &mut [u8], at: usize, value: u16)
     out[at + 1] = (value % 256) as u8;
 }
 
+// Turned, and then from its low end on: so the compiler makes one store of it also where another number's stands beside it.
 pub fn write_u32(out: &mut [u8], at: usize, value: u32)
     requires { ⌜ at + 4 ≤ length (now out) ⌝ }
     ensures { λ _. ⌜ now (out .exit) ≡ put (now (out .entry)) at (bytesOf 4 value) ⌝ }
 {
-    write_u16(out, at, (value / 0x1_0000) as u16);
-    write_u16(out, at + 2, (value % 0x1_0000) as u16);
+    write_low_u32(out, at, turned_u32(value));
 }
 
 pub fn write_u64(out: &mut [u8], at: usize, value: u64)
     requires { ⌜ at + 8 ≤ length (now out) ⌝ }
     ensures { λ _. ⌜ now (out .exit) ≡ put (now (out .entry)) at (bytesOf 8 value) ⌝ }
 {
-    write_u32(out, at, (value / 0x1_0000_0000) as u32);
-    write_u32(out, at + 4, (value % 0x1_0000_0000) as u32);
+    write_low_u64(out, at, turned_u64(value));
+}
+
+// A number with its bytes the other way round.
+fn turned_u16(value: u16) -> u16
+    ensures { λ r. ⌜ r ≡ turned 1 value ⌝ }
+{
+    value % 256 * 256 + value / 256
+}
+
+fn turned_u32(value: u32) -> u32
+    ensures { λ r. ⌜ r ≡ turned 2 value ⌝ }
+{
+    (turned_u16((value % 0x1_0000) as u16) as u32) * 0x1_0000
+        + (turned_u16((value / 0x1_0000) as u16) as u32)
+}
+
+fn turned_u64(value: u64) -> u64
+    ensures { λ r. ⌜ r ≡ turned 3 value ⌝ }
+{
+    (turned_u32((value % 0x1_0000_0000) as u32) as u64) * 0x1_0000_0000
+        + (turned_u32((value / 0x1_0000_0000) as u32) as u64)
+}
+
+// The least significant byte first, which are the turned number's bytes.
+fn write_low_u16(out: &mut [u8], at: usize, value: u16)
+    requires { ⌜ at + 2 ≤ length (now out) ⌝ }
+    ensures { λ _. ⌜ now (out .exit) ≡ put (now (out .entry)) at (bytesOf 2 (turned 1 value)) ⌝ }
+{
+    out[at] = (value % 256) as u8;
+    out[at + 1] = (value / 256) as u8;
+}
+
+fn write_low_u32(out: &mut [u8], at: usize, value: u32)
+    requires { ⌜ at + 4 ≤ length (now out) ⌝ }
+    ensures { λ _. ⌜ now (out .exit) ≡ put (now (out .entry)) at (bytesOf 4 (turned 2 value)) ⌝ }
+{
+    write_low_u16(out, at, (value % 0x1_0000) as u16);
+    write_low_u16(out, at + 2, (value / 0x1_0000) as u16);
+}
+
+fn write_low_u64(out: &mut [u8], at: usize, value: u64)
+    requires { ⌜ at + 8 ≤ length (now out) ⌝ }
+    ensures { λ _. ⌜ now (out .exit) ≡ put (now (out .entry)) at (bytesOf 8 (turned 3 value)) ⌝ }
+{
+    write_low_u32(out, at, (value % 0x1_0000_0000) as u32);
+    write_low_u32(out, at + 4, (value / 0x1_0000_0000) as u32);
 }
 
 // Copies bytes into lent memory, from `at` on, and gives where they end.

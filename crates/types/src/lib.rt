@@ -129,12 +129,13 @@ fn read_numbers(table: &[u8], at: usize) -> PartNumbers
     ensures { λ r. ⌜ r ≡ numbersAt (now (table .entry)) at ⌝ }
 {
     let told = table[at];
-    if told != 1 {
-        return PartNumbers::NotKnown;
-    }
     let tpsot = table[at + 1];
     let tnsot = table[at + 2];
-    PartNumbers::Known { tpsot, tnsot }
+    if told == 1 {
+        PartNumbers::Known { tpsot, tnsot }
+    } else {
+        PartNumbers::NotKnown
+    }
 }
 
 fn write_numbers(table: &mut [u8], at: usize, numbers: PartNumbers)

@@ -1,40 +1,26 @@
--- Two halves that were written, joined by the law over the width.
+-- A number that is turned twice is itself.
+use native.Mathlib.Omega.{arith}
 use borrow.Author.Needs.{needs}
-use Rattle.numbers.proofs.BytesLaws.{put-halves}
+use Rattle.numbers.specs.Bytes.{span}
+use Rattle.numbers.proofs.BytesLaws.{turned-twice}
 use Rattle.numbers.proofs.write_u64.Statement.{statement}
 use Rattle.numbers.proofs.write_u64.Tie as tie
 
-cast-write-u32 : tie.Need-cast-write-u32
-cast-write-u32 c = search needs
+turned-u64-requires : tie.Need-turned-u64-requires
+turned-u64-requires c κs = search needs
 
-write-u32-requires : tie.Need-write-u32-requires
-write-u32-requires c κs = search needs
-
-add-write-u32 : tie.Need-add-write-u32
-add-write-u32 c = search needs
-
-cast-write-u32-2 : tie.Need-cast-write-u32-2
-cast-write-u32-2 c = search needs
-
-write-u32-requires-2 : tie.Need-write-u32-requires-2
-write-u32-requires-2 c κs = search needs
+write-low-u64-requires : tie.Need-write-low-u64-requires
+write-low-u64-requires c κs = search needs
 
 same-length : tie.Need-same-length
 same-length c = search needs
 
 returns : tie.Need-returns
+unfolding span
 returns c =
-    let a = c .before .before .before .before .before .before .before .before .before .args in
-    cc (put-halves 4 (a .value) (a .out .now) (a .at) (search needs))
+    let a = c .before .before .before .before .before .before .args in
+    cc (turned-twice 3 (a .value) (omega arith))
 
 pub write-u64-spec : {M : Type 1} → statement M
 write-u64-spec =
-    tie.close
-    (tie.spec
-    cast-write-u32
-    write-u32-requires
-    add-write-u32
-    cast-write-u32-2
-    write-u32-requires-2
-    same-length
-    returns)
+    tie.close (tie.spec turned-u64-requires write-low-u64-requires same-length returns)
