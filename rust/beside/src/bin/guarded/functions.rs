@@ -159,11 +159,11 @@ fn header_by_reading(calls: &mut Calls) {
 fn header_records(calls: &mut Calls) {
     let reading = any_reading(&mut calls.random);
     let (codestream, entries, size) = header_input(&mut calls.random, reading);
-    let answer = header_answer(&codestream, reading);
     let table = table(&mut calls.random, entries);
+    let answer = header_answer(&codestream, reading);
     calls.call(
         [codestream],
-        [table, size],
+        [table.min(ROOM), size],
         answer,
         |[codestream], [table, out], values| {
             probe::header_records(codestream, reading, table, out, values)
