@@ -1,5 +1,5 @@
--- The pass over a table's records opened once: a law for each case of its step, and that what it answers at the end is what the numbers of the tile's
--- entries say.
+-- The pass over a table's records opened once: a law for each case of its step and of its end, and that what it answers there is what the numbers of the
+-- tile's entries say.
 use Prim.Native.Nat.{ℕ, suc, _+_}
 use native.Mathlib.Nat.{add-zero, zero-add}
 use native.Mathlib.Omega.{arith}
@@ -52,6 +52,22 @@ module _ (e : TilePartEntry) (tile passed given : ℕ) where
           pub step-another : (given ≡ 0 → ⊥) → (m ≡ given → ⊥) → orderStep e tile passed given ≡ Broken
           unfolding orderStep nextNumbers
           step-another n z = rw (eq-eqb _ _ same, known, eq-eqb _ _ due, ne-eqb _ _ some, ne-eqb _ _ n, ne-eqb _ _ z)
+
+-- ---- the end, case by case
+
+module _ (passed given : ℕ) where
+  pub end-none : passed ≡ 0 → orderEnd passed given ≡ false
+  unfolding orderEnd
+  end-none z = rw (eq-eqb _ _ z)
+
+  module _ (some : passed ≡ 0 → ⊥) where
+    pub end-silent : given ≡ 0 → orderEnd passed given ≡ eqb given 0
+    unfolding orderEnd
+    end-silent z = rw (ne-eqb _ _ some, eq-eqb _ _ z)
+
+    pub end-given : (given ≡ 0 → ⊥) → orderEnd passed given ≡ eqb given passed
+    unfolding orderEnd
+    end-given n = rw (ne-eqb _ _ some, ne-eqb _ _ n)
 
 -- ---- the pass
 

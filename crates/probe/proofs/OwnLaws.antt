@@ -43,9 +43,9 @@ loaded-row {e} {next} table s i fits read new =
     ∙ put-put table 0 some (e ∷ []) i many (omega arith)
     ∙ ap (put table 0) (sym last)
 
-pub stored-row : {next : List ℕ} (lent : List ℕ) (table : List TilePartEntry) (d : TilePartEntry) (i : ℕ) → i < length table → rowBytes * (i + 1) ≤ length lent
-    → next ≡ put (put lent 0 (rowsOf (take i table))) (rowBytes * i) (rowOf (getD table i d)) → next ≡ put lent 0 (rowsOf (take (i + 1) table))
-stored-row {next} lent table d i h fits new =
+pub stored-row : {now next : List ℕ} {at : ℕ} (lent : List ℕ) (table : List TilePartEntry) (d : TilePartEntry) (i : ℕ) → i < length table → rowBytes * (i + 1) ≤ length lent
+    → now ≡ put lent 0 (rowsOf (take i table)) → at ≡ rowBytes * i → next ≡ put now at (rowOf (getD table i d)) → next ≡ put lent 0 (rowsOf (take (i + 1) table))
+stored-row {now} {next} {at} lent table d i h fits so-far here new =
     let e : TilePartEntry = getD table i d in
     let some : List ℕ = rowsOf (take i table) in
     let many : length (take i table) ≡ i = length-take-le i table (omega arith) in
@@ -54,7 +54,7 @@ stored-row {next} lent table d i h fits new =
     let last : rowsOf (take (i + 1) table) ≡ some ++ rowOf e =
     ap (λ (n : ℕ). rowsOf (take n table)) (add-one i) ∙ ap rowsOf (take-suc table i d h) ∙ all-append rows (take i table) (e ∷ []) ∙ ap (λ (l : List ℕ). some ++ l) one in
     new
-    ∙ ap (λ (k : ℕ). put (put lent 0 some) k (rowOf e)) (sym (zero-add (rowBytes * i)))
+    ∙ ap₂ (λ (l : List ℕ) (k : ℕ). put l k (rowOf e)) so-far (here ∙ sym (zero-add (rowBytes * i)))
     ∙ put-put lent 0 some (rowOf e) (rowBytes * i) long (omega (arith, length-row e))
     ∙ ap (put lent 0) (sym last)
 

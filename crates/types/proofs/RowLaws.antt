@@ -68,19 +68,24 @@ length-rows [] = refl
 length-rows (e ∷ rest) = rw (length-append, length-row, length-rows rest) (omega arith)
 
 -- the four fields written one after the other are the row
-pub put-row : (e : TilePartEntry) (s : List ℕ) (at : ℕ) → at + rowBytes ≤ length s
-    → put (put (put (put s at (bytesOf 2 (e .«tile_index»))) (at + 2) (bytesOf 8 (e .offset .0))) (at + 10) (bytesOf 8 (e .length))) (at + 18) (numberBytes (e .numbers)) ≡ put s at (rowOf e)
+pub put-row : {s₁ s₂ s₃ s₄ : List ℕ} (e : TilePartEntry) (s : List ℕ) (at : ℕ) → at + rowBytes ≤ length s
+    → s₁ ≡ put s at (bytesOf 2 (e .«tile_index»))
+    → s₂ ≡ put s₁ (at + 2) (bytesOf 8 (e .offset .0))
+    → s₃ ≡ put s₂ (at + 10) (bytesOf 8 (e .length))
+    → s₄ ≡ put s₃ (at + 18) (numberBytes (e .numbers))
+    → s₄ ≡ put s at (rowOf e)
 unfolding rowOf
-put-row e s at h =
+put-row e s at h first second third fourth =
     let index : List ℕ = bytesOf 2 (e .«tile_index») in
     let offset : List ℕ = bytesOf 8 (e .offset .0) in
     let long : List ℕ = bytesOf 8 (e .length) in
     let ten : length (index ++ offset) ≡ 10 = simp (length-append, length-bytes) in
     let eighteen : length ((index ++ offset) ++ long) ≡ 18 = simp (length-append, length-bytes) in
-    rw (put-put s at index offset 2 (length-bytes 2 _) (omega (arith, length-bytes 8 (e .offset .0))))
+    rw (fourth, third, second, first)
+    (rw (put-put s at index offset 2 (length-bytes 2 _) (omega (arith, length-bytes 8 (e .offset .0))))
     (rw (put-put s at (index ++ offset) long 10 ten (omega (arith, length-bytes 8 (e .length))))
     (rw (put-put s at ((index ++ offset) ++ long) (numberBytes (e .numbers)) 18 eighteen (omega (arith, length-numbers (e .numbers))))
-    (simp append-assoc)))
+    (simp append-assoc))))
 
 -- the fields of a row
 be-row : (e : TilePartEntry) → Fits e → entryAt (rowOf e) 0 ≡ e

@@ -30,8 +30,12 @@ same-length c = search needs
 
 returns : tie.Need-returns
 returns c =
-    let a = c .before .before .before .before .before .before .before .before .before .before .before .before .before .before .before .before .before .before .args in
-    cc (put-row (a .entry) (a .table .now) (a .at) (search needs))
+    let fourth = c .before .before in
+    let third = fourth .before .before .before .before in
+    let second = third .before .before .before .before in
+    let first = second .before .before .before .before in
+    let a = first .before .before .before .before .args in
+    put-row (a .entry) (a .table .now) (a .at) (search needs) (first .write-u16 .ensures) (second .write-u64 .ensures) (third .write-u642 .ensures) (fourth .write-numbers .ensures)
 
 pub write-row-spec : {M : Type 1} → statement M
 write-row-spec =

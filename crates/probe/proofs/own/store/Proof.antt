@@ -53,7 +53,7 @@ loop-again c =
       omega arith,
       omega arith,
       omega arith,
-      stored-row (a .rows .now) (a .t1) _ (l .loop .i) (omega arith) (omega arith) (rw (l .loop .inv .3, l .loop .inv .1) at (w .write-row .ensures)),
+      stored-row (a .rows .now) (a .t1) _ (l .loop .i) (omega arith) (omega arith) (l .loop .inv .3) (l .loop .inv .1) (w .write-row .ensures),
     )
 
 same-length : tie.Need-same-length Inv-loop μ-loop
