@@ -9,7 +9,8 @@ ghost use Rattle.records.specs.MainHeader.{recordsAfter};
 ghost use Rattle.probe.specs.Own.{held, own};
 use header::reading::ReadingNumbers;
 
-// With as many records as `table` has rows, 2,048 at most. `first_sot`: the first SOT's offset, or a refusal's place; `decode_length`: the decode header's length; `entries`: the records; `fillers`: the delimiters whose high byte is not FF.
+// With as many records as `table` has rows, 2,048 at most. `first_sot`: the first SOT's offset, or a refusal's place;
+// `decode_length`: the decode header's length; `entries`: the records; `fillers`: the delimiters whose high byte is not FF.
 #[no_mangle]
 pub extern "C" fn winterhasp_header_records(
     codestream: &[u8],

@@ -14,8 +14,7 @@ use types::TilePartEntry;
 pub fn count(table: &[u8]) -> usize
     ensures { λ r. ⌜ r ≡ held (now (table .entry)) ⌝ }
 {
-    let rows = table.len() / ROW;
-    if rows < 2048 { rows } else { 2048 }
+    numbers::minimum((table.len() / ROW) as u64, 2048) as usize
 }
 
 // The records of so many rows, and blank ones behind them.

@@ -56,7 +56,7 @@ fn header_with(answer: MainHeader, table: [TilePartEntry; 2048]) -> HeaderTable
 fn at_most(rows: usize) -> usize
     ensures { λ r. ⌜ r ≡ min rows 2048 ⌝ }
 {
-    if rows < 2048 { rows } else { 2048 }
+    numbers::minimum(rows as u64, 2048) as usize
 }
 
 // The scan into the first `rows` records of a table.

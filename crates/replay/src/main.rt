@@ -1,8 +1,10 @@
 // Answers the stored list of cases in `cases`, a line for each; what it must write is what the original answered, and for
-// component sizes, tiles by Annex B or kept in place, markers, the number of fillers and the order of tile-parts, which that does not tell, the model
-// (rust/beside, program `cases`). A case is its kind, a byte; the length of its payload, 4 bytes; the payload.
+// component sizes, tiles by Annex B or kept in place, markers, the number of fillers and the order of tile-parts, which that
+// does not tell, the model (rust/beside, program `cases`). A case is its kind, a byte; the length of its payload, 4 bytes; the
+// payload.
 mod answers;
 mod print;
+mod tables;
 
 use header::edition::Edition;
 use header::numbering::Numbering;
@@ -48,28 +50,28 @@ fn answer_next(file: i32) -> bool {
 fn answer(kind: u8, payload: &[u8]) {
     match kind {
         1 => answers::extent(payload),
-        2 => answers::header(payload, older(Numbering::Restarting)),
-        3 => answers::scan(payload),
+        2 => tables::header(payload, older(Numbering::Restarting)),
+        3 => tables::scan(payload),
         4 => answers::split(payload),
         5 => answers::rewrite(payload, Rule::Original),
         6 => answers::assembly(payload, Rule::Original),
         7 => answers::search(payload),
         8 => answers::siz(payload),
         9 => answers::growth(payload),
-        10 => answers::header_records(payload, older(Numbering::Restarting)),
-        11 => answers::scan_records(payload),
+        10 => tables::header_records(payload, older(Numbering::Restarting)),
+        11 => tables::scan_records(payload),
         12 => answers::component_sizes(payload),
         13 => answers::rewrite(payload, Rule::AnnexB),
         14 => answers::assembly(payload, Rule::AnnexB),
         15 => answers::rewrite(payload, Rule::InPlace),
         16 => answers::assembly(payload, Rule::InPlace),
         17 => answers::marker(payload),
-        18 => answers::header(payload, older(Numbering::CarriedOn)),
-        19 => answers::header_records(payload, older(Numbering::CarriedOn)),
-        20 => answers::header(payload, newer()),
-        21 => answers::header_records(payload, newer()),
-        22 => answers::order(payload),
-        23 => answers::order_records(payload),
+        18 => tables::header(payload, older(Numbering::CarriedOn)),
+        19 => tables::header_records(payload, older(Numbering::CarriedOn)),
+        20 => tables::header(payload, newer()),
+        21 => tables::header_records(payload, newer()),
+        22 => tables::order(payload),
+        23 => tables::order_records(payload),
         _ => print::text(b"unknown kind"),
     }
     print::text(b"\n");

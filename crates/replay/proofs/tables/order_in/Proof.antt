@@ -2,8 +2,8 @@
 use native.Mathlib.Omega.{arith}
 use lib.ListN.{length-take}
 use borrow.Author.Needs.{needs}
-use Rattle.replay.proofs.answers.order_in.Statement.{statement}
-use Rattle.replay.proofs.answers.order_in.Tie as tie
+use Rattle.replay.proofs.tables.order_in.Statement.{statement}
+use Rattle.replay.proofs.tables.order_in.Tie as tie
 
 minimum-requires : tie.Need-minimum-requires
 minimum-requires c κs = search needs
