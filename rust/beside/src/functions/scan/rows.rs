@@ -1,5 +1,6 @@
-//! The benchmark: few and many tile-parts, side by side and spread over a gigabyte. A table that is lent is not cleared between calls; the original allocates its own
-//! and lets it grow, so ours is timed with a table allocated for each call too.
+//! The benchmark: few and many tile-parts, side by side and spread over a gigabyte. A table that is lent
+//! is not cleared between calls; the original allocates its own and lets it grow, so ours is timed with a
+//! table allocated for each call too.
 
 use std::cell::RefCell;
 
