@@ -11,15 +11,11 @@ use Rattle.numbers.specs.Bytes.{put}
 use Rattle.numbers.proofs.BytesLaws.{put-put, put-one, put-start, length-put}
 use Rattle.types.specs.Row.{rowBytes, entryAt, rowOf, rowsOf, recordsAt}
 use Rattle.types.proofs.RowLaws.{length-row, length-rows}
+use Rattle.types.proofs.RowReading.{length-at}
 use Rattle.types.proofs.RowStanding.{rows, all-append, rows-more, rows-none}
 use Rattle.types.specs.declared.TilePartEntry.{TilePartEntry}
 use Rattle.records.specs.Tables.{blank}
 use Rattle.probe.specs.Own.{held, own}
-
-pub length-records : (n : ℕ) (s : List ℕ) (at : ℕ) → length (recordsAt n s at) ≡ n
-unfolding recordsAt
-length-records zero s at = refl
-length-records (suc n) s at = ap suc (length-records n s (at + rowBytes))
 
 -- one row more
 records-last : (n : ℕ) (s : List ℕ) (at : ℕ) → recordsAt (suc n) s at ≡ recordsAt n s at ++ (entryAt s (at + rowBytes * n) ∷ [])
@@ -33,7 +29,7 @@ pub loaded-row : {e : TilePartEntry} {next : List TilePartEntry} (table : List T
     → next ≡ set (put table 0 (recordsAt i s 0)) i e → next ≡ put table 0 (recordsAt (i + 1) s 0)
 loaded-row {e} {next} table s i fits read new =
     let some : List TilePartEntry = recordsAt i s 0 in
-    let many : length some ≡ i = length-records i s 0 in
+    let many : length some ≡ i = length-at i s 0 in
     let same : length (put table 0 some) ≡ length table = length-put table 0 some (omega arith) in
     let last : recordsAt (i + 1) s 0 ≡ some ++ (e ∷ []) =
     ap (λ (n : ℕ). recordsAt n s 0) (add-one i) ∙ records-last i s 0 ∙ ap (λ (x : TilePartEntry). some ++ (x ∷ [])) (ap (entryAt s) (zero-add (rowBytes * i)) ∙ sym read) in
@@ -61,7 +57,7 @@ stored-row {now} {next} {at} lent table d i h fits so-far here new =
 -- ---- what is held of a lent table
 
 pub length-own : (table : List ℕ) → length (own table) ≡ held table
-length-own table = length-records (held table) table 0
+length-own table = length-at (held table) table 0
 
 first-of : (xs ys : List TilePartEntry) (n : ℕ) → length xs ≡ n → take n (xs ++ ys) ≡ xs
 first-of xs ys n h = ap (λ (k : ℕ). take k (xs ++ ys)) (sym h) ∙ take-append-seam xs ys

@@ -1,10 +1,11 @@
 -- The rows of a table read one by one: none, or the row here and those after it. The rows of records, read back, are those records.
-use Prim.Native.Nat.{ℕ, suc, _+_, _-_, _/_, _≤_, _<_}
-use native.Mathlib.Nat.{add-zero}
+use Prim.Native.Nat.{ℕ, zero, suc, _+_, _*_, _-_, _/_, _≤_, _<_}
+use native.Mathlib.Nat.{add-zero, zero-add}
+use native.Mathlib.Numerals.{add-one}
 use native.Mathlib.Omega.{arith}
 use mathlib.Core.Path.{_≡_, refl, sym, ap, ap₂, _∙_}
 use mathlib.Core.List.{List, [], _∷_, _++_, append-assoc}
-use lib.ListN.{length, length-append}
+use lib.ListN.{length, drop, length-append}
 use lib.Seq.{drop-append-seam}
 use Rattle.numbers.specs.Bytes.{be, put}
 use Rattle.numbers.proofs.BytesLaws.{be-rest, put-start}
@@ -25,6 +26,34 @@ unfolding recordsFrom recordsAt
 records-next table at h =
     let one : (length table - at) / rowBytes ≡ suc ((length table - (at + rowBytes)) / rowBytes) = omega arith in
     rw one
+
+-- ---- by number
+
+pub length-at : (m : ℕ) (s : List ℕ) (at : ℕ) → length (recordsAt m s at) ≡ m
+unfolding recordsAt
+length-at zero s at = refl
+length-at (suc m) s at = ap suc (length-at m s (at + rowBytes))
+
+-- as many as there are whole rows
+pub length-records : (table : List ℕ) → length (recordsIn table) ≡ length table / rowBytes
+unfolding recordsIn recordsFrom
+length-records table = length-at ((length table - 0) / rowBytes) table 0 ∙ omega arith
+
+record-at : (n m : ℕ) (s : List ℕ) (at : ℕ) → n < m → drop n (recordsAt m s at) ≡ entryAt s (at + n * rowBytes) ∷ drop (suc n) (recordsAt m s at)
+unfolding recordsAt
+record-at n zero s at h = absurd (omega arith)
+record-at zero (suc m) s at h = ap (λ (p : ℕ). entryAt s p ∷ recordsAt m s (at + rowBytes)) (sym (add-zero at))
+record-at (suc n) (suc m) s at h =
+    let there : at + rowBytes + n * rowBytes ≡ at + suc n * rowBytes = omega arith in
+    record-at n m s (at + rowBytes) (omega arith) ∙ ap (λ (p : ℕ). entryAt s p ∷ drop (suc n) (recordsAt m s (at + rowBytes))) there
+
+-- the n-th stands n rows on
+pub record-here : (table : List ℕ) (n : ℕ) → n < length table / rowBytes → drop n (recordsIn table) ≡ entryAt table (n * rowBytes) ∷ drop (n + 1) (recordsIn table)
+unfolding recordsIn recordsFrom
+record-here table n h =
+    let m : ℕ = (length table - 0) / rowBytes in
+    record-at n m table 0 (omega arith)
+    ∙ ap₂ (λ (p q : ℕ). entryAt table p ∷ drop q (recordsAt m table 0)) (zero-add (n * rowBytes)) (sym (add-one n))
 
 -- ---- read back
 

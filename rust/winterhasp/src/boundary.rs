@@ -62,6 +62,46 @@ mod archive {
 
         pub fn winterhasp_tile_in_order(table: *const u8, table_len: usize, tile: u16) -> u32;
 
+        pub fn winterhasp_index_tiles(
+            table: *const u8,
+            table_len: usize,
+            index: *mut u64,
+            index_len: usize,
+            scratch: *mut u64,
+            scratch_len: usize,
+            value: *mut u64,
+        ) -> u32;
+
+        pub fn winterhasp_extend_index(
+            table: *const u8,
+            table_len: usize,
+            have: u64,
+            index: *mut u64,
+            index_len: usize,
+            scratch: *mut u64,
+            scratch_len: usize,
+            value: *mut u64,
+        ) -> u32;
+
+        pub fn winterhasp_tile_run(
+            index: *const u64,
+            index_len: usize,
+            tile: u16,
+            first: *mut u64,
+            count: *mut u64,
+        ) -> u32;
+
+        pub fn winterhasp_tile_entries(
+            table: *const u8,
+            table_len: usize,
+            index: *const u64,
+            index_len: usize,
+            tile: u16,
+            out: *mut u8,
+            out_len: usize,
+            value: *mut u64,
+        ) -> u32;
+
         pub fn winterhasp_split_count(tile: *const u8, tile_len: usize) -> u64;
 
         pub fn winterhasp_split_part(
@@ -366,6 +406,75 @@ pub fn scan_sot_markers(
 pub fn tile_in_order(table: &[u8], tile: u16) -> u32 {
     // SAFETY: as at the top of this file.
     unsafe { archive::winterhasp_tile_in_order(table.as_ptr(), table.len(), tile) }
+}
+
+/// The index of the rows of `table` goes to `index`, and to `scratch` too, their number to `value`.
+pub fn index_tiles(table: &[u8], index: &mut [u64], scratch: &mut [u64], value: &mut u64) -> u32 {
+    // SAFETY: as at the top of this file.
+    unsafe {
+        archive::winterhasp_index_tiles(
+            table.as_ptr(),
+            table.len(),
+            index.as_mut_ptr(),
+            index.len(),
+            scratch.as_mut_ptr(),
+            scratch.len(),
+            value,
+        )
+    }
+}
+
+/// The first `have` of `index`, which are the index of as many rows of `table`, become that of all, whose
+/// number goes to `value`; `scratch` then holds the keys of the others.
+pub fn extend_index(
+    table: &[u8],
+    have: u64,
+    index: &mut [u64],
+    scratch: &mut [u64],
+    value: &mut u64,
+) -> u32 {
+    // SAFETY: as at the top of this file.
+    unsafe {
+        archive::winterhasp_extend_index(
+            table.as_ptr(),
+            table.len(),
+            have,
+            index.as_mut_ptr(),
+            index.len(),
+            scratch.as_mut_ptr(),
+            scratch.len(),
+            value,
+        )
+    }
+}
+
+/// 1 where `tile` has a run in `index`, and else 0. Where it stands goes to `first`, its length to `count`.
+pub fn tile_run(index: &[u64], tile: u16, first: &mut u64, count: &mut u64) -> u32 {
+    // SAFETY: as at the top of this file.
+    unsafe { archive::winterhasp_tile_run(index.as_ptr(), index.len(), tile, first, count) }
+}
+
+/// The rows of `tile` among those of `table`, by the table's index, go to `out`, their number to `value`.
+pub fn tile_entries(
+    table: &[u8],
+    index: &[u64],
+    tile: u16,
+    out: &mut [u8],
+    value: &mut u64,
+) -> u32 {
+    // SAFETY: as at the top of this file.
+    unsafe {
+        archive::winterhasp_tile_entries(
+            table.as_ptr(),
+            table.len(),
+            index.as_ptr(),
+            index.len(),
+            tile,
+            out.as_mut_ptr(),
+            out.len(),
+            value,
+        )
+    }
 }
 
 /// How many tile-parts `tile` holds.
