@@ -6,3 +6,5 @@ pub mod Extending
 pub mod Extended
 pub mod RunLaws
 pub mod EntriesLaws
+pub mod Lookup
+pub mod IndexLaws

@@ -13,16 +13,16 @@ use Rattle.index.specs.Run.{middle, halved, firstFrom, runIn, someNumber
 -- ---- one step
 
 module _ (keys : List ℕ) (tile lo hi : ℕ) where
-  halved-end : (n : ℕ) → hi ≤ lo → halved n keys tile lo hi ≡ lo
+  pub halved-end : (n : ℕ) → hi ≤ lo → halved n keys tile lo hi ≡ lo
   unfolding halved
   halved-end zero h = refl
   halved-end (suc n) h = rw (le-ltb lo hi h)
 
-  halved-right : (n : ℕ) → lo < hi → tileOf (getD keys (middle lo hi) 0) < tile → halved (suc n) keys tile lo hi ≡ halved n keys tile (middle lo hi + 1) hi
+  pub halved-right : (n : ℕ) → lo < hi → tileOf (getD keys (middle lo hi) 0) < tile → halved (suc n) keys tile lo hi ≡ halved n keys tile (middle lo hi + 1) hi
   unfolding halved
   halved-right n h below = rw (lt-ltb lo hi h, lt-ltb _ _ below)
 
-  halved-left : (n : ℕ) → lo < hi → tile ≤ tileOf (getD keys (middle lo hi) 0) → halved (suc n) keys tile lo hi ≡ halved n keys tile lo (middle lo hi)
+  pub halved-left : (n : ℕ) → lo < hi → tile ≤ tileOf (getD keys (middle lo hi) 0) → halved (suc n) keys tile lo hi ≡ halved n keys tile lo (middle lo hi)
   unfolding halved
   halved-left n h not-below = rw (lt-ltb lo hi h, le-ltb _ _ not-below)
 

@@ -19,12 +19,10 @@ halved (suc n) keys tile lo hi =
     lo
 
 unfoldable pub firstFrom : List ℕ → ℕ → ℕ → ℕ
-unfolding halved
 firstFrom keys tile from = halved 64 keys tile from (length keys)
 
 -- from the tile's first place to the next tile's
 unfoldable pub runIn : List ℕ → ℕ → List ℕ
-unfolding firstFrom
 runIn keys tile = take (firstFrom keys (tile + 1) (firstFrom keys tile 0) - firstFrom keys tile 0) (drop (firstFrom keys tile 0) keys)
 
 -- for C: 1 where a run has a key, and 0 where it has none
