@@ -44,10 +44,10 @@ picked-run tile front (e ∷ rest) few =
     let number : numberOf (keyOf tile (length front)) ≡ length front = omega arith in
     let here : drop (numberOf (keyOf tile (length front))) (front ++ (e ∷ rest)) ≡ e ∷ rest =
     ap (λ (n : ℕ). drop n (front ++ (e ∷ rest))) number ∙ drop-append-seam front (e ∷ rest) in
-    by-bool (eqb (e .«tile_index») tile) 
+    by-bool (eqb (e .«tile_index») tile)
     (λ yes.
-      let first : firstIf tile (e ∷ rest) ≡ e ∷ [] = rw yes in
-      rw yes (ap₂ (λ (x y : List TilePartEntry). x ++ y) (ap (firstIf tile) here ∙ first) tail))
+    let first : firstIf tile (e ∷ rest) ≡ e ∷ [] = rw yes in
+    rw yes (ap₂ (λ (x y : List TilePartEntry). x ++ y) (ap (firstIf tile) here ∙ first) tail))
     (λ no. rw no tail)
 
 no-length : (l : List ℕ) → length l ≡ 0 → l ≡ []
@@ -199,13 +199,13 @@ times-runs k (suc n) i es few h =
     times-append k (runsBelow n i es) (runFrom n i es)
     ∙ by-bool (eqb (tileOf k) n)
     (λ yes.
-      let here : tileOf k ≡ n = eqb-true (tileOf k) n yes in
-      ap₂ (λ (x : ℕ) (t : ℕ). x + times k (runFrom t i es)) (times-none k n i es few (omega arith)) (sym here) ∙ zero-add (times k (runFrom (tileOf k) i es)))
+    let here : tileOf k ≡ n = eqb-true (tileOf k) n yes in
+    ap₂ (λ (x : ℕ) (t : ℕ). x + times k (runFrom t i es)) (times-none k n i es few (omega arith)) (sym here) ∙ zero-add (times k (runFrom (tileOf k) i es)))
     (λ no.
-      let other : times k (runFrom n i es) ≡ 0 =
-      never k (each-map (λ x p q. eqb-false (tileOf k) n no (sym (ap tileOf q) ∙ p)) (run-tile n i es few)) in
-      let under : tileOf k < n = by-bool (ltb (tileOf k) n) (λ y. ltb-true (tileOf k) n y) (λ z. absurd (eqb-false (tileOf k) n no (omega (arith, ltb-false (tileOf k) n z)))) in
-      ap₂ (λ (x y : ℕ). x + y) (times-runs k n i es few under) other ∙ add-zero (times k (runFrom (tileOf k) i es)))
+    let other : times k (runFrom n i es) ≡ 0 =
+    never k (each-map (λ x p q. eqb-false (tileOf k) n no (sym (ap tileOf q) ∙ p)) (run-tile n i es few)) in
+    let under : tileOf k < n = by-bool (ltb (tileOf k) n) (λ y. ltb-true (tileOf k) n y) (λ z. absurd (eqb-false (tileOf k) n no (omega (arith, ltb-false (tileOf k) n z)))) in
+    ap₂ (λ (x y : ℕ). x + y) (times-runs k n i es few under) other ∙ add-zero (times k (runFrom (tileOf k) i es)))
 
 -- a tile has 16 bits, as in every table
 abbrev pub Small : TilePartEntry → Type 0
@@ -223,12 +223,12 @@ each-once es small few k =
     let itself : keyOf (tileOf k) (0 + numberOf k) ≡ k = omega arith in
     by-bool (ltb (tileOf k) 65536)
     (λ yes.
-      times-runs k 65536 0 es (omega arith) (ltb-true (tileOf k) 65536 yes)
-      ∙ ap (λ (x : ℕ). times x (runFrom (tileOf k) 0 es)) (sym itself)
-      ∙ times-run (tileOf k) 0 (numberOf k) es)
+    times-runs k 65536 0 es (omega arith) (ltb-true (tileOf k) 65536 yes)
+    ∙ ap (λ (x : ℕ). times x (runFrom (tileOf k) 0 es)) (sym itself)
+    ∙ times-run (tileOf k) 0 (numberOf k) es)
     (λ no.
-      let large = ltb-false (tileOf k) 65536 no in
-      times-none k 65536 0 es (omega arith) large ∙ sym (ap length (none-so-large (tileOf k) (numberOf k) small large)))
+    let large = ltb-false (tileOf k) 65536 no in
+    times-none k 65536 0 es (omega arith) large ∙ sym (ap length (none-so-large (tileOf k) (numberOf k) small large)))
 
 keys-below : (i : ℕ) {es : List TilePartEntry} → All Small es → i + length es ≤ numbered → Each (Below 65536) (keysFrom i es)
 unfolding keysFrom

@@ -32,18 +32,18 @@ halved-finds (suc n) keys tile p parted lo hi low high fits few =
     let half = pow-suc 2 n in
     by-bool (ltb lo hi)
     (λ some.
-      let more : lo < hi = ltb-true lo hi some in
-      by-bool (ltb (tileOf (getD keys m 0)) tile)
-      (λ less.
-        let less′ : tileOf (getD keys m 0) < tile = ltb-true (tileOf (getD keys m 0)) tile less in
-        let under : m < p =
-        by-bool (ltb m p) (λ y. ltb-true m p y) (λ no. absurd (omega (arith, parted .from m (ltb-false m p no) (omega arith)))) in
-        halved-right keys tile lo hi n more less′ ∙ halved-finds n keys tile p parted (m + 1) hi (omega arith) high fits (omega arith))
-      (λ not-less.
-        let not-less′ : tile ≤ tileOf (getD keys m 0) = ltb-false (tileOf (getD keys m 0)) tile not-less in
-        let over : p ≤ m =
-        by-bool (ltb m p) (λ y. absurd (omega (arith, parted .below m (ltb-true m p y)))) (λ no. ltb-false m p no) in
-        halved-left keys tile lo hi n more not-less′ ∙ halved-finds n keys tile p parted lo m low over (omega arith) (omega arith)))
+    let more : lo < hi = ltb-true lo hi some in
+    by-bool (ltb (tileOf (getD keys m 0)) tile)
+    (λ less.
+    let less′ : tileOf (getD keys m 0) < tile = ltb-true (tileOf (getD keys m 0)) tile less in
+    let under : m < p =
+    by-bool (ltb m p) (λ y. ltb-true m p y) (λ no. absurd (omega (arith, parted .from m (ltb-false m p no) (omega arith)))) in
+    halved-right keys tile lo hi n more less′ ∙ halved-finds n keys tile p parted (m + 1) hi (omega arith) high fits (omega arith))
+    (λ not-less.
+    let not-less′ : tile ≤ tileOf (getD keys m 0) = ltb-false (tileOf (getD keys m 0)) tile not-less in
+    let over : p ≤ m =
+    by-bool (ltb m p) (λ y. absurd (omega (arith, parted .below m (ltb-true m p y)))) (λ no. ltb-false m p no) in
+    halved-left keys tile lo hi n more not-less′ ∙ halved-finds n keys tile p parted lo m low over (omega arith) (omega arith)))
     (λ none. halved-end keys tile lo hi (suc n) (ltb-false lo hi none) ∙ omega (arith, ltb-false lo hi none))
 
 parted : (tile : ℕ) {a b : List ℕ} → Each (Below tile) a → Each (From tile) b → Parted (a ++ b) tile (length a)
@@ -51,9 +51,9 @@ parted tile {a} {b} low high =
     record {
       below = λ i h. rw (List·getD-append a b 0 i h) (each-at low i h);
       from = λ i h l.
-        let there : i ≡ length a + (i - length a) = omega arith in
-        let here : getD (a ++ b) i 0 ≡ getD b (i - length a) 0 = ap (λ (j : ℕ). getD (a ++ b) j 0) there ∙ getD-append-add a b (i - length a) 0 in
-        rw here (each-at high (i - length a) (omega (arith, length-append a b)));
+          let there : i ≡ length a + (i - length a) = omega arith in
+          let here : getD (a ++ b) i 0 ≡ getD b (i - length a) 0 = ap (λ (j : ℕ). getD (a ++ b) j 0) there ∙ getD-append-add a b (i - length a) 0 in
+          rw here (each-at high (i - length a) (omega (arith, length-append a b)));
     }
 
 first-found : (tile : ℕ) {a b : List ℕ} (lo : ℕ) → Each (Below tile) a → Each (From tile) b → lo ≤ length a → length (a ++ b) < 2 ^ 64

@@ -1,3 +1,4 @@
+pub mod by_tile
 pub mod main_header
 pub mod order
 pub mod scan

@@ -6,6 +6,7 @@ ghost use Prim.Native.Nat.{min};
 ghost use mathlib.Core.List.{_++_};
 ghost use lib.ListN.{length, take, drop};
 ghost use Rattle.header.specs.Parse.{parsed, outAfter};
+ghost use Rattle.index.specs.Extend.{oldOf, extended, indexAfter, scratchAfter};
 ghost use Rattle.parts.specs.Order.{inOrder};
 ghost use Rattle.parts.specs.Scan.{scanned};
 ghost use Rattle.records.specs.MainHeader.{recordsAfter};
@@ -13,6 +14,7 @@ ghost use Rattle.records.specs.Scan.{scannedRecords};
 ghost use Rattle.records.specs.Tables.{blank};
 use header::parse::MainHeader;
 use header::reading::Reading;
+use index::extend::Indexed;
 use parts::scan::Scanned;
 use types::CodestreamOffset;
 use types::PartNumbers;
@@ -104,6 +106,22 @@ pub fn order_within(table: [TilePartEntry; 2048], rows: usize, tile: u16) -> boo
 {
     let room = at_most(rows);
     crate::order::tile_in_order(&table[..room], tile)
+}
+
+// The index by tile of the first `rows` records of a table.
+pub fn index_within(
+    table: [TilePartEntry; 2048],
+    rows: usize,
+    have: usize,
+    index: &mut [u64],
+    scratch: &mut [u64],
+) -> Indexed
+    ensures { λ r. ⌜ r ≡ extended (min rows 2048) have (length (now (index .entry))) (length (now (scratch .entry))) ⌝ }
+    ensures { λ r. ⌜ now (index .exit) ≡ indexAfter r (take (min rows 2048) table) (oldOf have (min rows 2048)) (now (index .entry)) ⌝ }
+    ensures { λ r. ⌜ now (scratch .exit) ≡ scratchAfter r (take (min rows 2048) table) (oldOf have (min rows 2048)) (now (scratch .entry)) ⌝ }
+{
+    let room = at_most(rows);
+    crate::by_tile::extend_index(&table[..room], have, index, scratch)
 }
 
 pub fn scan_table(codestream: &[u8], first_sot_offset: CodestreamOffset) -> ScanTable

@@ -9,11 +9,10 @@ use mathlib.Core.List.{List, [], _∷_}
 use lib.ListN.{length, getD, drop, drop-of-length-le}
 use lib.Seq.{drop-cons}
 use borrow.Author.Needs.{needs}
-use Rattle.types.proofs.lent.TilePartEntry.{nought}
-use Rattle.types.specs.declared.TilePartEntry.{TilePartEntry}
 use Rattle.parts.specs.Order.{inOrder}
 use Rattle.parts.specs.declared.order.Order.the-variants.{Due}
 use Rattle.parts.proofs.OrderLaws.{orderFrom, order-none, order-next, order-broken, order-whole}
+use Rattle.records.proofs.Reading.{here}
 use Rattle.records.proofs.order.tile_in_order.Statement.{statement}
 use Rattle.records.proofs.order.tile_in_order.Proof.Tie as tie
 
@@ -23,10 +22,6 @@ Inv-loop table tile passed₀ given₀ i₀ passed given i =
 
 abbrev μ-loop : tie.MeasureT-loop
 μ-loop table tile passed₀ given₀ i₀ passed given i = length table - i
-
--- the record here, and those after it
-here : (table : List TilePartEntry) (i : ℕ) → i < length table → drop i table ≡ getD table i nought ∷ drop (i + 1) table
-here table i h = rw (add-one, drop-cons table i nought h)
 
 -- the record here is passed
 turn : (c : tie.After-order-step Inv-loop μ-loop)
