@@ -19,7 +19,7 @@ pub enum Found {
 }
 
 // A record, if it is the tile's.
-pub fn if_of(entry: TilePartEntry, tile: u16) -> Found
+fn if_of(entry: TilePartEntry, tile: u16) -> Found
     ensures { λ r. ⌜ foundAs r ≡ firstIf tile (entry ∷ []) ⌝ }
 {
     if entry.tile_index == tile {
@@ -30,7 +30,7 @@ pub fn if_of(entry: TilePartEntry, tile: u16) -> Found
 }
 
 // What entries of which there are n are answered with, given room for so many.
-pub fn decide(n: usize, room: usize) -> Indexed
+fn decide(n: usize, room: usize) -> Indexed
     ensures { λ r. ⌜ r ≡ given n room ⌝ }
 {
     if n <= room {

@@ -25,13 +25,13 @@ fn first_from(index: &[u64], tile: u64, from: usize) -> usize
 }
 
 // From a place on, to another that no longer belongs to it.
-pub struct Between {
-    pub from: usize,
-    pub to: usize,
+struct Between {
+    from: usize,
+    to: usize,
 }
 
 // Where the tile's run stands.
-pub fn places(index: &[u64], tile: u16) -> Between
+fn places(index: &[u64], tile: u16) -> Between
     ensures { λ r. ⌜ r .from ≡ firstFrom (now (index .entry)) tile 0 ⌝ }
     ensures { λ r. ⌜ r .to ≡ firstFrom (now (index .entry)) (tile + 1) (firstFrom (now (index .entry)) tile 0) ⌝ }
     ensures { λ r. ⌜ r .from ≤ r .to ⌝ }

@@ -1,15 +1,19 @@
 -- Each entry point's contract settles its outcome: nothing is required, and of any two outcomes that it allows the answers and all that was lent are equal.
 -- A function stands here by its path; its `ended` and `clauses` are made from its source, so what changes there changes here. In a proof e has an equation
 -- of x and y for each `ensures`, in the source's order. They are put in the order of an outcome: the answer, then the parameters, `tt` where none is lent.
-use Prim.Native.Nat.{ℕ, min}
+use Prim.Native.Nat.{ℕ, _/_, min}
 use mathlib.Core.List.{List, _++_}
-use lib.ListN.{take, drop}
+use lib.ListN.{length, take, drop}
 use denote.Ref.{now}
 use Rattle.numbers.proofs as numbers
 use Rattle.types.proofs as types
 use Rattle.header.proofs as header
 use Rattle.header.specs.Parse.{tableAfter, outAfter}
 use Rattle.parts.proofs as parts
+use Rattle.types.specs.Row.{rowBytes, recordsIn}
+use Rattle.index.proofs as index
+use Rattle.index.specs.Extend.{oldOf, indexAfter, scratchAfter, indexMade}
+use Rattle.index.specs.Entries.{entriesBy, givenRows}
 use Rattle.records.proofs as records
 use Rattle.records.specs.MainHeader.{recordsAfter}
 use Rattle.records.specs.Tables.{blank}
@@ -18,7 +22,7 @@ use Rattle.reader.proofs as reader
 use Rattle.host.proofs as host
 use Rattle.probe.proofs as probe
 use Rattle.laws.specs.Settles.{Settles, SettlesAs}
-use Rattle.laws.proofs.Settling.{last, before, settles, by-first}
+use Rattle.laws.proofs.Settling.{last, before, settles, by-one, by-first}
 
 -- ---- numbers
 
@@ -118,7 +122,60 @@ split-at m κs a g = settles m (last m) λ x y e i. (e i, x .1)
 pub split-tell : {M : Type 1} → Settles M parts.split.tell.ended parts.split.tell.clauses
 split-tell m κs a g = settles m (before m (before m (last m))) λ x y e i. (e .0 i, (tt, (e .1 .1 i, (e .1 .0 i, tt))))
 
+-- ---- index
+
+pub index-tile-of : {M : Type 1} → Settles M index.keys.tile_of.ended index.keys.tile_of.clauses
+index-tile-of m κs a g = settles m (last m) λ x y e i. (e i, x .1)
+
+pub index-number-of : {M : Type 1} → Settles M index.keys.number_of.ended index.keys.number_of.clauses
+index-number-of m κs a g = settles m (last m) λ x y e i. (e i, x .1)
+
+pub index-old-of : {M : Type 1} → Settles M index.extend.old_of.ended index.extend.old_of.clauses
+index-old-of m κs a g = settles m (last m) λ x y e i. (e i, x .1)
+
+pub index-needs : {M : Type 1} → Settles M index.extend.needs.ended index.extend.needs.clauses
+index-needs m κs a g = settles m (last m) λ x y e i. (e i, x .1)
+
+pub index-decide : {M : Type 1} → Settles M index.extend.decide.ended index.extend.decide.clauses
+index-decide m κs a g = settles m (last m) λ x y e i. (e i, x .1)
+
+pub index-tell : {M : Type 1} → Settles M index.extend.tell.ended index.extend.tell.clauses
+index-tell m κs a g = settles m (before m (last m)) λ x y e i. (e .0 i, (tt, (e .1 i, tt)))
+
+pub extend-index : {M : Type 1} → Settles M index.extend.extend_index.ended index.extend.extend_index.clauses
+extend-index m κs a g =
+    by-first m (λ r. indexAfter r (recordsIn (now (a .0))) (oldOf (a .1 .0) (length (now (a .0)) / rowBytes)) (now (a .1 .1 .0)))
+    (λ r. scratchAfter r (recordsIn (now (a .0))) (oldOf (a .1 .0) (length (now (a .0)) / rowBytes)) (now (a .1 .1 .1 .0))) λ x y e i.
+    (e .0 i, (tt, (tt, (e .1 i, (e .2 i, tt)))))
+
+pub index-tiles : {M : Type 1} → Settles M index.extend.index_tiles.ended index.extend.index_tiles.clauses
+index-tiles m κs a g =
+    by-first m (λ r. indexMade r (recordsIn (now (a .0))) (now (a .1 .0))) (λ r. indexMade r (recordsIn (now (a .0))) (now (a .1 .1 .0))) λ x y e i.
+    (e .0 i, (tt, (e .1 i, (e .2 i, tt))))
+
+-- the keys of the run; not where in the index they lie
+pub tile-run : {M : Type 1} → SettlesAs M index.run.tile_run.ended index.run.tile_run.clauses (λ κs. List ℕ) (λ κs r. now r)
+tile-run m κs a g = settles m (last m) λ x y e i. (e i, x .1)
+
+pub run-tell : {M : Type 1} → Settles M index.run.tell.ended index.run.tell.clauses
+run-tell m κs a g = settles m (before m (before m (last m))) λ x y e i. (e .0 i, (tt, (tt, (e .1 .0 i, (e .1 .1 i, tt)))))
+
+pub tile-entries : {M : Type 1} → Settles M index.entries.tile_entries.ended index.entries.tile_entries.clauses
+tile-entries m κs a g =
+    by-one m (λ r. givenRows r (entriesBy (now (a .1 .0)) (a .1 .1 .0) (recordsIn (now (a .0)))) (now (a .1 .1 .1 .0))) λ x y e i. (e .0 i, (tt, (tt, (tt, (e .1 i, tt)))))
+
 -- ---- records
+
+pub records-extend-index : {M : Type 1} → Settles M records.by_tile.extend_index.ended records.by_tile.extend_index.clauses
+records-extend-index m κs a g =
+    by-first m (λ r. indexAfter r (now (a .0)) (oldOf (a .1 .0) (length (now (a .0)))) (now (a .1 .1 .0)))
+    (λ r. scratchAfter r (now (a .0)) (oldOf (a .1 .0) (length (now (a .0)))) (now (a .1 .1 .1 .0))) λ x y e i.
+    (e .0 i, (tt, (tt, (e .1 i, (e .2 i, tt)))))
+
+pub records-index-tiles : {M : Type 1} → Settles M records.by_tile.index_tiles.ended records.by_tile.index_tiles.clauses
+records-index-tiles m κs a g =
+    by-first m (λ r. indexMade r (now (a .0)) (now (a .1 .0))) (λ r. indexMade r (now (a .0)) (now (a .1 .1 .0))) λ x y e i.
+    (e .0 i, (tt, (e .1 i, (e .2 i, tt))))
 
 pub records-scan-sot-markers : {M : Type 1} → Settles M records.scan.scan_sot_markers.ended records.scan.scan_sot_markers.clauses
 records-scan-sot-markers m κs a g = settles m (before m (last m)) λ x y e i. (e .0 i, (tt, (tt, (e .1 i, tt))))
@@ -145,6 +202,12 @@ header-into m κs a g =
 
 pub order-within : {M : Type 1} → Settles M records.tables.order_within.ended records.tables.order_within.clauses
 order-within m κs a g = settles m (last m) λ x y e i. (e i, x .1)
+
+pub index-within : {M : Type 1} → Settles M records.tables.index_within.ended records.tables.index_within.clauses
+index-within m κs a g =
+    by-first m (λ r. indexAfter r (take (min (a .1 .0) 2048) (a .0)) (oldOf (a .1 .1 .0) (min (a .1 .0) 2048)) (now (a .1 .1 .1 .0)))
+    (λ r. scratchAfter r (take (min (a .1 .0) 2048) (a .0)) (oldOf (a .1 .1 .0) (min (a .1 .0) 2048)) (now (a .1 .1 .1 .1 .0))) λ x y e i.
+    (e .0 i, (tt, (tt, (tt, (e .1 i, (e .2 i, tt))))))
 
 pub scan-table : {M : Type 1} → Settles M records.tables.scan_table.ended records.tables.scan_table.clauses
 scan-table m κs a g = settles m (before m (last m)) λ x y e i. (record { answer = e .0 i; table = e .1 i }, x .1)
@@ -229,6 +292,18 @@ winterhasp-scan-sot-markers m κs a g = settles m (before m (before m (last m)))
 pub winterhasp-tile-in-order : {M : Type 1} → Settles M host.order.winterhasp_tile_in_order.ended host.order.winterhasp_tile_in_order.clauses
 winterhasp-tile-in-order m κs a g = settles m (last m) λ x y e i. (e i, x .1)
 
+pub winterhasp-index-tiles : {M : Type 1} → Settles M host.by_tile.winterhasp_index_tiles.ended host.by_tile.winterhasp_index_tiles.clauses
+winterhasp-index-tiles m κs a g = settles m (before m (before m (before m (last m)))) λ x y e i. (e .0 i, (tt, (e .1 .1 .0 i, (e .1 .1 .1 i, (e .1 .0 i, tt)))))
+
+pub winterhasp-extend-index : {M : Type 1} → Settles M host.by_tile.winterhasp_extend_index.ended host.by_tile.winterhasp_extend_index.clauses
+winterhasp-extend-index m κs a g = settles m (before m (before m (before m (last m)))) λ x y e i. (e .0 i, (tt, (tt, (e .1 .1 .0 i, (e .1 .1 .1 i, (e .1 .0 i, tt))))))
+
+pub winterhasp-tile-run : {M : Type 1} → Settles M host.by_tile.winterhasp_tile_run.ended host.by_tile.winterhasp_tile_run.clauses
+winterhasp-tile-run m κs a g = settles m (before m (before m (last m))) λ x y e i. (e .0 i, (tt, (tt, (e .1 .0 i, (e .1 .1 i, tt)))))
+
+pub winterhasp-tile-entries : {M : Type 1} → Settles M host.by_tile.winterhasp_tile_entries.ended host.by_tile.winterhasp_tile_entries.clauses
+winterhasp-tile-entries m κs a g = settles m (before m (before m (last m))) λ x y e i. (e .0 i, (tt, (tt, (tt, (e .1 .1 i, (e .1 .0 i, tt))))))
+
 pub winterhasp-split-count : {M : Type 1} → Settles M host.split.winterhasp_split_count.ended host.split.winterhasp_split_count.clauses
 winterhasp-split-count m κs a g = settles m (last m) λ x y e i. (e i, x .1)
 
@@ -302,6 +377,9 @@ own-count m κs a g = settles m (last m) λ x y e i. (e i, x .1)
 
 pub winterhasp-records-in-order : {M : Type 1} → Settles M probe.order.winterhasp_records_in_order.ended probe.order.winterhasp_records_in_order.clauses
 winterhasp-records-in-order m κs a g = settles m (last m) λ x y e i. (e i, x .1)
+
+pub winterhasp-records-index : {M : Type 1} → Settles M probe.by_tile.winterhasp_records_index.ended probe.by_tile.winterhasp_records_index.clauses
+winterhasp-records-index m κs a g = settles m (before m (before m (before m (last m)))) λ x y e i. (e .0 i, (tt, (tt, (e .1 .1 .0 i, (e .1 .1 .1 i, (e .1 .0 i, tt))))))
 
 pub winterhasp-scan-records : {M : Type 1} → Settles M probe.scan.winterhasp_scan_records.ended probe.scan.winterhasp_scan_records.clauses
 winterhasp-scan-records m κs a g = settles m (before m (before m (last m))) λ x y e i. (e .0 i, (tt, (tt, (e .1 .1 i, (e .1 .0 i, tt)))))
