@@ -262,3 +262,44 @@ picked-of tile es (k ∷ keys) = all-append (first-of tile (drop (numberOf k) es
 pub given-of-tile : (index : List ℕ) (tile : ℕ) (es : List TilePartEntry) → All (λ e. e .«tile_index» ≡ tile) (entriesBy index tile es)
 unfolding entriesBy
 given-of-tile index tile es = picked-of tile es (runIn index tile)
+
+-- ---- one entry
+
+other-run : (tile i : ℕ) (e : TilePartEntry) → (e .«tile_index» ≡ tile → ⊥) → runFrom tile i (e ∷ []) ≡ []
+unfolding runFrom
+other-run tile i e n = rw (ne-eqb (e .«tile_index») tile n)
+
+own-run : (i : ℕ) (e : TilePartEntry) → runFrom (e .«tile_index») i (e ∷ []) ≡ keyOf (e .«tile_index») i ∷ []
+unfolding runFrom
+own-run i e = rw (eq-eqb (e .«tile_index») (e .«tile_index») refl)
+
+none-below : (n i : ℕ) (e : TilePartEntry) → n ≤ e .«tile_index» → runsBelow n i (e ∷ []) ≡ []
+unfolding runsBelow
+none-below zero i e h = refl
+none-below (suc n) i e h = ap₂ (λ (a b : List ℕ). a ++ b) (none-below n i e (omega arith)) (other-run n i e (λ q. omega arith))
+
+one-below : (n i : ℕ) (e : TilePartEntry) → e .«tile_index» < n → runsBelow n i (e ∷ []) ≡ keyOf (e .«tile_index») i ∷ []
+unfolding runsBelow
+one-below zero i e h = absurd (omega arith)
+one-below (suc n) i e h =
+    by-bool (eqb (e .«tile_index») n)
+    (λ yes.
+    let here : e .«tile_index» ≡ n = eqb-true (e .«tile_index») n yes in
+    ap₂ (λ (a b : List ℕ). a ++ b) (none-below n i e (omega arith)) (ap (λ (t : ℕ). runFrom t i (e ∷ [])) (sym here) ∙ own-run i e))
+    (λ no.
+    let other = eqb-false (e .«tile_index») n no in
+    let under : e .«tile_index» < n = by-bool (ltb (e .«tile_index») n) (λ y. ltb-true (e .«tile_index») n y) (λ z. absurd (other (omega (arith, ltb-false (e .«tile_index») n z)))) in
+    ap₂ (λ (a b : List ℕ). a ++ b) (one-below n i e under) (other-run n i e other))
+
+pub single : (i : ℕ) (e : TilePartEntry) → Small e → indexFrom i (e ∷ []) ≡ keyOf (e .«tile_index») i ∷ []
+unfolding indexFrom
+single i e small = one-below 65536 i e small
+
+-- of a tile that no 16 bits can say there is no key
+pub too-large : (i : ℕ) (e : TilePartEntry) → 65536 ≤ e .«tile_index» → indexFrom i (e ∷ []) ≡ []
+unfolding indexFrom
+too-large i e large = none-below 65536 i e large
+
+-- of two
+pub pair : (e f : TilePartEntry) → Small e → Small f → indexOf (e ∷ f ∷ []) ≡ merged (keyOf (e .«tile_index») 0 ∷ []) (keyOf (f .«tile_index») 1 ∷ [])
+pair e f small also = sym (extended-afresh (e ∷ []) (f ∷ []) (omega arith)) ∙ ap₂ merged (single 0 e small) (single 1 f also)

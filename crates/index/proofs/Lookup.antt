@@ -81,6 +81,10 @@ run-found tile {a} {b} {c} low run high short =
     ∙ ap₂ (λ (n : ℕ) (l : List ℕ). take n l) (ap (λ (n : ℕ). n - length a) two ∙ long) (drop-append-seam a (b ++ c))
     ∙ take-append-seam b c
 
+-- in nothing there is none
+pub run-nothing : (tile : ℕ) → runIn [] tile ≡ []
+run-nothing tile = run-found tile {a = []} {b = []} {c = []} none none none (omega arith)
+
 -- ---- the index, around a tile
 
 -- the runs of so many tiles, from one on

@@ -77,6 +77,18 @@ entry-fits s tile bytes short e o =
       length = omega arith;
     }
 
+run-fits : (s : List ℕ) → AllBytes s → length s ≤ 0xffff_ffff → {at stop : ℕ} {visits : List Visit} → Run (moveAt s) at visits stop → All Fits (map (recorded s) visits)
+run-fits s bytes short stay = none
+run-fits s bytes short (step {at = at} {next = next} found past rest) =
+    let o : OfTile s (isot s at) (recorded s (record { at = at; next = next })) =
+    record { stands = move-passed s at next found .stands; lsot = passed-lsot s at next found; isot = refl } in
+    more (entry-fits s (isot s at) bytes short (recorded s (record { at = at; next = next })) o) (run-fits s bytes short rest)
+
+-- all of them
+pub entries-fit : (s : List ℕ) (p : ℕ) → AllBytes s → length s ≤ 0xffff_ffff → All Fits (entriesFrom s p)
+unfolding entriesFrom scanFrom
+entries-fit s p bytes short = run-fits s bytes short (chain-run ended (moveAt s) (length s) (rises s) p)
+
 -- the rows of entries, read back
 pub records-back : (s : List ℕ) (tile : ℕ) → AllBytes s → length s ≤ 0xffff_ffff → {es : List TilePartEntry} → All (OfTile s tile) es → recordsIn (rowsOf es) ≡ es
 records-back s tile bytes short all = rows.records-back (all-map (entry-fits s tile bytes short) all)

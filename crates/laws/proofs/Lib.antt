@@ -18,3 +18,5 @@ pub mod Settled
 pub mod Demand3Premises
 pub mod RegionPremises
 pub mod OrderPremises
+pub mod Demand3Index
+pub mod IndexPremises

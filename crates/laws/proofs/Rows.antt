@@ -18,6 +18,8 @@ use Rattle.header.specs.declared.parse.MainHeader.{MainHeader}
 use Rattle.header.specs.declared.parse.MainHeader.the-variants.{Header, Refused}
 use Rattle.parts.specs.Scan.{entriesFrom, scanned, scannedTable}
 use Rattle.parts.specs.declared.scan.Scanned.{Scanned}
+use Rattle.index.specs.Extend.{extended, indexAfter, scratchAfter}
+use Rattle.index.specs.declared.extend.Indexed.{Indexed}
 use Rattle.records.specs.MainHeader.{recordsAfter}
 use Rattle.records.specs.Scan.{scannedRecords}
 use Rattle.parts.specs.Scan as parts
@@ -63,3 +65,14 @@ header-table-agrees n (Refused r) s t = refl
 
 pub order-agrees : (tile : ℕ) {t : List TilePartEntry} → All Fits t → inOrder tile (recordsIn (rowsOf t)) ≡ inOrder tile t
 order-agrees tile fits = ap (inOrder tile) (records-back fits)
+
+-- ---- the index by tile; what is left of index and scratch is given by the answer and the records, alike for both
+
+pub index-answer-agrees : (t : List TilePartEntry) (have room scratch : ℕ) → extended (length (rowsOf t) / rowBytes) have room scratch ≡ extended (length t) have room scratch
+index-answer-agrees t have room scratch = ap (λ (n : ℕ). extended n have room scratch) (rows-count t)
+
+pub index-agrees : {t : List TilePartEntry} → All Fits t → (r : Indexed) (old : ℕ) (index : List ℕ) → indexAfter r (recordsIn (rowsOf t)) old index ≡ indexAfter r t old index
+index-agrees fits r old index = ap (λ (es : List TilePartEntry). indexAfter r es old index) (records-back fits)
+
+pub scratch-agrees : {t : List TilePartEntry} → All Fits t → (r : Indexed) (old : ℕ) (scratch : List ℕ) → scratchAfter r (recordsIn (rowsOf t)) old scratch ≡ scratchAfter r t old scratch
+scratch-agrees fits r old scratch = ap (λ (es : List TilePartEntry). scratchAfter r es old scratch) (records-back fits)

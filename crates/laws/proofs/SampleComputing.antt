@@ -1,4 +1,4 @@
--- What is unfolded to compute a walk, a numbering, an edition, a marker, a scan, the order of tile-parts, a split, an assembly, a search or component sizes over sample bytes.
+-- What is unfolded to compute a walk, a numbering, an edition, a marker, a scan, the order of tile-parts, an index by tile, a split, an assembly, a search or component sizes over sample bytes.
 use mathlib.Core.List.{flatten}
 use Rattle.numbers.specs.Bits.{bit, ones}
 use Rattle.numbers.specs.Bytes.{be, bytesOf, put}
@@ -18,6 +18,9 @@ use Rattle.parts.specs.Scan.{eocAt, sotStepAt, scanStepAt, scanFrom, entriesFro
 use Rattle.parts.specs.Split.{partEnd, splitStepAt, splitFrom, partsFrom, partsOf}
 use Rattle.parts.specs.Tiles.{ofTile}
 use Rattle.parts.specs.Order.{numbersOf, numberedAs, runFrom, runs, inOrder}
+use Rattle.index.specs.Merge.{laterIn, mergedTo, merged}
+use Rattle.index.specs.Extend.{fits, extended, indexAfter}
+use Rattle.index.specs.Entries.{firstIf, picked, given}
 use Rattle.tile.specs.Siz.{pair, oneTile}
 use Rattle.tile.specs.Original.{fitting, reaching, axisOf, columnsOf, bothAxes, inGrid, tileArea}
 use Rattle.tile.specs.AnnexB.{laid, cellsOf, fromOf, toOf, cellArea, inCells, onGrid, gridTile}
@@ -27,6 +30,7 @@ use Rattle.tile.specs.Assembly.{rangeOf, andPart, partsIn, isSot, patched, part
 use Rattle.reader.specs.Components.{sizWhole, countHeld, apart, allApart, ordered, componentsRead, atTile, componentsInTile, divided, componentAt, isThere, componentIn, chosen, componentOf, componentInTile}
 use Rattle.reader.specs.Search.{boxAt, content, passed, onBox, foundFrom, isJp2, foundIn}
 use Rattle.laws.specs.Sample.{two, four, sizFrom, sizOf, siz, header, grid, counting, tlm, announcing, cap, sotOf, sot, part, head, withTlm, A, signature, jp2c}
+use Rattle.index.specs.Index as index
 use Rattle.parts.specs.Scan as scan
 use Rattle.parts.specs.Split as split
 use Rattle.tile.specs.Rewrite as rewrite
@@ -64,6 +68,10 @@ scan-runs = tt
 unfoldable pub orders : Unit {0}
 unfolding scan-runs flatten recordsAt recordsFrom recordsIn numbersOf numberedAs runFrom runs inOrder
 orders = tt
+
+unfoldable pub indexes : Unit {0}
+unfolding index.runFrom laterIn mergedTo merged fits extended indexAfter firstIf picked given
+indexes = tt
 
 unfoldable pub split-runs : Unit {0}
 unfolding samples partEnd splitStepAt split.moveOf split.moveAt splitFrom partsFrom partsOf

@@ -46,6 +46,18 @@ use Rattle.parts.specs.Tiles.{ofTile}
 use Rattle.parts.specs.Order.{inOrder}
 use Rattle.parts.proofs.OrderAnswers.{TPsotByte}
 use Rattle.parts.specs.declared.scan.Scanned.the-variants.{Table}
+use Rattle.index.specs.Index.{keyOf, indexOf}
+use Rattle.index.specs.Index.{numbered as numbered-entries}
+use Rattle.index.specs.Merge.{merged}
+use Rattle.index.specs.Run.{runIn}
+use Rattle.index.specs.Extend.{extended, indexAfter}
+use Rattle.index.specs.Entries.{picked, entriesBy}
+use Rattle.index.specs.Entries as entries
+use Rattle.index.specs.declared.extend.Indexed.the-variants.{Entries}
+use Rattle.index.specs.declared.extend.Indexed.the-variants as index
+use Rattle.index.proofs.Lookup.{run-there}
+use Rattle.index.proofs.IndexLaws.{run-of-tile, pair}
+use Rattle.index.proofs.IndexLaws as index-laws
 use Rattle.tile.specs.Rewrite.{fromZero, tileSize, rewritten, rewriteAnswer, rewriteOut}
 use Rattle.tile.specs.Assembly.{assemblyAnswer, assemblyOut}
 use Rattle.tile.specs.declared.rules.Rule.{Rule}
@@ -61,7 +73,7 @@ use Rattle.reader.specs.Growth.{regionAt, grown}
 use Rattle.reader.specs.declared.search.Found.the-variants.{Codestream}
 use Rattle.reader.proofs.GrowthLaws.{region-pow, whole-suffices, truncated-not, grown-end, grown-on}
 use Rattle.reader.proofs.GrowthFirst.{grown-only}
-use Rattle.laws.proofs.SampleComputing.{samples, extents, walks, numberings, editions, findings, scan-runs, orders, split-runs, tiles, searches, siz-readings, components}
+use Rattle.laws.proofs.SampleComputing.{samples, extents, walks, numberings, editions, findings, scan-runs, orders, indexes, split-runs, tiles, searches, siz-readings, components}
 use Rattle.laws.proofs.SampleNumbering.{three}
 use Rattle.laws.specs.Sample.{two, zeros, sizOf, header, grid, counting, tlm, announcing, cap, sotOf, sot, part, head, withTlm, A, signature, jp2c}
 use Rattle.laws.proofs.SampleStandard as standard
@@ -767,6 +779,118 @@ pub parts-257 : (numbers : PartNumbers) → TPsotByte numbers → inOrder 7 (num
 unfolding orders numbered
 parts-257 (Known t m) byte = ap (λ (b : Bool). (b && (eqb m 0 || eqb m 257)) && true) (ne-eqb t 256 (λ z. omega arith))
 parts-257 NotKnown byte = refl
+
+-- ---- * Index of A's scan: tile 0; 5; 1. Two entries of tiles 5 and 0; of one tile.
+
+abbrev key : ℕ → ℕ → ℕ
+key tile number = keyOf tile number
+
+pub A-index : indexOf (entriesFrom A 57) ≡ key 0 0 ∷ key 5 1 ∷ []
+unfolding indexes
+A-index = ap indexOf A-scan ∙ pair (only 0 57 14) (only 5 71 16) (omega arith) (omega arith)
+
+A-few : length (entriesFrom A 57) ≤ numbered-entries
+A-few = omega (arith, ap length A-scan)
+
+pub A-run-0 : runIn (indexOf (entriesFrom A 57)) 0 ≡ key 0 0 ∷ []
+unfolding scan-runs indexes
+A-run-0 = run-there 0 (entriesFrom A 57) (omega arith) A-few
+
+pub A-run-5 : runIn (indexOf (entriesFrom A 57)) 5 ≡ key 5 1 ∷ []
+unfolding scan-runs indexes
+A-run-5 = run-there 5 (entriesFrom A 57) (omega arith) A-few
+
+pub A-run-1 : runIn (indexOf (entriesFrom A 57)) 1 ≡ []
+unfolding scan-runs indexes
+A-run-1 = run-there 1 (entriesFrom A 57) (omega arith) A-few
+
+pub A-tile-5 : entriesBy (indexOf (entriesFrom A 57)) 5 (entriesFrom A 57) ≡ only 5 71 16 ∷ []
+unfolding scan-runs
+A-tile-5 = run-of-tile 5 (entriesFrom A 57) (omega arith) A-few
+
+pub tile-falls : indexOf (only 5 0 14 ∷ only 0 14 14 ∷ []) ≡ key 0 1 ∷ key 5 0 ∷ []
+unfolding indexes
+tile-falls = pair (only 5 0 14) (only 0 14 14) (omega arith) (omega arith)
+
+pub one-tile : indexOf (only 7 0 14 ∷ only 7 14 14 ∷ []) ≡ key 7 0 ∷ key 7 1 ∷ []
+unfolding indexes
+one-tile = pair (only 7 0 14) (only 7 14 14) (omega arith) (omega arith)
+
+-- ---- * Index of two entries into room for two; one. Scratch for two; one. One of them old: scratch for one; none. Three said to be old: scratch for two; one.
+
+pub two-fit : extended 2 0 2 2 ≡ Entries 2
+unfolding indexes
+two-fit = refl
+
+pub no-key : extended 2 0 1 2 ≡ index.Refused (refusal 18 2)
+unfolding indexes
+no-key = refl
+
+pub no-scratch : extended 2 0 2 1 ≡ index.Refused (refusal 18 2)
+unfolding indexes
+no-scratch = refl
+
+pub one-old : extended 2 1 2 1 ≡ Entries 2
+unfolding indexes
+one-old = refl
+
+pub one-old-no-scratch : extended 2 1 2 0 ≡ index.Refused (refusal 18 2)
+unfolding indexes
+one-old-no-scratch = refl
+
+pub too-old : extended 2 3 2 2 ≡ Entries 2
+unfolding indexes
+too-old = refl
+
+pub too-old-no-scratch : extended 2 3 2 1 ≡ index.Refused (refusal 18 2)
+unfolding indexes
+too-old-no-scratch = refl
+
+-- ---- * Index of 2^48 entries; one more, with any room.
+
+pub most-numbered : extended 0x1_0000_0000_0000 0 0x1_0000_0000_0000 0x1_0000_0000_0000 ≡ Entries 0x1_0000_0000_0000
+unfolding indexes
+most-numbered = refl
+
+pub too-many : extended 0x1_0000_0000_0001 0 0x1_0000_0000_0001 0x1_0000_0000_0001 ≡ index.Refused (refusal 18 0x1_0000_0000_0001)
+unfolding indexes
+too-many = refl
+
+-- ---- * Extended by a part of tile 5 where tile 5 has one, and tile 0; by none. Where the old keys are no index.
+
+pub gains : indexAfter (Entries 3) (only 5 0 14 ∷ only 0 14 14 ∷ only 5 28 14 ∷ []) 2 (key 0 1 ∷ key 5 0 ∷ 9 ∷ []) ≡ key 0 1 ∷ key 5 0 ∷ key 5 2 ∷ []
+unfolding indexes
+gains = ap (λ (l : List ℕ). merged (key 0 1 ∷ key 5 0 ∷ []) l ++ []) (index-laws.single 2 (only 5 28 14) (omega arith))
+
+pub gains-before : indexAfter (Entries 3) (only 5 0 14 ∷ only 0 14 14 ∷ only 0 28 14 ∷ []) 2 (key 0 1 ∷ key 5 0 ∷ 9 ∷ []) ≡ key 0 1 ∷ key 0 2 ∷ key 5 0 ∷ []
+unfolding indexes
+gains-before = ap (λ (l : List ℕ). merged (key 0 1 ∷ key 5 0 ∷ []) l ++ []) (index-laws.single 2 (only 0 28 14) (omega arith))
+
+pub no-index : indexAfter (Entries 3) (only 5 0 14 ∷ only 0 14 14 ∷ only 0 28 14 ∷ []) 2 (key 5 0 ∷ key 0 1 ∷ 9 ∷ []) ≡ key 5 0 ∷ key 0 1 ∷ key 0 2 ∷ []
+unfolding indexes
+no-index = ap (λ (l : List ℕ). merged (key 5 0 ∷ key 0 1 ∷ []) l ++ []) (index-laws.single 2 (only 0 28 14) (omega arith))
+
+-- ---- * Entries of tile 5 where a key says the second of one; where it says one of tile 0; both, and one that is its own. Rows for one; for none.
+
+pub past-the-table : picked 5 (only 5 0 14 ∷ []) (key 5 1 ∷ []) ≡ []
+unfolding indexes
+past-the-table = refl
+
+pub of-another : picked 5 (only 0 0 14 ∷ []) (key 5 0 ∷ []) ≡ []
+unfolding indexes
+of-another = refl
+
+pub its-own : picked 5 (only 0 0 14 ∷ only 5 14 14 ∷ []) (key 5 0 ∷ key 5 1 ∷ key 5 2 ∷ []) ≡ only 5 14 14 ∷ []
+unfolding indexes
+its-own = refl
+
+pub entry-in-row : entries.given 1 1 ≡ Entries 1
+unfolding indexes
+entry-in-row = refl
+
+pub entry-no-row : entries.given 1 0 ≡ index.Refused (refusal 18 1)
+unfolding indexes
+entry-no-row = refl
 
 -- ---- * Split of a part with Psot 14 and 11 more bytes: one part.
 

@@ -58,8 +58,8 @@ module _ {M : Type 1} (m : Model M) where
     pub by-one : {A B : Type 0} {a : O → A} {b : O → B} {k : A} (s : A → B)
         → ((x y : O) → (a x ≡ a y) × (b x ≡ b y) → E x y) → Shows E (λ x. ⌜ a x ≡ k ⌝ ∗ ⌜ b x ≡ s (a x) ⌝)
     by-one s h = row (λ x. and (id⊢ (m .𝓤) _)) (λ x y p q.
-      let first = settled (p .0) (q .0) in
-      h x y (first, p .1 ∙ ap s first ∙ sym (q .1)))
+        let first = settled (p .0) (q .0) in
+        h x y (first, p .1 ∙ ap s first ∙ sym (q .1)))
 
     -- the second and the third are given by the first
     pub by-first : {A B C : Type 0} {a : O → A} {b : O → B} {c : O → C} {k : A} (s : A → B) (t : A → C)
