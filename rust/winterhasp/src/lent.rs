@@ -5,7 +5,7 @@ use crate::tile_part::ROW;
 
 const ACCEPTED: u32 = 0;
 const OUTPUT_TOO_SMALL: u32 = 17;
-const TABLE_TOO_SMALL: u32 = 18;
+pub const TABLE_TOO_SMALL: u32 = 18;
 
 /// What a function may write to: rows, and bytes.
 #[derive(Default)]

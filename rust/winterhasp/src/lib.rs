@@ -50,6 +50,7 @@ mod search;
 mod siz;
 mod split;
 mod tile;
+mod tile_index;
 mod tile_part;
 
 pub use components::{
@@ -76,4 +77,5 @@ pub use tile::{
     build_minimal_codestream_from_parts, build_minimal_codestream_from_parts_by_rule,
     rewrite_siz_for_tile, rewrite_siz_for_tile_by_rule,
 };
+pub use tile_index::TileIndex;
 pub use tile_part::{PartNumbers, TilePart, TilePartBytes, TileParts};

@@ -73,7 +73,15 @@ pub fn from_rows(table: &[u8]) -> Vec<TilePart> {
 }
 
 pub fn to_rows(parts: &[TilePart]) -> Vec<u8> {
-    parts.iter().flat_map(|part| part.to_row()).collect()
+    let mut table = Vec::with_capacity(parts.len() * ROW);
+    append_rows(&mut table, parts);
+    table
+}
+
+pub fn append_rows(table: &mut Vec<u8>, parts: &[TilePart]) {
+    for part in parts {
+        table.extend_from_slice(&part.to_row());
+    }
 }
 
 /// The tile-parts of one tile: at least one, and all of that tile.
@@ -98,6 +106,12 @@ impl TileParts {
     pub fn of(index: u16, parts: &[TilePart]) -> Option<Self> {
         let of_tile = parts.iter().filter(|part| part.index == index);
         let parts: Vec<_> = of_tile.copied().collect();
+        (!parts.is_empty()).then_some(TileParts { index, parts })
+    }
+
+    /// The same of rows that are all of tile `index`.
+    pub(crate) fn of_rows(index: u16, rows: &[u8]) -> Option<Self> {
+        let parts = from_rows(rows);
         (!parts.is_empty()).then_some(TileParts { index, parts })
     }
 
