@@ -4,7 +4,7 @@ use std::path::{Path, PathBuf};
 
 use winterhasp::{
     build_minimal_codestream_by_rule, rewrite_siz_for_tile_by_rule, Components, Refusal, Rule,
-    TileParts,
+    TileIndex,
 };
 
 use crate::arguments::Tile;
@@ -69,7 +69,8 @@ fn cut(file: &Path, contents: &Contents, index: u16, rule: Rule) -> Result<Cut, 
     };
     // Asked first: where there is no grid no tile is missing.
     let rewritten = rewrite_siz_for_tile_by_rule(header, index, rule).map_err(refused)?;
-    let parts = TileParts::of(index, &accepted.parts);
+    let tiles = TileIndex::of(&accepted.parts).map_err(refused)?;
+    let parts = tiles.get(index);
     let parts = parts.ok_or_else(|| Trouble::refused(file, none_of(index)))?;
     contents.expect_order();
     let bytes = build_minimal_codestream_by_rule(header, &parts, codestream, rule);

@@ -2,7 +2,7 @@
 
 use std::ops::RangeInclusive;
 
-use winterhasp::{tile_in_order, TilePart};
+use winterhasp::{TileIndex, TilePart};
 
 use crate::siz::{Grid, MOST_TILES};
 
@@ -60,13 +60,10 @@ impl Tiles {
 
 /// The tiles whose parts stand out of order. Each is asked for over its own parts alone, since there may be
 /// as many tiles as indices.
-pub fn out_of_order(mut parts: Vec<TilePart>) -> Vec<RangeInclusive<usize>> {
-    // Parts of a tile stay in the order of the file.
-    parts.sort_by_key(|part| part.index);
+pub fn out_of_order(index: &TileIndex) -> Vec<RangeInclusive<usize>> {
     let mut found = vec![false; INDICES];
-    for tile in parts.chunk_by(|part, next| part.index == next.index) {
-        let index = tile[0].index;
-        found[usize::from(index)] = !tile_in_order(index, tile);
+    for tile in index.iter() {
+        found[usize::from(tile.index())] = !tile.in_order();
     }
     ranges(found.into_iter())
 }
@@ -106,7 +103,7 @@ pub fn ranges_text(ranges: &[RangeInclusive<usize>], most: usize) -> String {
 mod tests {
     use super::{out_of_order, ranges_text, Tiles};
     use crate::siz::Grid;
-    use winterhasp::{CodestreamOffset, PartNumbers, TilePart};
+    use winterhasp::{CodestreamOffset, PartNumbers, TileIndex, TilePart};
 
     fn part(index: u16, numbers: Option<PartNumbers>) -> TilePart {
         TilePart {
@@ -162,11 +159,9 @@ mod tests {
         let part = |(index, tpsot, tnsot)| part(index, Some(PartNumbers { tpsot, tnsot }));
         // 0 is in order among the others, 4 has its second part before its first, and of 65,535 one is missing
         let parts = [(4, 1, 2), (0, 0, 0), (65_535, 0, 2), (4, 0, 2), (0, 1, 2)];
-        assert_eq!(
-            out_of_order(parts.map(part).to_vec()),
-            [4..=4, 65_535..=65_535]
-        );
-        assert!(out_of_order(Vec::new()).is_empty());
+        let index = TileIndex::of(&parts.map(part)).expect("there is memory");
+        assert_eq!(out_of_order(&index), [4..=4, 65_535..=65_535]);
+        assert!(out_of_order(&TileIndex::default()).is_empty());
     }
 
     #[test]
