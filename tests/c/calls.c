@@ -345,6 +345,107 @@ static void parts(const uint8_t *sample)
     CHECK(winterhasp_split_at(joined, 30, 30, out, sizeof out, &value) == 0 && value == 0);
 }
 
+/* A table in which no two rows are alike, and its index: the numbers of its rows, tile by tile. */
+enum { ROWS = 6 };
+static const uint16_t tiles[ROWS] = { 5, 0, 65535, 5, 0, 5 };
+static const uint8_t numbers[ROWS] = { 1, 4, 0, 3, 5, 2 };
+
+static void indexed(uint8_t *table)
+{
+    memset(table, 0, ROWS * WINTERHASP_ROW_BYTES);
+    for (size_t i = 0; i < ROWS; i++) {
+        uint8_t *row = table + i * WINTERHASP_ROW_BYTES;
+        row[0] = (uint8_t)(tiles[i] >> 8);
+        row[1] = (uint8_t)tiles[i];
+        row[17] = (uint8_t)(14 + i);
+    }
+}
+
+static int keys_held(const uint64_t *keys, size_t count)
+{
+    return all_held((const uint8_t *)keys, count * sizeof *keys);
+}
+
+/* Into each of both too little, into both enough, and a table of no row. */
+static void index_made(const uint8_t *table, uint64_t *made)
+{
+    static const size_t small[][2] = { { 0, 0 }, { ROWS - 1, ROWS }, { ROWS, ROWS - 1 } };
+    uint64_t index[ROWS + 1], scratch[ROWS + 1], value;
+    size_t bytes = ROWS * WINTERHASP_ROW_BYTES;
+    memset(index, HELD, sizeof index);
+    memset(scratch, HELD, sizeof scratch);
+    for (size_t i = 0; i < sizeof small / sizeof *small; i++) {
+        value = 7;
+        CHECK(winterhasp_index_tiles(table, bytes, index, small[i][0], scratch, small[i][1], &value) == WINTERHASP_TABLE_TOO_SMALL);
+        CHECK(value == ROWS && keys_held(index, ROWS + 1) && keys_held(scratch, ROWS + 1));
+    }
+    CHECK(winterhasp_index_tiles(table, bytes, NULL, 0, NULL, 0, &value) == WINTERHASP_TABLE_TOO_SMALL && value == ROWS);
+    CHECK(winterhasp_index_tiles(table, bytes, index, ROWS + 1, scratch, ROWS + 1, &value) == 0 && value == ROWS);
+    for (size_t i = 0; i < ROWS; i++)
+        CHECK(winterhasp_key_number(index[i]) == numbers[i] && winterhasp_key_tile(index[i]) == tiles[numbers[i]]);
+    CHECK(memcmp(index, scratch, sizeof index) == 0 && keys_held(index + ROWS, 1));
+    memcpy(made, index, ROWS * sizeof *made);
+    CHECK(winterhasp_index_tiles(NULL, 0, NULL, 0, NULL, 0, &value) == 0 && value == 0);
+}
+
+/* From each number of rows on, with a scratch for the others alone; and of another table's index. */
+static void index_extended(const uint8_t *table, const uint64_t *made)
+{
+    uint64_t index[ROWS + 1], before[ROWS + 1], scratch[ROWS], value;
+    size_t bytes = ROWS * WINTERHASP_ROW_BYTES;
+    for (size_t have = 0; have <= ROWS; have++) {
+        size_t more = ROWS - have;
+        memset(index, HELD, sizeof index);
+        CHECK(winterhasp_index_tiles(table, have * WINTERHASP_ROW_BYTES, index, have, scratch, ROWS, &value) == 0 && value == have);
+        memcpy(before, index, sizeof index);
+        memset(scratch, HELD, sizeof scratch);
+        value = 7;
+        if (more > 0) {
+            CHECK(winterhasp_extend_index(table, bytes, have, index, ROWS, scratch, more - 1, &value) == WINTERHASP_TABLE_TOO_SMALL);
+            CHECK(value == ROWS && memcmp(index, before, sizeof index) == 0 && keys_held(scratch, ROWS));
+        }
+        CHECK(winterhasp_extend_index(table, bytes, have, index, ROWS - 1, scratch, ROWS, &value) == WINTERHASP_TABLE_TOO_SMALL);
+        CHECK(value == ROWS && memcmp(index, before, sizeof index) == 0 && keys_held(scratch, ROWS));
+        CHECK(winterhasp_extend_index(table, bytes, have, index, ROWS + 1, more ? scratch : NULL, more, &value) == 0 && value == ROWS);
+        CHECK(memcmp(index, made, ROWS * sizeof *made) == 0 && keys_held(index + ROWS, 1) && keys_held(scratch + more, have));
+    }
+    memset(index, HELD, sizeof index);
+    CHECK(winterhasp_extend_index(table, bytes, ROWS + 1, index, ROWS, scratch, ROWS, &value) == 0 && value == ROWS);
+    CHECK(memcmp(index, made, ROWS * sizeof *made) == 0 && memcmp(scratch, made, ROWS * sizeof *made) == 0);
+}
+
+/* Tile 5 has rows 0, 3 and 5, and tile 1 has none. */
+static void index_by_tile(void)
+{
+    uint8_t table[ROWS * WINTERHASP_ROW_BYTES], out[4 * WINTERHASP_ROW_BYTES];
+    uint64_t index[ROWS], first = 7, count = 7, value = 7;
+    indexed(table);
+    index_made(table, index);
+    index_extended(table, index);
+    CHECK(winterhasp_tile_run(index, ROWS, 5, &first, &count) == 1 && first == 2 && count == 3);
+    CHECK(winterhasp_tile_run(index, ROWS, 65535, &first, &count) == 1 && first == 5 && count == 1);
+    CHECK(winterhasp_tile_run(index, ROWS, 1, &first, &count) == 0 && first == 2 && count == 0);
+    CHECK(winterhasp_tile_run(NULL, 0, 5, &first, &count) == 0 && first == 0 && count == 0);
+
+    memset(out, HELD, sizeof out);
+    CHECK(winterhasp_tile_entries(table, sizeof table, index, ROWS, 5, out, 3 * WINTERHASP_ROW_BYTES - 1, &value) ==
+          WINTERHASP_TABLE_TOO_SMALL);
+    CHECK(value == 3 && all_held(out, sizeof out));
+    CHECK(winterhasp_tile_entries(table, sizeof table, index, ROWS, 1, NULL, 0, &value) == 0 && value == 0);
+    CHECK(winterhasp_tile_entries(table, sizeof table, index, ROWS, 5, out, sizeof out, &value) == 0 && value == 3);
+    for (size_t i = 0; i < 3; i++) {
+        const uint8_t *row = table + winterhasp_key_number(index[2 + i]) * WINTERHASP_ROW_BYTES;
+        CHECK(memcmp(out + i * WINTERHASP_ROW_BYTES, row, WINTERHASP_ROW_BYTES) == 0);
+    }
+    CHECK(all_held(out + 3 * WINTERHASP_ROW_BYTES, WINTERHASP_ROW_BYTES));
+
+    /* no index: row 99, which is not there, row 1, of tile 0, and row 3 */
+    for (size_t i = 0; i < 3; i++)
+        index[i] = ((uint64_t)5 << 48) + (i == 0 ? 99 : 2 * i - 1);
+    CHECK(winterhasp_tile_entries(table, sizeof table, index, 3, 5, out, sizeof out, &value) == 0 && value == 1);
+    CHECK(winterhasp_row_index(out) == 5 && winterhasp_row_length(out) == 17);
+}
+
 /* Tile 5 of the sample is 2 by 2, and its part of 16 bytes is the second. */
 static void tile(const uint8_t *sample, const uint8_t *decode_header)
 {
@@ -484,6 +585,7 @@ int main(void)
     editions();
     too_many_entries();
     parts(sample);
+    index_by_tile();
     tile(sample, decode_header);
     tile_by_rule(sample);
     return differs ? EXIT_FAILURE : EXIT_SUCCESS;
