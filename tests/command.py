@@ -837,6 +837,15 @@ class Runs:
             self.run("tile", "twice.j2k", "0", "-o", OUT, "--rule", rule)
             joined = header[rule] + part(0, 14) + part(0, 15) + EOC
             self.hold(f"tile twice.j2k 0 {rule}", (self.folder / OUT).read_bytes(), joined)
+        # by turns, with tiles that descend and none of tile 3
+        tiles = [5, 4, 2, 1, 0]
+        turns = with_header(siz(), parts=b"".join(numbered(tile, turn, 3) for turn in range(3) for tile in tiles))
+        for file in "turns.j2k", "turns.jp2":
+            self.by_rules(file, turns, tiles)
+            self.cases([Case(["tile", file, "3", "-o", OUT], 1, error=about(file, absent.format(3)))])
+            shown = self.run("show", file)[1].splitlines()
+            saw = [line for line in shown if line.startswith(("present ", "missing ", "order "))]
+            self.hold(f"show {file}", saw, ["present     5 of 6 tiles", "missing     1: 3"])
 
     def packed(self):
         """A main header with the packet headers of all tiles: no tile is cut out, by any rule, also of one that is not there. All
@@ -1022,6 +1031,14 @@ class Runs:
         self.ordered("order-many.j2k", [[tile, tile] for tile in range(0, 65_535, 3)])
         took = time.monotonic() - before
         print(f"command: show order-many.j2k, twice: {took:.2f} s")
+        # and one of them cut out, the last of the grid
+        header = SOC + size_segment((255, 257), (1, 1), (254, 256), (254, 256))
+        wanted = header + b"".join(numbered(0, number, 16) for number in range(16)) + EOC
+        before = time.monotonic()
+        saw = self.cut("order-many.j2k", 65_534, None)
+        took = time.monotonic() - before
+        self.hold("tile order-many.j2k 65534", saw, (0, wanted, None))
+        print(f"command: tile order-many.j2k 65534: {took:.2f} s")
         (self.folder / "order-many.j2k").unlink()
 
     def ordered(self, file, ranges, status=0, said=""):
