@@ -20,6 +20,8 @@
 //! # Ok::<(), Box<dyn std::error::Error>>(())
 //! ```
 //!
+//! To look up one tile after another, and as tile-parts are appended late, there is [`TileIndex`].
+//!
 //! Functions that take no [`Rule`] go by Annex B's, which moves a tile that is cut out to 0, 0; the one
 //! that takes no [`Reading`] numbers on over a length table's segments, by the older edition.
 //!
