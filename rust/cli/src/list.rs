@@ -8,7 +8,7 @@ use indicatif::{ProgressBar, ProgressStyle};
 use rayon::prelude::*;
 use rayon::{ThreadPool, ThreadPoolBuilder};
 use serde::Serialize;
-use winterhasp::{FileOffset, Reading, Refusal, TilePart};
+use winterhasp::{scan_sot_markers, FileOffset, Reading, Refusal, TilePart};
 
 use crate::arguments::List;
 use crate::contents::Contents;
@@ -210,20 +210,20 @@ struct Header {
 
 fn listed(path: &Path, reading: Reading) -> Result<Listing, Trouble> {
     let contents = Contents::open(path)?;
-    let listing = Listing::of(Stages::of(contents.bytes(), reading));
+    let listing = Listing::of(Stages::of(contents.bytes(), reading, scan_sot_markers));
     contents.unchanged(path)?;
     Ok(listing)
 }
 
 impl Listing {
-    fn of(stages: Stages) -> Self {
+    fn of(stages: Stages<Vec<TilePart>>) -> Self {
         let end = stages.codestream.zip(stages.parts.as_deref());
         Listing {
             codestream: stages.codestream.map(|codestream| Place {
                 start: codestream.start.0,
                 length: codestream.bytes.len() as u64,
             }),
-            end: end.and_then(|(codestream, parts)| End::of(codestream.bytes, parts)),
+            end: end.and_then(|(codestream, parts)| End::of(codestream.bytes, parts.last()?)),
             header: stages.header.map(|header| Header {
                 first_sot: header.first_sot.0,
                 decode_length: header.decode_header.len() as u64,

@@ -3,6 +3,8 @@
 use std::fmt::Write;
 use std::path::Path;
 
+use winterhasp::{scan_sot_markers, TilePart};
+
 use crate::arguments;
 use crate::contents::Contents;
 use crate::names::shown;
@@ -23,6 +25,8 @@ pub fn grid(arguments: &arguments::Grid) -> Result<Status, Trouble> {
     Ok(Status::Accepted)
 }
 
+type Scanned<'a> = Accepted<'a, Vec<TilePart>>;
+
 struct Picture {
     cells: Cells,
     tiles: Vec<Tile>,
@@ -33,7 +37,7 @@ struct Picture {
 
 impl Picture {
     fn of(path: &Path, file: &[u8]) -> Result<Self, Trouble> {
-        let accepted = Accepted::of(file);
+        let accepted = Accepted::of(file, scan_sot_markers);
         let accepted = accepted.map_err(|(why, at)| Trouble::refused(path, sentence(why, at)))?;
         let siz = Siz::of(&accepted.header.decode_header);
         let siz = siz
@@ -46,7 +50,7 @@ impl Picture {
             let why = format!("its grid has {count} tiles, more than the {MOST_TILES} that an index can name; nothing is drawn");
             return Err(Trouble::refused(path, why));
         }
-        let tiles = Tiles::of(&accepted.parts);
+        let tiles = Tiles::of(accepted.parts.iter().copied());
         let inside = tiles.inside(grid).to_vec();
         Ok(Picture {
             cells: Cells::of(grid, &siz, &inside),
@@ -348,7 +352,7 @@ fn class(shade: usize) -> String {
 }
 
 /// The file's name and totals.
-fn legend(path: &Path, accepted: &Accepted, siz: &Siz, grid: Grid, tiles: &Tiles) -> Vec<String> {
+fn legend(path: &Path, accepted: &Scanned, siz: &Siz, grid: Grid, tiles: &Tiles) -> Vec<String> {
     let [x, y] = siz.image().unwrap_or(siz.size);
     let [w, h] = siz.tile;
     let Grid { columns, rows } = grid;
@@ -364,7 +368,7 @@ fn legend(path: &Path, accepted: &Accepted, siz: &Siz, grid: Grid, tiles: &Tiles
     ]
 }
 
-fn warnings(accepted: &Accepted, grid: Grid, tiles: &Tiles) -> Vec<String> {
+fn warnings(accepted: &Scanned, grid: Grid, tiles: &Tiles) -> Vec<String> {
     const MOST: usize = 8;
     let mut warnings = Vec::new();
     let missing = tiles.missing(grid).unwrap_or_default();
@@ -379,7 +383,8 @@ fn warnings(accepted: &Accepted, grid: Grid, tiles: &Tiles) -> Vec<String> {
             "not drawn, as they lie outside the grid: {outside}"
         ));
     }
-    let end = End::of(accepted.codestream.bytes, &accepted.parts);
+    let last = accepted.parts.last();
+    let end = last.and_then(|last| End::of(accepted.codestream.bytes, last));
     if let Some(end) = end.filter(|end| matches!(end.what, Stopped::AtOther(_))) {
         let End { at, unread, .. } = end;
         warnings.push(format!(

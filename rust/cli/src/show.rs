@@ -7,7 +7,6 @@ use std::path::Path;
 use serde::Serialize;
 use winterhasp::{
     parse_siz_marker, Codestream, Components, FileOffset, MainHeader, Reading, Refusal, TileIndex,
-    TilePart,
 };
 
 use crate::arguments;
@@ -149,10 +148,7 @@ struct Ended {
 impl Report {
     /// And a sentence where the file is refused, or the tile that is asked for.
     fn of(path: &Path, file: &[u8], reading: Reading, tile: Option<u16>) -> (Self, Option<String>) {
-        let mut stages = Stages::of(file, reading);
-        let parts = stages.parts.take().or_else(|| parts_of_refused(&stages));
-        let parts = parts.unwrap_or_default();
-        let index = TileIndex::of(&parts);
+        let stages = Stages::of(file, reading, TileIndex::scan);
         let start = stages.start();
         let header = header_with_siz(&stages);
         let (siz, siz_refused) = header.map_or((None, None), siz_of);
@@ -163,7 +159,6 @@ impl Report {
             .zip(known)
             .map(|(tile, header)| Components::read_in_tile(header, tile));
         let of_file = stages.refused.or(siz_refused).or(refused(components));
-        let of_file = of_file.or(index.as_ref().err().copied());
         let refusal = of_file.or(refused(in_tile));
         let mut report = Report {
             file: shown(path),
@@ -192,9 +187,11 @@ impl Report {
         if let Some(siz) = &siz {
             report.add_siz(siz);
         }
-        if let Some((codestream, index)) = stages.codestream.zip(index.ok()) {
+        if let Some((codestream, fetch)) = stages.codestream.zip(stages.fetch) {
+            let parts = stages.parts;
+            let parts = parts.or_else(|| parts_of_refused(stages.refused, codestream, fetch));
             let grid = siz.as_ref().and_then(Siz::grid);
-            report.add_parts(codestream, &parts, &index, grid);
+            report.add_parts(codestream, &parts.unwrap_or_default(), grid);
         }
         let trouble = refusal.map(|refusal| match (of_file, tile) {
             (None, Some(tile)) => format!("tile {tile}: {}", sentence(refusal, start)),
@@ -213,23 +210,16 @@ impl Report {
         });
     }
 
-    /// With the index of the parts.
-    fn add_parts(
-        &mut self,
-        codestream: Codestream,
-        parts: &[TilePart],
-        index: &TileIndex,
-        grid: Option<Grid>,
-    ) {
-        let Some(first) = parts.first() else {
+    fn add_parts(&mut self, codestream: Codestream, index: &TileIndex, grid: Option<Grid>) {
+        let Some((first, last)) = index.parts().next().zip(index.parts().next_back()) else {
             return;
         };
-        let end = End::of(codestream.bytes, parts);
+        let end = End::of(codestream.bytes, &last);
         self.scan_ended = end.map(|end| Ended::of(end, codestream.start));
-        self.tiles = grid.map(|grid| TilesReport::of(&Tiles::of(parts), grid));
+        self.tiles = grid.map(|grid| TilesReport::of(&Tiles::of(index.parts()), grid));
         self.tile_parts = Some(TileParts {
-            count: parts.len() as u64,
-            bytes: parts.iter().map(|part| part.length).sum(),
+            count: index.len() as u64,
+            bytes: index.parts().map(|part| part.length).sum(),
             first: Offsets::of(first.offset, codestream.start),
             out_of_order_ranges: pairs(out_of_order(index)),
         });
@@ -343,7 +333,7 @@ fn place(codestream: Codestream) -> Place {
     }
 }
 
-fn header_of(stages: &Stages) -> Option<Header> {
+fn header_of(stages: &Stages<TileIndex>) -> Option<Header> {
     let (codestream, header) = stages.codestream.zip(stages.header.as_ref())?;
     // A header that was accepted is not refused here.
     let ppm = packed_headers(codestream.bytes, header).ok().flatten();
@@ -363,7 +353,7 @@ fn known<const N: usize>(lines: [(&str, Option<String>); N]) -> impl Iterator<It
 }
 
 /// Of a header that was accepted, or that was refused behind SIZ.
-fn header_with_siz<'a>(stages: &'a Stages) -> Option<&'a [u8]> {
+fn header_with_siz<'a>(stages: &'a Stages<TileIndex>) -> Option<&'a [u8]> {
     match (&stages.header, stages.refused) {
         (Some(header), _) => Some(&header.decode_header),
         (None, Some(refusal)) if behind_siz(refusal) => Some(stages.codestream?.bytes),
@@ -389,9 +379,13 @@ fn behind_siz(refusal: Refusal) -> bool {
 }
 
 /// What the scan lists where only TLM or CAP is wrong, as the remedy says.
-fn parts_of_refused(stages: &Stages) -> Option<Vec<TilePart>> {
-    stages.refused.filter(|refusal| behind_siz(*refusal))?;
-    parts_without_tlm(stages.codestream?.bytes, stages.fetch?)
+fn parts_of_refused(
+    refusal: Option<Refusal>,
+    codestream: Codestream,
+    fetch: Fetch,
+) -> Option<TileIndex> {
+    refusal.filter(|refusal| behind_siz(*refusal))?;
+    parts_without_tlm(codestream.bytes, fetch)
 }
 
 impl FetchReport {

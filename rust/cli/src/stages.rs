@@ -2,8 +2,8 @@
 
 use winterhasp::{
     find_codestream, find_marker, grow_header_region, main_header_extent,
-    parse_main_header_by_reading, scan_sot_markers, Codestream, CodestreamOffset, Edition,
-    FileOffset, HeaderRegion, MainHeader, MainHeaderExtent, Numbering, Reading, Refusal, TilePart,
+    parse_main_header_by_reading, Codestream, CodestreamOffset, Edition, FileOffset, HeaderRegion,
+    MainHeader, MainHeaderExtent, Numbering, Reading, Refusal, TileIndex, TilePart,
 };
 
 const MARKER: u64 = 2;
@@ -18,13 +18,16 @@ const LEAST: Reading = Reading {
     edition: Edition::Older,
 };
 
+/// How tile-parts are scanned: to a list of them, or to an index.
+pub type Scan<P> = fn(&[u8], CodestreamOffset) -> Result<P, Refusal>;
+
 /// What each stage gave, up to the first that refused.
 #[derive(Default)]
-pub struct Stages<'a> {
+pub struct Stages<'a, P> {
     pub codestream: Option<Codestream<'a>>,
     pub fetch: Option<Fetch>,
     pub header: Option<MainHeader>,
-    pub parts: Option<Vec<TilePart>>,
+    pub parts: Option<P>,
     pub refused: Option<Refusal>,
 }
 
@@ -38,20 +41,20 @@ pub struct Fetch {
 
 /// A file that every stage accepted.
 #[derive(Debug)]
-pub struct Accepted<'a> {
+pub struct Accepted<'a, P> {
     pub codestream: Codestream<'a>,
     pub header: MainHeader,
-    pub parts: Vec<TilePart>,
+    pub parts: P,
 }
 
-impl<'a> Stages<'a> {
-    pub fn of(file: &'a [u8], reading: Reading) -> Self {
+impl<'a, P: Default> Stages<'a, P> {
+    pub fn of(file: &'a [u8], reading: Reading, scan: Scan<P>) -> Self {
         let mut stages = Stages::default();
-        stages.refused = stages.go(file, reading).err();
+        stages.refused = stages.go(file, reading, scan).err();
         stages
     }
 
-    fn go(&mut self, file: &'a [u8], reading: Reading) -> Result<(), Refusal> {
+    fn go(&mut self, file: &'a [u8], reading: Reading, scan: Scan<P>) -> Result<(), Refusal> {
         let codestream = find_codestream(file)?;
         self.codestream = Some(codestream);
         let fetch = Fetch::of(codestream.bytes);
@@ -59,7 +62,7 @@ impl<'a> Stages<'a> {
         let header = main_header(codestream.bytes, fetch, reading)?;
         let first_sot = header.first_sot;
         self.header = Some(header);
-        self.parts = Some(scan_sot_markers(codestream.bytes, first_sot)?);
+        self.parts = Some(scan(codestream.bytes, first_sot)?);
         Ok(())
     }
 
@@ -86,15 +89,15 @@ impl Fetch {
     }
 }
 
-impl<'a> Accepted<'a> {
+impl<'a, P> Accepted<'a, P> {
     /// Or the refusal, and where the codestream starts in the file if it was found. The header's own table
     /// is not looked at, so it is numbered so that no number is refused.
-    pub fn of(file: &'a [u8]) -> Result<Self, (Refusal, Option<FileOffset>)> {
+    pub fn of(file: &'a [u8], scan: Scan<P>) -> Result<Self, (Refusal, Option<FileOffset>)> {
         let codestream = find_codestream(file).map_err(|refusal| (refusal, None))?;
         let refused = |refusal| (refusal, Some(codestream.start));
         let fetch = Fetch::of(codestream.bytes);
         let header = main_header(codestream.bytes, fetch, LEAST).map_err(refused)?;
-        let parts = scan_sot_markers(codestream.bytes, header.first_sot).map_err(refused)?;
+        let parts = scan(codestream.bytes, header.first_sot).map_err(refused)?;
         Ok(Accepted {
             codestream,
             header,
@@ -153,8 +156,8 @@ fn first(bytes: &[u8], length: u64) -> &[u8] {
 }
 
 /// The tile-parts behind a header that was refused for its TLM alone.
-pub fn parts_without_tlm(codestream: &[u8], fetch: Fetch) -> Option<Vec<TilePart>> {
-    scan_sot_markers(codestream, fetch.first_sot?).ok()
+pub fn parts_without_tlm(codestream: &[u8], fetch: Fetch) -> Option<TileIndex> {
+    TileIndex::scan(codestream, fetch.first_sot?).ok()
 }
 
 /// Where a scan that was accepted stopped.
@@ -178,8 +181,8 @@ pub enum Stopped {
 }
 
 impl End {
-    pub fn of(codestream: &[u8], parts: &[TilePart]) -> Option<Self> {
-        let last = parts.last()?;
+    /// Behind the last of its tile-parts.
+    pub fn of(codestream: &[u8], last: &TilePart) -> Option<Self> {
         let at = last.offset.0.checked_add(last.length)?;
         let left = (codestream.len() as u64).saturating_sub(at);
         let (what, unread) = match at_place(codestream, at) {
@@ -207,13 +210,16 @@ fn reaches_to_the_end(codestream: &[u8], last: &TilePart) -> bool {
 
 #[cfg(test)]
 mod tests {
+    use winterhasp::scan_sot_markers;
+
     use super::{packed_headers, Accepted, End, Stopped};
 
     const SAMPLE: &[u8] = include_bytes!("../../../crates/tileparts/stdin");
 
     fn end(file: &[u8]) -> (u64, Stopped, u64) {
-        let accepted = Accepted::of(file).expect("accepted");
-        let end = End::of(accepted.codestream.bytes, &accepted.parts).expect("a part");
+        let accepted = Accepted::of(file, scan_sot_markers).expect("accepted");
+        let last = accepted.parts.last().expect("a part");
+        let end = End::of(accepted.codestream.bytes, last).expect("its end");
         (end.at.0, end.what, end.unread)
     }
 
@@ -234,7 +240,7 @@ mod tests {
     /// What stands between SIZ and the first tile-part of the sample, in place of TLM.
     fn packed(between: &[u8], parts: &[u8]) -> Option<u64> {
         let file = [&SAMPLE[..45], between, parts].concat();
-        let accepted = Accepted::of(&file).expect("accepted");
+        let accepted = Accepted::of(&file, scan_sot_markers).expect("accepted");
         let found = packed_headers(accepted.codestream.bytes, &accepted.header);
         found.expect("not refused").map(|at| at.0)
     }

@@ -48,7 +48,7 @@ struct Cut {
 }
 
 fn cut(file: &Path, contents: &Contents, index: u16, rule: Rule) -> Result<Cut, Trouble> {
-    let accepted = Accepted::of(contents.bytes());
+    let accepted = Accepted::of(contents.bytes(), TileIndex::scan);
     let accepted = accepted.map_err(|(why, at)| Trouble::refused(file, sentence(why, at)))?;
     let start = accepted.codestream.start;
     let codestream = accepted.codestream.bytes;
@@ -69,8 +69,7 @@ fn cut(file: &Path, contents: &Contents, index: u16, rule: Rule) -> Result<Cut, 
     };
     // Asked first: where there is no grid no tile is missing.
     let rewritten = rewrite_siz_for_tile_by_rule(header, index, rule).map_err(refused)?;
-    let tiles = TileIndex::of(&accepted.parts).map_err(refused)?;
-    let parts = tiles.get(index);
+    let parts = accepted.parts.get(index);
     let parts = parts.ok_or_else(|| Trouble::refused(file, none_of(index)))?;
     contents.expect_order();
     let bytes = build_minimal_codestream_by_rule(header, &parts, codestream, rule);

@@ -18,7 +18,7 @@ pub struct Tile {
 pub struct Tiles(Vec<Tile>);
 
 impl Tiles {
-    pub fn of(parts: &[TilePart]) -> Self {
+    pub fn of(parts: impl Iterator<Item = TilePart>) -> Self {
         let mut tiles = vec![Tile::default(); INDICES];
         for part in parts {
             let tile = &mut tiles[usize::from(part.index)];
@@ -116,7 +116,7 @@ mod tests {
 
     fn tiles(indices: &[u16]) -> Tiles {
         let part = |&index| part(index, None);
-        Tiles::of(&indices.iter().map(part).collect::<Vec<_>>())
+        Tiles::of(indices.iter().map(part))
     }
 
     const SIX: Grid = Grid {

@@ -27,8 +27,13 @@ pub fn scan_sot_markers(
     codestream: &[u8],
     first_sot: CodestreamOffset,
 ) -> Result<Vec<TilePart>, Refusal> {
+    Ok(from_rows(&scanned(codestream, first_sot)?))
+}
+
+/// The same as a table's rows.
+pub fn scanned(codestream: &[u8], first_sot: CodestreamOffset) -> Result<Vec<u8>, Refusal> {
     let (lent, _) = lend(|lent, [entries]| {
         boundary::scan_sot_markers(codestream, first_sot.0, &mut lent.table, entries)
     })?;
-    Ok(from_rows(&lent.table))
+    Ok(lent.table)
 }

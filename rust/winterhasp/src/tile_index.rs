@@ -2,11 +2,22 @@
 
 use crate::boundary;
 use crate::lent::{accepted, TABLE_TOO_SMALL};
+use crate::offsets::CodestreamOffset;
 use crate::refusal::Refusal;
-use crate::tile_part::{append_rows, TilePart, TileParts, ROW};
+use crate::scan::scanned;
+use crate::tile_part::{append_rows, records, TilePart, TileParts, ROW};
 
 /// A key is its entry's tile times 2^48, and its entry's number in the table.
 const NUMBER_BITS: u32 = 48;
+
+/// Takes the table, how many of its rows have a key, the keys, a scratch for those of the other rows, and
+/// where the number of all goes.
+type Call = fn(&[u8], u64, &mut [u64], &mut [u64], &mut u64) -> u32;
+
+/// As one that extends no index.
+fn afresh(table: &[u8], _: u64, keys: &mut [u64], scratch: &mut [u64], entries: &mut u64) -> u32 {
+    boundary::index_tiles(table, keys, scratch, entries)
+}
 
 /// Tile-parts and an index of them: for each tile that has one its own, in their order. Looking up a tile
 /// reads these alone, however many others there are.
@@ -49,9 +60,31 @@ impl TileIndex {
     /// ```
     pub fn of(parts: &[TilePart]) -> Result<Self, Refusal> {
         let mut index = TileIndex::default();
-        index.append(parts, |table, _, keys, scratch, entries| {
-            boundary::index_tiles(table, keys, scratch, entries)
-        })?;
+        index.append(parts, afresh)?;
+        Ok(index)
+    }
+
+    /// That of the tile-parts that [`scan_sot_markers`](crate::scan_sot_markers) finds, or its refusal; with
+    /// less memory and time, as no record is made of them.
+    ///
+    /// ```
+    /// use winterhasp::{scan_sot_markers, CodestreamOffset, TileIndex};
+    ///
+    /// let codestream = std::fs::read("sample-a.j2k")?;
+    /// let index = TileIndex::scan(&codestream, CodestreamOffset(57))?;
+    /// let parts = scan_sot_markers(&codestream, CodestreamOffset(57))?;
+    /// assert_eq!(index, TileIndex::of(&parts)?);
+    ///
+    /// let refusal = TileIndex::scan(&codestream[..80], CodestreamOffset(57)).unwrap_err();
+    /// assert_eq!((refusal.number(), refusal.place()), (7, 71));
+    /// # Ok::<(), Box<dyn std::error::Error>>(())
+    /// ```
+    pub fn scan(codestream: &[u8], first_sot: CodestreamOffset) -> Result<Self, Refusal> {
+        let mut index = TileIndex {
+            table: scanned(codestream, first_sot)?,
+            keys: Vec::new(),
+        };
+        index.index_rows(afresh)?;
         Ok(index)
     }
 
@@ -73,28 +106,34 @@ impl TileIndex {
         self.append(appended, boundary::extend_index)
     }
 
-    /// `call` takes the table, how many of its entries have a key, the keys, a scratch with room for those
-    /// of the others, and where their number goes.
-    fn append(
-        &mut self,
-        appended: &[TilePart],
-        call: impl FnOnce(&[u8], u64, &mut [u64], &mut [u64], &mut u64) -> u32,
-    ) -> Result<(), Refusal> {
-        let (have, more) = (self.keys.len(), appended.len());
-        let needed = have.saturating_add(more);
+    fn append(&mut self, appended: &[TilePart], call: Call) -> Result<(), Refusal> {
+        let had = self.table.len();
+        let needed = self.len().saturating_add(appended.len());
         let refusal = Refusal::new(TABLE_TOO_SMALL, needed as u64);
-        let bytes = more.checked_mul(ROW).ok_or(refusal)?;
-        let mut scratch = Vec::new();
-        scratch.try_reserve_exact(more).map_err(|_| refusal)?;
-        self.table.try_reserve(bytes).map_err(|_| refusal)?;
-        self.keys.try_reserve(more).map_err(|_| refusal)?;
-        scratch.resize(more, 0);
+        let more = appended.len().checked_mul(ROW).ok_or(refusal)?;
+        self.table.try_reserve(more).map_err(|_| refusal)?;
         append_rows(&mut self.table, appended);
-        self.keys.resize(needed, 0);
+        let indexed = self.index_rows(call);
+        if indexed.is_err() {
+            self.table.truncate(had);
+        }
+        indexed
+    }
+
+    /// Has `call` put the keys of rows that have none yet among the others. On a refusal these stay.
+    fn index_rows(&mut self, call: Call) -> Result<(), Refusal> {
+        let (have, rows) = (self.keys.len(), self.table.len() / ROW);
+        let refusal = Refusal::new(TABLE_TOO_SMALL, rows as u64);
+        let mut scratch = Vec::new();
+        scratch
+            .try_reserve_exact(rows - have)
+            .map_err(|_| refusal)?;
+        self.keys.try_reserve(rows - have).map_err(|_| refusal)?;
+        scratch.resize(rows - have, 0);
+        self.keys.resize(rows, 0);
         let (table, keys) = (&self.table, &mut self.keys);
         let made = accepted(|[entries]| call(table, have as u64, keys, &mut scratch, entries));
         if made.is_err() {
-            self.table.truncate(have * ROW);
             self.keys.truncate(have);
         }
         made.map(|_| ())
@@ -131,9 +170,9 @@ impl TileIndex {
     /// The tile-parts of each tile that has one, the tiles ascending.
     ///
     /// ```
-    /// # use winterhasp::{scan_sot_markers, CodestreamOffset, TileIndex};
+    /// # use winterhasp::{CodestreamOffset, TileIndex};
     /// let codestream = std::fs::read("sample-a.j2k")?;
-    /// let index = TileIndex::of(&scan_sot_markers(&codestream, CodestreamOffset(57))?)?;
+    /// let index = TileIndex::scan(&codestream, CodestreamOffset(57))?;
     /// assert!(index.iter().all(|tile| tile.in_order()));
     /// # Ok::<(), Box<dyn std::error::Error>>(())
     /// ```
@@ -150,9 +189,9 @@ impl TileIndex {
     /// The tiles that have a tile-part, ascending.
     ///
     /// ```
-    /// # use winterhasp::{scan_sot_markers, CodestreamOffset, TileIndex};
+    /// # use winterhasp::{CodestreamOffset, TileIndex};
     /// let codestream = std::fs::read("sample-a.j2k")?;
-    /// let index = TileIndex::of(&scan_sot_markers(&codestream, CodestreamOffset(57))?)?;
+    /// let index = TileIndex::scan(&codestream, CodestreamOffset(57))?;
     /// assert!(index.tiles().eq([0, 5]));
     /// # Ok::<(), Box<dyn std::error::Error>>(())
     /// ```
@@ -160,12 +199,26 @@ impl TileIndex {
         self.runs().map(|run| tile_of(run[0]))
     }
 
+    /// All tile-parts, in their order.
+    ///
+    /// ```
+    /// # use winterhasp::{CodestreamOffset, TileIndex, TilePart};
+    /// # let offset = CodestreamOffset(71);
+    /// let part = TilePart { index: 5, offset, length: 16, numbers: None };
+    /// let other = TilePart { index: 0, ..part };
+    /// assert!(TileIndex::of(&[part, other])?.parts().eq([part, other]));
+    /// # Ok::<(), winterhasp::Refusal>(())
+    /// ```
+    pub fn parts(&self) -> impl DoubleEndedIterator<Item = TilePart> + ExactSizeIterator + '_ {
+        records(&self.table)
+    }
+
     /// How many tile-parts there are of all tiles.
     ///
     /// ```
-    /// # use winterhasp::{scan_sot_markers, CodestreamOffset, TileIndex};
+    /// # use winterhasp::{CodestreamOffset, TileIndex};
     /// let codestream = std::fs::read("sample-a.j2k")?;
-    /// let index = TileIndex::of(&scan_sot_markers(&codestream, CodestreamOffset(57))?)?;
+    /// let index = TileIndex::scan(&codestream, CodestreamOffset(57))?;
     /// assert_eq!((index.len(), index.is_empty()), (2, false));
     /// # Ok::<(), Box<dyn std::error::Error>>(())
     /// ```
@@ -244,6 +297,7 @@ mod tests {
         tiles.sort();
         tiles.dedup();
         assert!(index.tiles().eq(tiles.iter().copied()));
+        assert!(index.parts().eq(parts.iter().copied()));
         assert_eq!(index.len(), parts.len());
         assert_eq!(index.is_empty(), parts.is_empty());
         let beside = tiles.iter().flat_map(|&tile| {

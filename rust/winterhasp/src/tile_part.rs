@@ -69,7 +69,12 @@ impl TilePart {
 
 /// The records of a table's rows.
 pub fn from_rows(table: &[u8]) -> Vec<TilePart> {
-    table.as_chunks().0.iter().map(TilePart::from_row).collect()
+    records(table).collect()
+}
+
+/// The same, one by one.
+pub fn records(table: &[u8]) -> impl DoubleEndedIterator<Item = TilePart> + ExactSizeIterator + '_ {
+    table.as_chunks().0.iter().map(TilePart::from_row)
 }
 
 pub fn to_rows(parts: &[TilePart]) -> Vec<u8> {
