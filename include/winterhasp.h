@@ -3,14 +3,16 @@
  *
  * `rt staticlib host` writes target/staticlib/libhost.a, for x86-64: cc program.c target/staticlib/libhost.a
  *
- * What is lent. Bytes, and the keys of an index, are lent as a pointer and their number; where that is 0 the pointer may be NULL. What is
- * `const` is read, the rest is written to. Nothing that is written may overlap anything else that is lent, and nothing is kept after
- * the call. No function allocates, blocks, calls back or holds state: each may be called from any thread.
+ * What is lent. Bytes, and the keys of an index, are lent as a pointer and their number; where that is 0 the
+ * pointer may be NULL. What is `const` is read, the rest is written to. Nothing that is written may overlap
+ * anything else that is lent, and nothing is kept after the call. No function allocates, blocks, calls back
+ * or holds state: each may be called from any thread.
  *
- * What comes back. 0 where a function accepts, and else a refusal's number. The first number that is lent (`value`,
- * `first_sot`, `start`, `width`, `components`, `bits`) then holds the refusal's place, or for 17 and 18 what is needed; the
- * other numbers, the table, the index, the scratch and the output hold what they held before. On acceptance all beyond the stated count is left as it
- * was. The functions that never refuse say so. Every input has an answer: none is checked by the caller first.
+ * What comes back. 0 where a function accepts, and else a refusal's number. The first number that is lent
+ * (`value`, `first_sot`, `start`, `width`, `components`, `bits`) then holds the refusal's place, or for 17
+ * and 18 what is needed; the other numbers, the table, the index, the scratch and the output hold what they
+ * held before. On acceptance all beyond the stated count is left as it was. The functions that never refuse
+ * say so. Every input has an answer: none is checked by the caller first.
  *
  * docs/RULES.md says exactly what each function answers, under the heading that is named here.
  */
@@ -247,9 +249,10 @@ uint32_t winterhasp_scan_sot_markers(const uint8_t *codestream, size_t codestrea
    and where there is none. Rows of other tiles are passed over. Never refuses. */
 uint32_t winterhasp_tile_in_order(const uint8_t *table, size_t table_len, uint16_t tile);
 
-/* "An index by tile". The index of a table has a key for each row: its tile times 2^48, and its number in the table, from 0. The keys
-   ascend, so that tiles do, and a tile's rows are in the table's order. Index and scratch are lent as uint64_t, in the machine's own
-   order; their number is that of keys, and not of bytes. A table of more than 2^48 rows has no index, and is refused (18). */
+/* "An index by tile". The index of a table has a key for each row: its tile times 2^48, and its number in the
+   table, from 0. The keys ascend, so that tiles do, and a tile's rows are in the table's order. Index and
+   scratch are lent as uint64_t, in the machine's own order; their number is that of keys, and not of bytes. A
+   table of more than 2^48 rows has no index, and is refused (18). */
 
 static inline uint16_t winterhasp_key_tile(uint64_t key)
 {
@@ -262,26 +265,29 @@ static inline uint64_t winterhasp_key_number(uint64_t key)
     return key & (((uint64_t)1 << 48) - 1);
 }
 
-/* "An index by tile". Makes that of the rows of `table`: the keys go to `index`, and to `scratch` too, their number to `value`. Both
-   need room for as many as there are rows. Refusals: 18, with the number of rows. */
+/* "An index by tile". Makes that of the rows of `table`: the keys go to `index`, and to `scratch` too, their
+   number to `value`. Both need room for as many as there are rows. Refusals: 18, with the number of rows. */
 uint32_t winterhasp_index_tiles(const uint8_t *table, size_t table_len, uint64_t *index, size_t index_len, uint64_t *scratch,
                                 size_t scratch_len, uint64_t *value);
 
-/* "An index by tile". The first `have` keys of `index`, which are the index of the first `have` rows of `table`, become that of all
-   rows, the same as the function above makes of them, and their number goes to `value`. `index` needs room for all of them, `scratch`
-   for the keys of the other rows, which it then holds. Where `have` is more than there are rows, the index is another table's and is made
-   afresh. Keys that are no index of these rows are kept all the same, with the new ones among them. Refusals: 18, with the number of all
-   rows. */
+/* "An index by tile". The first `have` keys of `index`, which are the index of the first `have` rows of
+   `table`, become that of all rows, the same as the function above makes of them, and their number goes to
+   `value`. `index` needs room for all of them, `scratch` for the keys of the other rows, which it then holds.
+   Where `have` is more than there are rows, the index is another table's and is made afresh, as all rows are
+   then others. Keys that are no index of the first rows are kept all the same, with the new ones among them.
+   Refusals: 18, with the number of all rows. */
 uint32_t winterhasp_extend_index(const uint8_t *table, size_t table_len, uint64_t have, uint64_t *index, size_t index_len,
                                  uint64_t *scratch, size_t scratch_len, uint64_t *value);
 
-/* "An index by tile". Where a tile's keys stand in `index`: `count` of them, from `first` on. At most 64 keys are read for each end.
-   Never refuses: 1, or 0 where there is none, and `count` is 0. Of keys that do not ascend it is some run among them. */
+/* "An index by tile". Where a tile's keys stand in `index`: `count` of them, from `first` on. At most 64 keys
+   are read for each end. Never refuses: 1, or 0 where there is none, and `count` is 0. Of keys that do not
+   ascend it is some run among them. */
 uint32_t winterhasp_tile_run(const uint64_t *index, size_t index_len, uint16_t tile, uint64_t *first, uint64_t *count);
 
-/* "An index by tile". The rows of `tile` in `table`, found by its index, go to the rows of `out`, their number to `value`: as assembly
-   takes them. Other rows are not read. `index` may be anything: a key whose number the table does not have, or whose row is of another
-   tile, is left out, and so no row of another tile is given. Refusals: 18, with the number of rows. */
+/* "An index by tile". The rows of `tile` in `table`, found by its index, go to the rows of `out`, their
+   number to `value`: as assembly takes them. Other rows are not read. `index` may be anything: a key whose
+   number the table does not have, or whose row is of another tile, is left out, and so no row of another tile
+   is given. Refusals: 18, with the number of rows. */
 uint32_t winterhasp_tile_entries(const uint8_t *table, size_t table_len, const uint64_t *index, size_t index_len, uint16_t tile,
                                  uint8_t *out, size_t out_len, uint64_t *value);
 
