@@ -1,6 +1,6 @@
 -- The entries that an index gives of a tile (docs/RULES.md, "An index by tile"), out of a table's records.
 use Prim.Native.Nat.{ℕ, _*_, _/_}
-use mathlib.Core.Bool.{cond}
+use mathlib.Core.Bool.{Bool, false, cond}
 use mathlib.Core.List.{List, [], _∷_, _++_}
 use lib.ListN.{length, drop}
 use lib.Dec.{eqb, leb}
@@ -9,10 +9,13 @@ use Rattle.types.specs.Row.{rowBytes, rowsOf}
 use Rattle.types.specs.declared.TilePartEntry.{TilePartEntry}
 use Rattle.index.specs.Index.{numberOf}
 use Rattle.index.specs.Run.{runIn}
-use Rattle.index.specs.declared.entries.Found.{Found}
-use Rattle.index.specs.declared.entries.Found.the-variants.{Entry, Nothing}
 use Rattle.index.specs.declared.extend.Indexed.{Indexed}
 use Rattle.index.specs.declared.extend.Indexed.the-variants.{Entries, Refused}
+
+-- the first record is there, and the tile's
+unfoldable pub isFirst : ℕ → List TilePartEntry → Bool
+isFirst tile [] = false
+isFirst tile (e ∷ rest) = eqb (e .«tile_index») tile
 
 -- the first record, if it is the tile's
 unfoldable pub firstIf : ℕ → List TilePartEntry → List TilePartEntry
@@ -24,11 +27,6 @@ unfoldable pub picked : ℕ → List TilePartEntry → List ℕ → List TilePar
 unfolding firstIf
 picked tile es [] = []
 picked tile es (k ∷ rest) = firstIf tile (drop (numberOf k) es) ++ picked tile es rest
-
--- what was found, as a list
-unfoldable pub foundAs : Found → List TilePartEntry
-foundAs (Entry e) = e ∷ []
-foundAs Nothing = []
 
 -- a tile's entries by an index
 unfoldable pub entriesBy : List ℕ → ℕ → List TilePartEntry → List TilePartEntry

@@ -2,32 +2,13 @@
 // tile is given.
 ghost use mathlib.Core.Path.{_≡_};
 ghost use Prim.Native.Nat.{_*_, _/_, _≤_};
-ghost use mathlib.Core.List.{[], _∷_};
 ghost use lib.ListN.{length, drop};
 ghost use Rattle.numbers.specs.Bytes.{put};
 ghost use Rattle.types.specs.Row.{rowBytes, rowsOf, recordsIn};
 ghost use Rattle.index.specs.Index.{numberOf};
-ghost use Rattle.index.specs.Entries.{firstIf, picked, entriesBy, given, givenRows, foundAs};
+ghost use Rattle.index.specs.Entries.{isFirst, picked, entriesBy, given, givenRows};
 use crate::extend::Indexed;
 use types::ROW;
-use types::TilePartEntry;
-
-pub enum Found {
-    Entry(TilePartEntry),
-    // The table has no such entry, or it is another tile's.
-    Nothing,
-}
-
-// A record, if it is the tile's.
-fn if_of(entry: TilePartEntry, tile: u16) -> Found
-    ensures { λ r. ⌜ foundAs r ≡ firstIf tile (entry ∷ []) ⌝ }
-{
-    if entry.tile_index == tile {
-        Found::Entry(entry)
-    } else {
-        Found::Nothing
-    }
-}
 
 // What entries of which there are n are answered with, given room for so many.
 fn decide(n: usize, room: usize) -> Indexed
@@ -40,14 +21,15 @@ fn decide(n: usize, room: usize) -> Indexed
     }
 }
 
-fn pick(table: &[u8], key: u64, tile: u16) -> Found
-    ensures { λ r. ⌜ foundAs r ≡ firstIf tile (drop (numberOf key) (recordsIn (now (table .entry)))) ⌝ }
+// Whether the table has the entry that a key says, and it is the tile's.
+fn is_there(table: &[u8], key: u64, tile: u16) -> bool
+    ensures { λ r. ⌜ r ≡ isFirst tile (drop (numberOf key) (recordsIn (now (table .entry)))) ⌝ }
 {
     let number = crate::keys::number_of(key);
     if number < (table.len() / ROW) as u64 {
-        return if_of(types::read_row(table, (number as usize) * ROW), tile);
+        return numbers::read_u16(table, (number as usize) * ROW) == tile;
     }
-    Found::Nothing
+    false
 }
 
 fn count(table: &[u8], run: &[u64], tile: u16) -> usize
@@ -56,8 +38,7 @@ fn count(table: &[u8], run: &[u64], tile: u16) -> usize
     let mut n: usize = 0;
     let mut i: usize = 0;
     while i < run.len() {
-        let one = pick(table, run[i], tile);
-        if let Found::Entry(_) = one {
+        if is_there(table, run[i], tile) {
             n += 1;
         }
         i += 1;
@@ -72,8 +53,10 @@ fn fill(table: &[u8], run: &[u64], tile: u16, out: &mut [u8])
     let mut at: usize = 0;
     let mut i: usize = 0;
     while i < run.len() {
-        let one = pick(table, run[i], tile);
-        if let Found::Entry(entry) = one {
+        let key = run[i];
+        if is_there(table, key, tile) {
+            let number = crate::keys::number_of(key) as usize;
+            let entry = types::read_row(table, number * ROW);
             types::write_row(out, at, entry);
             at += ROW;
         }

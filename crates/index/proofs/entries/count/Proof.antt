@@ -3,45 +3,37 @@ use Prim.Native.Nat.{_-_}
 use native.Mathlib.Omega.{arith}
 use mathlib.Core.Logic.{⊎-elim}
 use lib.ListN.{length}
-use borrow.Author.Needs.{needs}
-use Rattle.types.specs.Row.{recordsIn}
-use Rattle.index.proofs.EntriesLaws.{Said, Counted, none-counted, one-counted, skip-counted, all-counted}
+use Rattle.index.proofs.EntriesLaws.{Told, Counted, none-counted, one-counted, skip-counted, all-counted}
 use Rattle.index.proofs.entries.count.Statement.{statement}
 use Rattle.index.proofs.entries.count.Tie as tie
 
 abbrev Inv-loop : tie.InvT-loop
-Inv-loop table run tile n₀ i₀ n i = Counted tile (recordsIn table) run n i
+Inv-loop table run tile n₀ i₀ n i = Counted tile table run n i
 
 abbrev μ-loop : tie.MeasureT-loop
 μ-loop table run tile n₀ i₀ n i = length run - i
 
 -- the key here was looked up
-said : (c : tie.After-pick Inv-loop μ-loop)
+told : (c : tie.After-is-there Inv-loop μ-loop)
     → let l = c .before .before .before in
     let a = l .before .before .before .args in
-    Said (a .tile) (recordsIn (a .table .now)) (a .run .now) (l .loop .i) (c .pick .result)
-said c = record { inside = c .before .before .loop-test .taken; is = c .pick .ensures }
+    Told (a .tile) (a .table .now) (a .run .now) (l .loop .i) (c .is-there .result)
+told c = record { inside = c .before .before .loop-test .taken; is = c .is-there .ensures }
 
 loop-holds : tie.Need-loop-holds Inv-loop μ-loop
 loop-holds c = none-counted
 
-mul-pick : tie.Need-mul-pick Inv-loop μ-loop
-mul-pick c = omega arith
+mul-is-there : tie.Need-mul-is-there Inv-loop μ-loop
+mul-is-there c = omega arith
 
-shared-slice-read-pick : tie.Need-shared-slice-read-pick Inv-loop μ-loop
-shared-slice-read-pick c = omega arith
+shared-slice-read-is-there : tie.Need-shared-slice-read-is-there Inv-loop μ-loop
+shared-slice-read-is-there c = omega arith
 
-pick-requires : tie.Need-pick-requires Inv-loop μ-loop
-pick-requires c κs = tt
-
-enum-told : tie.Need-enum-told Inv-loop μ-loop
-enum-told c = search needs
+is-there-requires : tie.Need-is-there-requires Inv-loop μ-loop
+is-there-requires c κs = tt
 
 add-n : tie.Need-add-n Inv-loop μ-loop
 add-n c = omega arith
-
-enum-told-2 : tie.Need-enum-told-2 Inv-loop μ-loop
-enum-told-2 c = search needs
 
 add-i : tie.Need-add-i Inv-loop μ-loop
 add-i c = omega arith
@@ -53,7 +45,7 @@ loop-again : tie.Need-loop-again Inv-loop μ-loop
 loop-again c =
     let p = c .before in
     let i = p .before .before .before .loop .inv in
-    ⊎-elim (λ w. one-counted (said p) (w .1 .given .1) (w .2) i) (λ w. skip-counted (said p) (w .1 .given .1) (w .2) i) (c .match .came)
+    ⊎-elim (λ w. one-counted (told p) (w .0 .taken) (w .1) i) (λ w. skip-counted (told p) (w .0 .left) (w .1) i) (c .if1 .came)
 
 returns : tie.Need-returns Inv-loop μ-loop
 returns c = all-counted (c .loop-test .left) (c .before .loop .inv)
@@ -65,12 +57,10 @@ count-spec =
     Inv-loop
     μ-loop
     loop-holds
-    mul-pick
-    shared-slice-read-pick
-    pick-requires
-    enum-told
+    mul-is-there
+    shared-slice-read-is-there
+    is-there-requires
     add-n
-    enum-told-2
     add-i
     loop-less
     loop-again

@@ -4,56 +4,54 @@ use native.Mathlib.Omega.{arith}
 use mathlib.Core.Logic.{⊎-elim}
 use mathlib.Core.Path.{_∙_}
 use lib.ListN.{length}
-use borrow.Author.Needs.{needs}
-use Rattle.types.specs.Row.{recordsIn}
-use Rattle.index.proofs.EntriesLaws.{Said, Filled, none-filled, one-room, one-filled, skip-filled, all-filled}
+use Rattle.index.proofs.EntriesLaws.{Told, row-there, Filled, none-filled, one-room, one-filled, skip-filled, all-filled}
 use Rattle.index.proofs.entries.fill.Statement.{statement}
 use Rattle.index.proofs.entries.fill.Tie as tie
 
 abbrev Inv-loop : tie.InvT-loop
-Inv-loop table run tile out₀ at₀ i₀ out at i = Filled tile (recordsIn table) run out₀ out at i
+Inv-loop table run tile out₀ at₀ i₀ out at i = Filled tile table run out₀ out at i
 
 abbrev μ-loop : tie.MeasureT-loop
 μ-loop table run tile out₀ at₀ i₀ out at i = length run - i
 
 -- the key here was looked up
-said : (c : tie.After-pick Inv-loop μ-loop)
+told : (c : tie.After-is-there Inv-loop μ-loop)
     → let l = c .before .before .before in
     let a = l .before .before .before .before .args in
-    Said (a .tile) (recordsIn (a .table .now)) (a .run .now) (l .loop .i) (c .pick .result)
-said c = record { inside = c .before .before .loop-test .taken; is = c .pick .ensures }
+    Told (a .tile) (a .table .now) (a .run .now) (l .loop .i) (c .is-there .result)
+told c = record { inside = c .before .before .loop-test .taken; is = c .is-there .ensures }
 
 loop-holds : tie.Need-loop-holds Inv-loop μ-loop
 loop-holds c = none-filled (c .before .before .before .pre)
 
-mul-pick : tie.Need-mul-pick Inv-loop μ-loop
-mul-pick c = omega arith
+mul-key : tie.Need-mul-key Inv-loop μ-loop
+mul-key c = omega arith
 
-shared-slice-read-pick : tie.Need-shared-slice-read-pick Inv-loop μ-loop
-shared-slice-read-pick c = omega arith
+shared-slice-read-key : tie.Need-shared-slice-read-key Inv-loop μ-loop
+shared-slice-read-key c = omega arith
 
-pick-requires : tie.Need-pick-requires Inv-loop μ-loop
-pick-requires c κs = tt
+is-there-requires : tie.Need-is-there-requires Inv-loop μ-loop
+is-there-requires c κs = tt
 
-enum-known-one : tie.Need-enum-known-one Inv-loop μ-loop
-enum-known-one c = search needs
+number-of-requires : tie.Need-number-of-requires Inv-loop μ-loop
+number-of-requires c κs = tt
+
+mul-read-row : tie.Need-mul-read-row Inv-loop μ-loop
+mul-read-row c = omega (arith, row-there (told (c .before .before)) (c .before .if1 .taken))
+
+read-row-requires : tie.Need-read-row-requires Inv-loop μ-loop
+read-row-requires c κs = omega (arith, row-there (told (c .before .before)) (c .before .if1 .taken))
 
 write-row-requires : tie.Need-write-row-requires Inv-loop μ-loop
 write-row-requires c κs =
-    let o = c .before .before in
-    let p = o .before .before in
-    one-room (said p) (o .one .given .1) (p .before .before .before .loop .inv)
+    let t = c .before .before .before in
+    one-room (told (t .before)) (t .if1 .taken) (t .before .before .before .before .loop .inv)
 
 add-at : tie.Need-add-at Inv-loop μ-loop
 add-at c =
-    let o = c .before .before .before .before .before in
-    let p = o .before .before in
-    let l = p .before .before .before in
-    let lent = l .before .slice-known .given in
-    omega (arith, one-room (said p) (o .one .given .1) (l .loop .inv), l .loop .inv .same)
-
-enum-told : tie.Need-enum-told Inv-loop μ-loop
-enum-told c = search needs
+    let t = c .before .before .before .before .before .before in
+    let l = t .before .before .before .before in
+    omega (arith, one-room (told (t .before)) (t .if1 .taken) (l .loop .inv), l .loop .inv .same)
 
 add-i : tie.Need-add-i Inv-loop μ-loop
 add-i c = omega arith
@@ -66,9 +64,9 @@ loop-again c =
     let p = c .before in
     let i = p .before .before .before .loop .inv in
     ⊎-elim
-    (λ w. one-filled (said p) (w .1 .given .1) (w .7 ∙ w .4 .ensures) (w .8) i)
-    (λ w. skip-filled (said p) (w .1 .given .1) (w .2) (w .3) i)
-    (c .match .came)
+    (λ w. one-filled (told p) (w .0 .taken) (w .1 .ensures) (w .2 .ensures) (w .7 ∙ w .4 .ensures) (w .8) i)
+    (λ w. skip-filled (told p) (w .0 .left) (w .1) (w .2) i)
+    (c .if1 .came)
 
 same-length : tie.Need-same-length Inv-loop μ-loop
 same-length c = c .before .loop .inv .same
@@ -83,13 +81,14 @@ fill-spec =
     Inv-loop
     μ-loop
     loop-holds
-    mul-pick
-    shared-slice-read-pick
-    pick-requires
-    enum-known-one
+    mul-key
+    shared-slice-read-key
+    is-there-requires
+    number-of-requires
+    mul-read-row
+    read-row-requires
     write-row-requires
     add-at
-    enum-told
     add-i
     loop-less
     loop-again
