@@ -1,17 +1,16 @@
 //! What is lent to a function, and how it stands afterwards.
 
-use std::fmt;
+use std::fmt::{self, UpperHex};
 
 use crate::model::{Refusal, ROW};
 use crate::random::Random;
-use crate::tally::hex;
 
-/// The status, `V` numbers and `M` stretches of memory.
+/// The status, `V` numbers and `M` stretches of memory: of bytes, or of the numbers that an index is.
 #[derive(Clone, PartialEq)]
-pub struct Lent<const V: usize, const M: usize> {
+pub struct Lent<const V: usize, const M: usize, T = u8> {
     pub status: u32,
     pub values: [u64; V],
-    pub memory: [Vec<u8>; M],
+    pub memory: [Vec<T>; M],
 }
 
 impl<const V: usize, const M: usize> Lent<V, M> {
@@ -23,9 +22,20 @@ impl<const V: usize, const M: usize> Lent<V, M> {
             memory: sizes.map(|size| random.fill(size)),
         }
     }
+}
+
+impl<const V: usize, const M: usize, T: Copy> Lent<V, M, T> {
+    /// Numbers at random, and this memory.
+    pub fn holding(random: &mut Random, memory: [Vec<T>; M]) -> Self {
+        Lent {
+            status: u32::MAX,
+            values: [(); V].map(|()| random.number()),
+            memory,
+        }
+    }
 
     /// As `call` leaves a copy of it.
-    pub fn left_by(&self, call: impl FnOnce([&mut [u8]; M], &mut [u64; V]) -> u32) -> Self {
+    pub fn left_by(&self, call: impl FnOnce([&mut [T]; M], &mut [u64; V]) -> u32) -> Self {
         let mut lent = self.clone();
         let memory = lent.memory.each_mut().map(Vec::as_mut_slice);
         lent.status = call(memory, &mut lent.values);
@@ -46,21 +56,25 @@ impl<const V: usize, const M: usize> Lent<V, M> {
     }
 
     /// As an answer leaves it: what is beyond the bytes written untouched.
-    pub fn accepted(mut self, values: [u64; V], written: [&[u8]; M]) -> Self {
+    pub fn accepted(mut self, values: [u64; V], written: [&[T]; M]) -> Self {
         self.status = 0;
         self.values = values;
-        for (memory, bytes) in self.memory.iter_mut().zip(written) {
-            memory[..bytes.len()].copy_from_slice(bytes);
+        for (memory, items) in self.memory.iter_mut().zip(written) {
+            memory[..items.len()].copy_from_slice(items);
         }
         self
     }
 }
 
-impl<const V: usize, const M: usize> fmt::Debug for Lent<V, M> {
+impl<const V: usize, const M: usize, T: UpperHex> fmt::Debug for Lent<V, M, T> {
     fn fmt(&self, out: &mut fmt::Formatter) -> fmt::Result {
         write!(out, "status {}, numbers {:?}", self.status, self.values)?;
+        let digits = 2 * size_of::<T>();
         for memory in &self.memory {
-            write!(out, ", memory {}", hex(memory))?;
+            write!(out, ", memory ")?;
+            for item in memory {
+                write!(out, "{item:0digits$X}")?;
+            }
         }
         Ok(())
     }
@@ -103,5 +117,16 @@ mod tests {
         assert_eq!((refused.status, refused.values[0]), (3, 7));
         assert_eq!(refused.values[1], before.values[1]);
         assert_eq!(refused.memory, before.memory);
+    }
+
+    #[test]
+    fn what_is_lent_is_told_in_hex() {
+        let random = &mut Random::new(5);
+        let bytes = Lent::<0, 2>::holding(random, [vec![1, 0xAB], Vec::new()]);
+        let text = "status 4294967295, numbers [], memory";
+        assert_eq!(format!("{bytes:?}"), format!("{text} 01AB, memory "));
+        let keys = Lent::<0, 1, u64>::holding(random, [vec![5, 7 << 48]]);
+        let digits = "00000000000000050007000000000000";
+        assert_eq!(format!("{keys:?}"), format!("{text} {digits}"));
     }
 }

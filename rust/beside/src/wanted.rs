@@ -175,6 +175,65 @@ pub fn order(holds: bool) -> &'static str {
     }
 }
 
+/// Of the index by tile the original has nothing.
+pub const INDEX: Wanted = Wanted {
+    name: "index_tiles",
+    answers: &[(ACCEPTED, 0), ("refused 18", 0)],
+};
+/// Of keys that are not the index of the rows before.
+pub const OTHER_KEYS: &str = "accepted with other keys";
+pub const EXTEND: Wanted = Wanted {
+    name: "extend_index",
+    answers: &[(ACCEPTED, 0), (OTHER_KEYS, 0), ("refused 18", 0)],
+};
+
+/// By whether the keys are that.
+pub fn extended(right: bool) -> &'static str {
+    match right {
+        true => ACCEPTED,
+        false => OTHER_KEYS,
+    }
+}
+
+pub const A_RUN: &str = "a run";
+pub const NO_RUN: &str = "no run";
+pub const RUN: Wanted = Wanted {
+    name: "tile_run",
+    answers: &[(A_RUN, 0), (NO_RUN, 0)],
+};
+
+pub fn run(found: bool) -> &'static str {
+    match found {
+        true => A_RUN,
+        false => NO_RUN,
+    }
+}
+
+/// Of a run that has keys which the table does not answer to.
+pub const LEFT_OUT: &str = "accepted, some left out";
+pub const ENTRIES: Wanted = Wanted {
+    name: "tile_entries",
+    answers: &[(ACCEPTED, 0), (LEFT_OUT, 0), ("refused 18", 0)],
+};
+
+/// By whether each key of the run has its row.
+pub fn given(all: bool) -> &'static str {
+    match all {
+        true => ACCEPTED,
+        false => LEFT_OUT,
+    }
+}
+
+/// Laws of the index, by our own answers.
+pub const AS_AFRESH: &str = "extended as afresh";
+pub const SAME_RUN: &str = "nothing gained, the same run";
+pub const AS_FILTERED: &str = "run as filtered";
+pub const JOINED: &str = "joined as filtered";
+pub const LAWS_OF_INDEX: Wanted = Wanted {
+    name: "laws of the index",
+    answers: &[(AS_AFRESH, 0), (SAME_RUN, 0), (AS_FILTERED, 0), (JOINED, 0)],
+};
+
 pub const COUNT: &str = "count";
 pub const SPLIT_COUNT: Wanted = Wanted {
     name: "split_count",

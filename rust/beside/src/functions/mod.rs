@@ -7,6 +7,7 @@ mod entries;
 mod extent;
 mod growth;
 mod header;
+mod index;
 mod marker;
 mod order;
 mod part;
@@ -32,6 +33,7 @@ pub const COMPARISONS: &[&dyn Compared] = &[
     &marker::COMPARISON,
     &scan::COMPARISON,
     &order::COMPARISON,
+    &index::COMPARISON,
     &split::COMPARISON,
     &rewrite::COMPARISON,
     &assembly::COMPARISON,

@@ -3,6 +3,7 @@
 
 pub mod components;
 pub mod header;
+pub mod index;
 pub mod parts;
 pub mod reader;
 pub mod rules;

@@ -8,6 +8,7 @@ pub mod damage;
 pub mod far;
 pub mod fillers;
 pub mod headers;
+pub mod indices;
 pub mod markers;
 pub mod numbers;
 pub mod orders;

@@ -3,6 +3,7 @@
 mod components;
 mod extent;
 mod header;
+mod index;
 mod parts;
 mod reader;
 mod tile;

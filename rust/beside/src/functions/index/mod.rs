@@ -1,0 +1,24 @@
+//! The index by tile, `index_tiles`, `extend_index`, `tile_run` and `tile_entries`, ours beside the model's:
+//! the original has none.
+
+mod compare;
+mod laws;
+#[cfg(test)]
+mod slips;
+
+pub use compare::COMPARISON;
+
+type Make = fn(&[u8], &mut [u64], &mut [u64], &mut u64) -> u32;
+type Extend = fn(&[u8], u64, &mut [u64], &mut [u64], &mut u64) -> u32;
+type Lookup = fn(&[u64], u16, &mut u64, &mut u64) -> u32;
+type Give = fn(&[u8], &[u64], u16, &mut [u8], &mut u64) -> u32;
+
+/// The four functions: the archive's, or what stands for them.
+#[derive(Clone, Copy)]
+pub struct Sides {
+    make: Make,
+    /// Of rows.
+    extend: [Extend; 1],
+    run: Lookup,
+    entries: Give,
+}
