@@ -1,15 +1,16 @@
 //! Every function of the archives, with inputs that are built as files are, and damaged.
 
-use beside::lent::{room, table};
+use beside::lent::{room, table, Lent};
 use beside::model::components::NO_SUCH_COMPONENT;
 use beside::model::header::{Reading, NO_SUCH_MARKER};
-use beside::model::{self, rows_of, Refusal, ROW};
+use beside::model::{self, records, rows_of, Record, Refusal, ROW};
 use beside::random::Random;
 use beside::readings::{self, meant};
 use beside::sample::codestream::CAP;
 use beside::sample::damage::damage;
 use beside::sample::{
-    boxes, caps, components, headers, markers, numbers, orders, padded, parts, sizes, tiles,
+    boxes, caps, components, headers, indices, markers, numbers, orders, padded, parts, sizes,
+    tiles,
 };
 use beside::wanted::{self, Wanted, COMPLETE, COUNT, NONE, NO_MARKER, TRUNCATED};
 use probe::host;
@@ -29,6 +30,10 @@ pub const FUNCTIONS: &[Function] = &[
     (wanted::SCAN_RECORDS, scan_records),
     (wanted::ORDER, order),
     (wanted::ORDER_OF_RECORDS, order_of_records),
+    (wanted::INDEX, index_tiles),
+    (wanted::EXTEND, extend_index),
+    (wanted::RUN, tile_run),
+    (wanted::ENTRIES, tile_entries),
     (wanted::SPLIT_COUNT, split_count),
     (wanted::SPLIT_PART, split_part),
     (wanted::SPLIT_AT, split_at),
@@ -236,6 +241,110 @@ fn order(calls: &mut Calls) {
 
 fn order_of_records(calls: &mut Calls) {
     order_by(calls, probe::records_in_order);
+}
+
+/// A table with any bytes behind its rows, and what it holds.
+fn index_input(random: &mut Random) -> (Vec<u8>, Vec<Record>) {
+    let table = indices::table(random);
+    let table = perhaps_damaged(random, table);
+    let records = records(&table);
+    (table, records)
+}
+
+/// An index that begins with these keys and a scratch, with room for what is needed, or about that.
+fn lent_index(random: &mut Random, mut keys: Vec<u64>, needed: [usize; 2]) -> Lent<1, 2, u64> {
+    let [size, scratch] = needed.map(|needed| room(random, needed));
+    keys.resize_with(size, || random.number());
+    let scratch = (0..scratch).map(|_| random.number()).collect();
+    Lent::holding(random, [keys, scratch])
+}
+
+fn index_tiles(calls: &mut Calls) {
+    let (table, records) = index_input(&mut calls.random);
+    let before = lent_index(&mut calls.random, Vec::new(), [records.len(); 2]);
+    calls.call_with(
+        [table],
+        Vec::new(),
+        before,
+        usual,
+        |[table], _, [index, scratch], [value]| host::index_tiles(table, index, scratch, value),
+    );
+}
+
+/// With an index that is the right one, or not.
+fn extend_index(calls: &mut Calls) {
+    let random = &mut calls.random;
+    let (table, records) = index_input(random);
+    let count = records.len();
+    let have = random.below(count + 2) as u64;
+    let old = model::index::old(have, count);
+    let keys = indices::keys(random, &records, old);
+    let right = keys == model::index::index(&records[..old]);
+    let before = lent_index(random, keys, [count, count - old]);
+    let answer = |status| match status {
+        0 => wanted::extended(right),
+        _ => usual(status),
+    };
+    calls.call_with(
+        [table],
+        Vec::new(),
+        before,
+        answer,
+        |[table], _, [index, scratch], [value]| {
+            host::extend_index(table, have, index, scratch, value)
+        },
+    );
+}
+
+/// A tile that is there, or one beside it.
+fn any_tile(random: &mut Random, records: &[Record]) -> u16 {
+    match records.is_empty() {
+        true => 0,
+        false => random
+            .pick(records)
+            .0
+             .0
+            .wrapping_add(random.pick(&[0, 0, 1])),
+    }
+}
+
+/// A table, what may be its index, and a tile.
+fn lookup_input(random: &mut Random) -> (Vec<u8>, Vec<u64>, u16) {
+    let (table, records) = index_input(random);
+    let length = room(random, records.len());
+    let keys = indices::keys(random, &records, length);
+    let tile = any_tile(random, &records);
+    (table, keys, tile)
+}
+
+fn tile_run(calls: &mut Calls) {
+    let (_, keys, tile) = lookup_input(&mut calls.random);
+    let before = Lent::<2, 0>::preset(&mut calls.random, []);
+    let answer = |status| wanted::run(status == 1);
+    calls.call_with([], keys, before, answer, |[], keys, [], [first, count]| {
+        host::tile_run(keys, tile, first, count)
+    });
+}
+
+fn tile_entries(calls: &mut Calls) {
+    let random = &mut calls.random;
+    let (rows, keys, tile) = lookup_input(random);
+    let found = model::index::entries(&records(&rows), &keys, tile).len();
+    let all = found == model::index::run(&keys, tile).len();
+    let entries = room(random, found);
+    let size = table(random, entries);
+    let before = Lent::<1, 1>::preset(random, [size]);
+    let answer = |status| match status {
+        0 => wanted::given(all),
+        _ => usual(status),
+    };
+    calls.call_with(
+        [rows],
+        keys,
+        before,
+        answer,
+        |[rows], keys, [out], [value]| host::tile_entries(rows, keys, tile, out, value),
+    );
 }
 
 fn tile_parts(random: &mut Random) -> Vec<u8> {

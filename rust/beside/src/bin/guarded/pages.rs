@@ -60,12 +60,12 @@ impl Guarded {
         }
     }
 
-    /// A copy of `bytes` that can be read alone.
-    pub fn shared(&mut self, side: Side, bytes: &[u8]) -> &[u8] {
-        let at = self.hold(side, bytes);
-        self.protect(side, bytes.len(), PROT_READ);
-        // SAFETY: `hold` put these bytes there; they are borrowed from `self`.
-        unsafe { slice::from_raw_parts(at, bytes.len()) }
+    /// A copy of `items` that can be read alone.
+    pub fn shared<T: Copy>(&mut self, side: Side, items: &[T]) -> &[T] {
+        let at = self.hold(side, items);
+        self.protect(side, size_of_val(items), PROT_READ);
+        // SAFETY: `hold` put these items there; they are borrowed from `self`.
+        unsafe { slice::from_raw_parts(at, items.len()) }
     }
 
     /// A copy of `items`.
