@@ -37,30 +37,64 @@ pub fn row<I: ?Sized, A: PartialEq + Debug>(
     other: fn(&I) -> A,
 ) {
     assert_eq!(ours(input), other(input), "{name}: the answers differ");
-    let calls = calls_in_a_round(input, other);
+    let calls = calls_in_a_round(|calls| time(input, other, calls));
+    let nanoseconds = |side| time(input, side, calls).as_nanos() as f64 / f64::from(calls);
+    print_best(name, || nanoseconds(ours), || nanoseconds(other));
+}
+
+/// The same of calls that change what they are lent: a round goes over copies of the input, each of which
+/// `restore` makes what it was, untimed, before it is used again. A round is as long with that.
+pub fn row_restored<I, A: PartialEq + Debug>(
+    name: &str,
+    copies: &[I],
+    restore: fn(&I),
+    ours: fn(&I) -> A,
+    other: fn(&I) -> A,
+) {
+    let answer = |side: fn(&I) -> A| {
+        restore(&copies[0]);
+        side(&copies[0])
+    };
+    assert_eq!(answer(ours), answer(other), "{name}: the answers differ");
+    let over_copies = |side, times| {
+        let mut sum = Duration::ZERO;
+        for _ in 0..times {
+            copies.iter().for_each(restore);
+            sum += time_each(copies, side);
+        }
+        sum
+    };
+    let times = calls_in_a_round(|times| {
+        let start = Instant::now();
+        over_copies(other, times);
+        start.elapsed()
+    });
+    let calls = f64::from(times) * copies.len() as f64;
+    let nanoseconds = |side| over_copies(side, times).as_nanos() as f64 / calls;
+    print_best(name, || nanoseconds(ours), || nanoseconds(other));
+}
+
+/// Of several rounds, each side's best, in nanoseconds a call.
+fn print_best(name: &str, ours: impl Fn() -> f64, other: impl Fn() -> f64) {
     let (mut best_ours, mut best_other) = (f64::INFINITY, f64::INFINITY);
     let start = Instant::now();
     for round in 0..ROUNDS {
         if round > 0 && start.elapsed() > ROW {
             break;
         }
-        best_ours = best_ours.min(nanoseconds(input, ours, calls));
-        best_other = best_other.min(nanoseconds(input, other, calls));
+        best_ours = best_ours.min(ours());
+        best_other = best_other.min(other());
     }
     let ratio = best_ours / best_other;
     println!("| {name} | {best_ours:.1} | {best_other:.1} | {ratio:.2} |");
 }
 
-fn calls_in_a_round<I: ?Sized, A>(input: &I, side: fn(&I) -> A) -> u32 {
+fn calls_in_a_round(time: impl Fn(u32) -> Duration) -> u32 {
     let mut calls = 1;
-    while time(input, side, calls) < ROUND {
+    while time(calls) < ROUND {
         calls *= 2;
     }
     calls
-}
-
-fn nanoseconds<I: ?Sized, A>(input: &I, side: fn(&I) -> A, calls: u32) -> f64 {
-    time(input, side, calls).as_nanos() as f64 / f64::from(calls)
 }
 
 #[inline(never)]
@@ -68,6 +102,16 @@ fn time<I: ?Sized, A>(input: &I, side: fn(&I) -> A, calls: u32) -> Duration {
     let side = black_box(side);
     let start = Instant::now();
     for _ in 0..calls {
+        black_box(side(black_box(input)));
+    }
+    start.elapsed()
+}
+
+#[inline(never)]
+fn time_each<I, A>(inputs: &[I], side: fn(&I) -> A) -> Duration {
+    let side = black_box(side);
+    let start = Instant::now();
+    for input in inputs {
         black_box(side(black_box(input)));
     }
     start.elapsed()

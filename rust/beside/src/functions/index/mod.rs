@@ -3,10 +3,15 @@
 
 mod compare;
 mod laws;
+mod rows;
 #[cfg(test)]
 mod slips;
 
 pub use compare::COMPARISON;
+pub use rows::{
+    BENCHMARK, BENCHMARK_BESIDE_A_FILTER, BENCHMARK_BESIDE_A_SCAN, BENCHMARK_COUNTED,
+    BENCHMARK_OF_ENTRIES, BENCHMARK_OF_EXTENSION, BENCHMARK_OF_LOOKUP,
+};
 
 type Make = fn(&[u8], &mut [u64], &mut [u64], &mut u64) -> u32;
 type Extend = fn(&[u8], u64, &mut [u64], &mut [u64], &mut u64) -> u32;
