@@ -45,7 +45,7 @@ extern "C" {
 #define WINTERHASP_CODESTREAM_BOX_TOO_SHORT    15 /* the codestream box (jp2c) is shorter than its own header */
 #define WINTERHASP_BOX_TOO_LONG                16 /* a JP2 box is longer than any file */
 #define WINTERHASP_OUTPUT_TOO_SMALL            17 /* the output that was lent has too few bytes */
-#define WINTERHASP_TABLE_TOO_SMALL             18 /* the table that was lent has too few rows */
+#define WINTERHASP_TABLE_TOO_SMALL             18 /* the table or the index that was lent has too little room */
 #define WINTERHASP_HEADER_TOO_LONG             19 /* too many bytes were lent for the main header */
 #define WINTERHASP_SIZ_CUT_SHORT               20 /* the image size segment (SIZ) is cut short */
 #define WINTERHASP_SIZ_NOT_FOUND               21 /* no image size segment (SIZ) was found */

@@ -158,7 +158,7 @@ const REFUSALS: &[Words] = &[
     Words {
         number: 18,
         name: "TABLE_TOO_SMALL",
-        wrong: "the table that was lent has too few rows",
+        wrong: "the table or the index that was lent has too little room",
         origin: Origin::Needed,
         remedy: "lend that much",
     },
