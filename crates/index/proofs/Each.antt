@@ -26,6 +26,10 @@ each-at none i h = absurd (omega arith)
 each-at (more p rest) zero h = p
 each-at (more p rest) (suc i) h = each-at rest i (omega arith)
 
+pub each-of : {P : ℕ → Type 0} (keys : List ℕ) → ((i : ℕ) → i < length keys → P (getD keys i 0)) → Each P keys
+each-of [] f = none
+each-of (k ∷ rest) f = more (f zero (omega arith)) (each-of rest (λ i h. f (suc i) (omega arith)))
+
 -- ---- tiles
 
 abbrev pub Tile : ℕ → ℕ → Type 0

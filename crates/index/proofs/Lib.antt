@@ -1,6 +1,7 @@
 pub mod Each
 pub mod Groups
 pub mod SortLaws
+pub mod Ascending
 pub mod MergeLaws
 pub mod Extending
 pub mod Extended
