@@ -1,13 +1,13 @@
 -- Something that holds of each key of a list; and what holds of the tiles of a run's keys, and of those of the runs below a tile.
 use Prim.Native.Nat.{ℕ, zero, suc, _+_, _≤_, _<_}
 use native.Mathlib.Omega.{arith}
-use mathlib.Core.Path.{_≡_, sym, subst}
+use mathlib.Core.Path.{_≡_}
 use mathlib.Core.List.{List, [], _∷_, _++_}
 use lib.ListN.{length, getD}
 use lib.Dec.{eqb}
 use Rattle.numbers.proofs.Choice.{by-test}
 use Rattle.types.specs.declared.TilePartEntry.{TilePartEntry}
-use Rattle.index.specs.Index.{numbered, keyOf, tileOf, runFrom, runsBelow}
+use Rattle.index.specs.Index.{numbered, tileOf, runFrom, runsBelow}
 
 pub data Each (P : ℕ → Type 0) : List ℕ → Type 0 where
   none : Each P []

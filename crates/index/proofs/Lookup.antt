@@ -8,7 +8,7 @@ use mathlib.Core.List.{List, [], _∷_, _++_, append-assoc, append-nil}
 use lib.ListN.{length, take, drop, getD, length-append, List·getD-append}
 use lib.Seq.{take-append-seam, drop-append-seam, getD-append-add}
 use lib.Dec.{ltb, eqb}
-use borrow.Author.Tests.{lt-ltb, le-ltb, ltb-true, ltb-false}
+use borrow.Author.Tests.{ltb-true, ltb-false}
 use Rattle.numbers.proofs.Choice.{by-bool}
 use Rattle.types.specs.declared.TilePartEntry.{TilePartEntry}
 use Rattle.parts.specs.Tiles.{ofTile}

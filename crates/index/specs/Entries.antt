@@ -1,8 +1,8 @@
 -- The entries that an index gives of a tile (docs/RULES.md, "An index by tile"), out of a table's records.
-use Prim.Native.Nat.{ℕ, _*_, _/_}
+use Prim.Native.Nat.{ℕ, _*_}
 use mathlib.Core.Bool.{Bool, false, cond}
 use mathlib.Core.List.{List, [], _∷_, _++_}
-use lib.ListN.{length, drop}
+use lib.ListN.{drop}
 use lib.Dec.{eqb, leb}
 use Rattle.types.specs.Refusals.{refusal}
 use Rattle.types.specs.Row.{rowBytes, rowsOf}

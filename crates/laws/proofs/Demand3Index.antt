@@ -2,21 +2,20 @@
 -- entries, and what is said of these is said of it; over the rows that the scan wrote, too.
 use Prim.Native.Nat.{ℕ, _+_, _≤_, _<_}
 use native.Mathlib.Omega.{arith}
-use mathlib.Core.Path.{_≡_, sym, ap, _∙_}
-use mathlib.Core.List.{List, [], _∷_}
+use mathlib.Core.Path.{_≡_, ap, _∙_}
+use mathlib.Core.List.{List}
 use lib.ListN.{length}
 use Rattle.types.specs.Row.{rowsOf, recordsIn}
 use Rattle.types.specs.declared.TilePartEntry.{TilePartEntry}
 use Rattle.types.proofs.RowReading.{records-back}
 use Rattle.header.proofs.ParseLaws.{judged-read}
 use Rattle.parts.specs.Scan.{entriesFrom}
-use Rattle.parts.specs.Tiles.{Adjoining, none, more, ofTile, AllLong}
+use Rattle.parts.specs.Tiles.{Adjoining, none, more, ofTile}
 use Rattle.parts.proofs.TilesAdjoin.{scan-adjoins}
 use Rattle.index.specs.Index.{numbered, indexOf}
 use Rattle.index.specs.Entries.{entriesBy}
 use Rattle.index.proofs.IndexLaws.{run-of-tile}
-use Rattle.tile.specs.declared.rules.Rule.{Rule}
-use Rattle.laws.specs.Demand3.{Accepted, SplitAgain, Assembles, Reassembled}
+use Rattle.laws.specs.Demand3.{Accepted}
 use Rattle.laws.specs.ByIndex.{byIndex, ByIndex}
 use Rattle.laws.proofs.Demand3.{demand-3}
 use Rattle.laws.proofs.Demand3Entries.{entries-fit}

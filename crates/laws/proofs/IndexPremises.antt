@@ -1,7 +1,7 @@
 -- The premises of the laws of the index by tile: each is needed, by a smallest input without it, and is met by something real.
-use Prim.Native.Nat.{ℕ, _≤_, _<_}
+use Prim.Native.Nat.{ℕ}
 use native.Mathlib.Omega.{arith}
-use mathlib.Core.Path.{_≡_, refl, sym, ap, ap₂, _∙_}
+use mathlib.Core.Path.{_≡_, refl, sym, ap, _∙_}
 use mathlib.Core.List.{List, [], _∷_, _++_}
 use lib.ListN.{length}
 use Rattle.types.specs.declared.PartNumbers.the-variants.{Known}
@@ -16,13 +16,13 @@ use Rattle.index.specs.Extend.{indexAfter, indexMade}
 use Rattle.index.specs.Entries.{picked, entriesBy}
 use Rattle.index.specs.declared.extend.Indexed.the-variants.{Entries}
 use Rattle.index.proofs.Lookup.{run-nothing, run-there}
-use Rattle.index.proofs.IndexLaws.{run-of-tile, absent-empty, extended-afresh, call-afresh, same-run, same-parts, Ascends, runs-ascend, times, standing, Small, each-once, single, too-large, pair}
+use Rattle.index.proofs.IndexLaws.{absent-empty, call-afresh, same-run, same-parts, Ascends, runs-ascend, times, standing, Small, each-once, single, too-large, pair}
 use Rattle.tile.specs.declared.rules.Rule.{Rule}
 use Rattle.laws.specs.Demand3.{Reassembled}
 use Rattle.laws.specs.ByIndex.{byIndex}
 use Rattle.laws.specs.Sample.{zeros, A}
 use Rattle.laws.proofs.SampleComputing.{scan-runs, indexes}
-use Rattle.laws.proofs.SampleEdges.{A-scan, A-index}
+use Rattle.laws.proofs.SampleEdges.{A-scan}
 use Rattle.laws.proofs.Demand3Index.{few, by-index, demand-3-by-index}
 use Rattle.laws.proofs.Demand3Premises.{A-accepted, A-assembles}
 
