@@ -186,6 +186,10 @@ pub const EXTEND: Wanted = Wanted {
     name: "extend_index",
     answers: &[(ACCEPTED, 0), (OTHER_KEYS, 0), ("refused 18", 0)],
 };
+pub const EXTEND_OF_RECORDS: Wanted = Wanted {
+    name: "records_index",
+    ..EXTEND
+};
 
 /// By whether the keys are that.
 pub fn extended(right: bool) -> &'static str {

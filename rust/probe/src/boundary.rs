@@ -35,6 +35,17 @@ mod archive {
 
         pub fn winterhasp_records_in_order(table: *const u8, table_len: usize, tile: u16) -> u32;
 
+        pub fn winterhasp_records_index(
+            table: *const u8,
+            table_len: usize,
+            have: u64,
+            index: *mut u64,
+            index_len: usize,
+            scratch: *mut u64,
+            scratch_len: usize,
+            value: *mut u64,
+        ) -> u32;
+
         pub fn winterhasp_codestream_of(
             file: *const u8,
             file_len: usize,
@@ -91,6 +102,29 @@ pub fn scan_records(codestream: &[u8], first_sot: u64, table: &mut [u8], value: 
 pub fn records_in_order(table: &[u8], tile: u16) -> u32 {
     // SAFETY: as at the top of this file.
     unsafe { archive::winterhasp_records_in_order(table.as_ptr(), table.len(), tile) }
+}
+
+/// As `extend_index`, of records, in the same way.
+pub fn records_index(
+    table: &[u8],
+    have: u64,
+    index: &mut [u64],
+    scratch: &mut [u64],
+    value: &mut u64,
+) -> u32 {
+    // SAFETY: as at the top of this file.
+    unsafe {
+        archive::winterhasp_records_index(
+            table.as_ptr(),
+            table.len(),
+            have,
+            index.as_mut_ptr(),
+            index.len(),
+            scratch.as_mut_ptr(),
+            scratch.len(),
+            value,
+        )
+    }
 }
 
 /// The codestream's bytes go to `out`, their number to `value`; where the search refuses there are

@@ -11,4 +11,4 @@ mod boundary;
 #[path = "../../winterhasp/src/boundary.rs"]
 pub mod host;
 
-pub use boundary::{codestream_of, header_records, records_in_order, scan_records};
+pub use boundary::{codestream_of, header_records, records_in_order, records_index, scan_records};

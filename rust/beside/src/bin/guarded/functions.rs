@@ -32,6 +32,7 @@ pub const FUNCTIONS: &[Function] = &[
     (wanted::ORDER_OF_RECORDS, order_of_records),
     (wanted::INDEX, index_tiles),
     (wanted::EXTEND, extend_index),
+    (wanted::EXTEND_OF_RECORDS, extend_index_of_records),
     (wanted::RUN, tile_run),
     (wanted::ENTRIES, tile_entries),
     (wanted::SPLIT_COUNT, split_count),
@@ -271,8 +272,10 @@ fn index_tiles(calls: &mut Calls) {
     );
 }
 
+type Extend = fn(&[u8], u64, &mut [u64], &mut [u64], &mut u64) -> u32;
+
 /// With an index that is the right one, or not.
-fn extend_index(calls: &mut Calls) {
+fn extend_by(calls: &mut Calls, extend: Extend) {
     let random = &mut calls.random;
     let (table, records) = index_input(random);
     let count = records.len();
@@ -290,10 +293,16 @@ fn extend_index(calls: &mut Calls) {
         Vec::new(),
         before,
         answer,
-        |[table], _, [index, scratch], [value]| {
-            host::extend_index(table, have, index, scratch, value)
-        },
+        |[table], _, [index, scratch], [value]| extend(table, have, index, scratch, value),
     );
+}
+
+fn extend_index(calls: &mut Calls) {
+    extend_by(calls, host::extend_index);
+}
+
+fn extend_index_of_records(calls: &mut Calls) {
+    extend_by(calls, probe::records_index);
 }
 
 /// A tile that is there, or one beside it.

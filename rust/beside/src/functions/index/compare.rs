@@ -6,6 +6,7 @@ use probe::host;
 use super::laws;
 use super::{Extend, Sides};
 use crate::compare::{self, Comparison};
+use crate::functions::records::MOST;
 use crate::lent::{room, Lent};
 use crate::model::index::{entries, extend, index, key, old, run as run_of, Extended};
 use crate::model::{records, rows_of, Record, Refusal, ROW};
@@ -23,6 +24,7 @@ pub const COMPARISON: Comparison<Sides> = Comparison {
     wanted: wanted::INDEX,
     also: &[
         wanted::EXTEND,
+        wanted::EXTEND_OF_RECORDS,
         wanted::RUN,
         wanted::ENTRIES,
         wanted::LAWS_OF_INDEX,
@@ -30,7 +32,7 @@ pub const COMPARISON: Comparison<Sides> = Comparison {
     minimum: 1_000_000,
     original: Sides {
         make: host::index_tiles,
-        extend: [host::extend_index],
+        extend: [host::extend_index, probe::records_index],
         run: host::tile_run,
         entries: host::tile_entries,
     },
@@ -39,9 +41,10 @@ pub const COMPARISON: Comparison<Sides> = Comparison {
 };
 
 const EXTEND: usize = 0;
-const RUN: usize = 1;
-const ENTRIES: usize = 2;
-const LAWS: usize = 3;
+const EXTEND_OF_RECORDS: usize = 1;
+const RUN: usize = 2;
+const ENTRIES: usize = 3;
+const LAWS: usize = 4;
 
 /// The tiles of short tables, and with their neighbours those that are asked for.
 const TILES: [u16; 3] = [0, 1, 65_535];
@@ -89,17 +92,24 @@ fn make_in_every_room(run: &mut Run, table: &[u8]) {
     }
 }
 
-/// With keys at the index's front that are said to be so many, and an index and a scratch of these sizes.
+/// With keys at the index's front that are said to be so many, and an index and a scratch of these sizes; of
+/// rows, and of as many records as the archive has.
 fn lengthen(run: &mut Run, table: &[u8], have: u64, keys: &[u64], sizes: [usize; 2]) {
     let before = lent(&mut run.random, keys, sizes);
-    let [of_rows] = run.original.extend;
-    one(&mut run.also[EXTEND], of_rows, table, have, &before);
-}
-
-fn one(tally: &mut Tally, extend: Extend, table: &[u8], have: u64, before: &Keys) {
-    let ours =
-        before.left_by(|[index, scratch], [value]| extend(table, have, index, scratch, value));
-    judge(tally, table, have, before, &ours);
+    let [of_rows, of_records] = run.original.extend;
+    let held = &table[..table.len().min(MOST * ROW)];
+    let left_by = |extend: Extend| {
+        before.left_by(|[index, scratch], [value]| extend(table, have, index, scratch, value))
+    };
+    let [rows, records] = [of_rows, of_records].map(left_by);
+    judge(&mut run.also[EXTEND], table, have, &before, &rows);
+    judge(
+        &mut run.also[EXTEND_OF_RECORDS],
+        held,
+        have,
+        &before,
+        &records,
+    );
 }
 
 fn judge(tally: &mut Tally, table: &[u8], have: u64, before: &Keys, ours: &Keys) {
@@ -381,10 +391,10 @@ fn delivered(run: &mut Run) {
 mod tests {
     use super::{every_first_byte, every_length, Sides};
     use crate::compare::holds_on;
-    use crate::functions::index::slips::{EXTENDS, GIVES, MAKES, RIGHT, RUNS};
+    use crate::functions::index::slips::{of_either, EXTENDS, GIVES, MAKES, RIGHT, RUNS};
 
     fn holds(sides: Sides) -> bool {
-        holds_on::<4, _>(sides, |run| {
+        holds_on::<5, _>(sides, |run| {
             every_first_byte(run);
             every_length(run);
         })
@@ -397,8 +407,9 @@ mod tests {
             assert!(!holds(Sides { make, ..RIGHT }), "make {at}");
         }
         for (at, extend) in EXTENDS.into_iter().enumerate() {
-            let extend = [extend];
-            assert!(!holds(Sides { extend, ..RIGHT }), "extend {at}");
+            for extend in of_either(extend) {
+                assert!(!holds(Sides { extend, ..RIGHT }), "extend {at}");
+            }
         }
         for (at, run) in RUNS.into_iter().enumerate() {
             assert!(!holds(Sides { run, ..RIGHT }), "run {at}");

@@ -14,6 +14,7 @@ use crate::wanted::{AS_AFRESH, AS_FILTERED, JOINED, SAME_RUN};
 /// Of every cut of a table into what was there and what came late, up to so many rows.
 const CUTS: usize = 24;
 
+/// Of a table of as many rows as the archive has records, at most.
 pub fn check(tally: &mut Tally, sides: &Sides, table: &[u8]) {
     let records = records(table);
     let afresh = made(sides, table);
@@ -53,27 +54,23 @@ pub fn check(tally: &mut Tally, sides: &Sides, table: &[u8]) {
 /// sample A's header, beside those that a filter gives.
 pub fn check_joined(tally: &mut Tally, sides: &Sides, front: &[u8], codestream: &[u8]) {
     let [early, all] = [front, codestream].map(scanned);
-    let mut index = made(sides, &early);
-    let (have, rows) = (index.len(), all.len() / ROW);
-    index.resize(rows, 0);
-    let [extend, ..] = sides.extend;
-    extend(
-        &all,
-        have as u64,
-        &mut index,
-        &mut vec![0; rows - have],
-        &mut 0,
-    );
+    let early = made(sides, &early);
+    let (have, rows) = (early.len(), all.len() / ROW);
     let records = records(&all);
-    for tile in 0..6 {
-        let (mut out, mut count) = (vec![0; all.len()], 0);
-        (sides.entries)(&all, &index, tile, &mut out, &mut count);
-        out.truncate(ROW * count as usize);
-        let [by_index, by_filter] =
-            [out, rows_of(&filtered(&records, tile))].map(|rows| joined(&rows, codestream));
-        tally.compare_by_the_document(JOINED, &by_index, &by_filter, || {
-            format!("tile {tile} of {}, {} early", hex(codestream), front.len())
-        });
+    for extend in sides.extend {
+        let (mut index, mut scratch) = (early.clone(), vec![0; rows - have]);
+        index.resize(rows, 0);
+        extend(&all, have as u64, &mut index, &mut scratch, &mut 0);
+        for tile in 0..6 {
+            let (mut out, mut count) = (vec![0; all.len()], 0);
+            (sides.entries)(&all, &index, tile, &mut out, &mut count);
+            out.truncate(ROW * count as usize);
+            let [by_index, by_filter] =
+                [out, rows_of(&filtered(&records, tile))].map(|rows| joined(&rows, codestream));
+            tally.compare_by_the_document(JOINED, &by_index, &by_filter, || {
+                format!("tile {tile} of {}, {} early", hex(codestream), front.len())
+            });
+        }
     }
 }
 
@@ -118,7 +115,7 @@ fn joined(rows: &[u8], codestream: &[u8]) -> (u32, Vec<u8>) {
 #[cfg(test)]
 mod tests {
     use super::{check, check_joined, joined, scanned};
-    use crate::functions::index::slips::{EXTENDS, GIVES, MAKES, RIGHT, RUNS};
+    use crate::functions::index::slips::{of_either, EXTENDS, GIVES, MAKES, RIGHT, RUNS};
     use crate::functions::index::Sides;
     use crate::sample::orders::{codestream, run};
     use crate::tally::Tally;
@@ -153,8 +150,9 @@ mod tests {
             assert!(!holds(&Sides { make, ..RIGHT }), "make {at}");
         }
         for (at, extend) in EXTENDS[..7].iter().copied().enumerate() {
-            let extend = [extend];
-            assert!(!holds(&Sides { extend, ..RIGHT }), "extend {at}");
+            for extend in of_either(extend) {
+                assert!(!holds(&Sides { extend, ..RIGHT }), "extend {at}");
+            }
         }
         for (at, run) in RUNS[..3]
             .iter()

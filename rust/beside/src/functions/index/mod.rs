@@ -22,8 +22,8 @@ type Give = fn(&[u8], &[u64], u16, &mut [u8], &mut u64) -> u32;
 #[derive(Clone, Copy)]
 pub struct Sides {
     make: Make,
-    /// Of rows.
-    extend: [Extend; 1],
+    /// Of rows, and of records.
+    extend: [Extend; 2],
     run: Lookup,
     entries: Give,
 }

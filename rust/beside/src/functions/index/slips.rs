@@ -63,13 +63,19 @@ macro_rules! extending {
 
 pub const RIGHT: Sides = Sides {
     make: making!(none),
-    extend: [extending!(none)],
+    extend: [extending!(none); 2],
     run: |index, tile, first, count| found(run(index, tile), first, count),
     entries: |table, index, tile, out, value| {
         let found = entries(&records(table), index, tile);
         given(&rows_of(&found), out, value)
     },
 };
+
+/// With this for rows, and with it for records.
+pub fn of_either(extend: Extend) -> [[Extend; 2]; 2] {
+    let [rows, records] = RIGHT.extend;
+    [[extend, records], [rows, extend]]
+}
 
 fn none(_: &mut Extended, _: usize) {}
 
