@@ -1,8 +1,9 @@
 // Answers the stored list of cases in `cases`, a line for each; what it must write is what the original answered, and for
-// component sizes, tiles by Annex B or kept in place, markers, the number of fillers and the order of tile-parts, which that
-// does not tell, the model (rust/beside, program `cases`). A case is its kind, a byte; the length of its payload, 4 bytes; the
-// payload.
+// component sizes, tiles by Annex B or kept in place, markers, the number of fillers, the order of tile-parts and their index by
+// tile, which that does not tell, the model (rust/beside, program `cases`). A case is its kind, a byte; the length of its
+// payload, 4 bytes; the payload.
 mod answers;
+mod by_tile;
 mod print;
 mod tables;
 
@@ -72,6 +73,8 @@ fn answer(kind: u8, payload: &[u8]) {
         21 => tables::header_records(payload, newer()),
         22 => tables::order(payload),
         23 => tables::order_records(payload),
+        24 => by_tile::rows(payload),
+        25 => by_tile::records(payload),
         _ => print::text(b"unknown kind"),
     }
     print::text(b"\n");

@@ -1,6 +1,7 @@
 // What is written of an answer.
 use header::find::Finding;
 use header::parse::MainHeader;
+use index::extend::Indexed;
 use libc::STDOUT_FILENO;
 use parts::scan::Scanned;
 use reader::components::ComponentRead;
@@ -109,6 +110,16 @@ pub(crate) fn records(table: [TilePartEntry; 2048], count: u64, numbered: bool) 
     }
 }
 
+// The records of a table that the keys of a run say.
+pub(crate) fn records_of(table: [TilePartEntry; 2048], run: &[u64]) {
+    for i in 0..run.len() {
+        let at = index::keys::number_of(run[i]);
+        if at < 2048 {
+            record(table[at as usize], true);
+        }
+    }
+}
+
 fn record(entry: TilePartEntry, numbered: bool) {
     let offset = entry.offset;
     let known = entry.numbers;
@@ -137,6 +148,35 @@ pub(crate) fn order(answer: bool) {
     } else {
         text(b", not in order");
     }
+}
+
+// What is said of as many entries as follow, without them; gives how many they are.
+pub(crate) fn indexed(word: &[u8], answer: Indexed) -> u64 {
+    text(word);
+    let Indexed::Entries(count) = answer else {
+        text(b" refused");
+        return 0;
+    };
+    count
+}
+
+// The keys of an index: the tile and the number of each.
+pub(crate) fn keys(index: &[u64]) {
+    for i in 0..index.len() {
+        let key = index[i];
+        number(index::keys::tile_of(key));
+        number(index::keys::number_of(key));
+    }
+}
+
+// Where a tile's run stands in an index, and how many keys it has.
+pub(crate) fn run(index: &[u64], tile: u16) {
+    let mut first: u64 = 0;
+    let mut count: u64 = 0;
+    index::run::tell(index, tile, &mut first, &mut count);
+    text(b", run");
+    number(first);
+    number(count);
 }
 
 // The first bytes of a buffer, which has as many, after a space.

@@ -59,13 +59,16 @@ pub(crate) fn order(payload: &[u8]) {
     let answer = parts::scan::scan_sot_markers(&payload[2..], CodestreamOffset(0), &mut table);
     let entries = print::scan(answer);
     print::rows(&table, entries, true);
-    order_in(&table, entries, numbers::read_u16(payload, 0));
+    print::order(parts::order::tile_in_order(
+        first_rows(&table, entries),
+        numbers::read_u16(payload, 0),
+    ));
 }
 
-// In the first rows of a table, which has as many.
-fn order_in(table: &[u8], entries: u64, tile: u16) {
-    let rows = numbers::minimum(entries, (table.len() / ROW) as u64) as usize;
-    print::order(parts::order::tile_in_order(&table[..rows * ROW], tile));
+// The first rows of a table, which has as many.
+pub(crate) fn first_rows(table: &[u8], count: u64) -> &[u8] {
+    let rows = numbers::minimum(count, (table.len() / ROW) as u64) as usize;
+    &table[..rows * ROW]
 }
 
 // The same with a table of records.
@@ -86,7 +89,7 @@ pub(crate) fn order_records(payload: &[u8]) {
 }
 
 // 2,048 rows.
-fn new_table() -> [u8; 43008]
+pub(crate) fn new_table() -> [u8; 43008]
     ensures { λ r. ⌜ 43008 ≡ length r ⌝ }
 {
     [0; 43008]

@@ -4,7 +4,7 @@
 use std::collections::BTreeSet;
 
 use crate::caught::caught;
-use crate::model::{Entry, Refusal};
+use crate::model::{Entry, Record, Refusal};
 use crate::random::Random;
 use crate::tally::lower_hex;
 
@@ -69,6 +69,15 @@ impl List {
 pub fn listed(entries: &[Entry]) -> String {
     let text = |(index, offset, length): &Entry| format!(" {index} {offset} {length}");
     entries.iter().map(text).collect()
+}
+
+/// ` INDEX OFFSET LENGTH TPSOT TNSOT` for each record that was read of a SOT.
+pub fn numbered(records: &[Record]) -> String {
+    let text = |((index, offset, length), numbers): &Record| {
+        let [tpsot, tnsot] = numbers.expect("a SOT has them");
+        format!(" {index} {offset} {length} {tpsot} {tnsot}")
+    };
+    records.iter().map(text).collect()
 }
 
 /// ` refused NUMBER PLACE`, of what the model answers.

@@ -18,7 +18,7 @@ use beside::random::SEED;
 const CASES: &str = "crates/replay/data/cases";
 const ANSWERS: &str = "crates/replay/stdout";
 /// In bytes.
-const LONGEST_LIST: usize = 950_000;
+const LONGEST_LIST: usize = 1_000_000;
 
 fn main() -> ExitCode {
     ended(cases())

@@ -98,4 +98,17 @@ pub const KINDS: &[Kind] = &[
     header::RECORDS_NEWER,
     order::KIND,
     order::RECORDS,
+    index::KIND,
+    index::RECORDS,
 ];
+
+#[cfg(test)]
+mod tests {
+    use super::KINDS;
+
+    #[test]
+    fn kinds_are_numbered_in_order() {
+        let numbers: Vec<_> = KINDS.iter().map(|kind| kind.number).collect();
+        assert_eq!(numbers, (1..=25).collect::<Vec<_>>());
+    }
+}

@@ -1,12 +1,14 @@
 //! The index by tile, `index_tiles`, `extend_index`, `tile_run` and `tile_entries`, ours beside the model's:
 //! the original has none.
 
+mod cases;
 mod compare;
 mod laws;
 mod rows;
 #[cfg(test)]
 mod slips;
 
+pub use cases::{KIND, RECORDS};
 pub use compare::COMPARISON;
 pub use rows::{
     BENCHMARK, BENCHMARK_BESIDE_A_FILTER, BENCHMARK_BESIDE_A_SCAN, BENCHMARK_COUNTED,

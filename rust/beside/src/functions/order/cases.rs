@@ -2,7 +2,7 @@
 //! codestream, whose tile-parts start at 0. The answer is the model's: the entries with their numbers, and
 //! whether the tile's stand in order.
 
-use crate::cases::Kind;
+use crate::cases::{numbered, Kind};
 use crate::model::number;
 use crate::model::parts::{scan_sot_markers, tile_in_order};
 use crate::random::Random;
@@ -42,14 +42,10 @@ fn answer(payload: &[u8]) -> Option<String> {
     let Ok(records) = scan_sot_markers(codestream, 0) else {
         return Some("scan refused, not in order".to_string());
     };
-    let entries = records.iter().map(|((index, offset, length), numbers)| {
-        let [tpsot, tnsot] = numbers.expect("a SOT has them");
-        format!(" {index} {offset} {length} {tpsot} {tnsot}")
-    });
     let order = match tile_in_order(&records, number(tile) as u16) {
         true => "in order",
         false => "not in order",
     };
-    let (count, entries) = (records.len(), entries.collect::<String>());
+    let (count, entries) = (records.len(), numbered(&records));
     Some(format!("scan {count}{entries}, {order}"))
 }
