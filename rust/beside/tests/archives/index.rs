@@ -38,18 +38,22 @@ fn made(table: &[u8], size: usize, scratch: usize) -> (u32, u64, Vec<u64>, Vec<u
     (status, value, index, scratch)
 }
 
-/// The same of an index that begins with these.
+/// The same of an index that begins with these, of rows and of records, which agree.
 fn extended(
     have: u64,
     begin: &[u64],
     size: usize,
     scratch: usize,
 ) -> (u32, u64, Vec<u64>, Vec<u64>) {
-    let (mut index, mut scratch) = (begin.to_vec(), vec![UNTOUCHED; scratch]);
-    index.resize(size, UNTOUCHED);
-    let mut value = 7;
-    let status = host::extend_index(&table(), have, &mut index, &mut scratch, &mut value);
-    (status, value, index, scratch)
+    let [rows, records] = [host::extend_index, probe::records_index].map(|extend| {
+        let (mut index, mut scratch) = (begin.to_vec(), vec![UNTOUCHED; scratch]);
+        index.resize(size, UNTOUCHED);
+        let mut value = 7;
+        let status = extend(&table(), have, &mut index, &mut scratch, &mut value);
+        (status, value, index, scratch)
+    });
+    assert_eq!(rows, records);
+    rows
 }
 
 #[test]
@@ -167,6 +171,27 @@ fn numbers_that_are_not_known_are_not_given() {
 }
 
 /// Of sample A first the front, up to its second tile-part.
+#[test]
+fn records_are_the_first_2_048_rows() {
+    for rows in [2_047, 2_048, 2_049, 3_000] {
+        let held = rows.min(2_048);
+        let [mut index, mut scratch] = [held + 1, held].map(|size| vec![UNTOUCHED; size]);
+        let mut value = 7;
+        let table = of_tiles(&vec![3; rows]);
+        let status = probe::records_index(&table, 0, &mut index, &mut scratch, &mut value);
+        assert_eq!((status, value), (0, held as u64));
+        let keys: Vec<_> = (0..held as u64).map(|number| 3 << 48 | number).collect();
+        assert_eq!(index, [&keys[..], &[UNTOUCHED]].concat());
+        assert_eq!(scratch, keys);
+        // one old entry more than there are records, and so made afresh
+        let [mut index, mut scratch] = [held, held - 1].map(|size| vec![UNTOUCHED; size]);
+        let have = held as u64 + 1;
+        let status = probe::records_index(&table, have, &mut index, &mut scratch, &mut value);
+        assert_eq!((status, value), (18, held as u64));
+        assert_eq!(index, vec![UNTOUCHED; held]);
+    }
+}
+
 #[test]
 fn sample_a_s_index() {
     let (sample, first_sot) = (sample_a(), SAMPLE_A_FIRST_SOT as u64);
