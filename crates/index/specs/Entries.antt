@@ -2,7 +2,7 @@
 use Prim.Native.Nat.{ℕ, _*_}
 use mathlib.Core.Bool.{Bool, false, cond}
 use mathlib.Core.List.{List, [], _∷_, _++_}
-use lib.ListN.{drop}
+use lib.ListN.{take, drop}
 use lib.Dec.{eqb, leb}
 use Rattle.types.specs.Refusals.{refusal}
 use Rattle.types.specs.Row.{rowBytes, rowsOf}
@@ -19,8 +19,8 @@ isFirst tile (e ∷ rest) = eqb (e .«tile_index») tile
 
 -- the first record, if it is the tile's
 unfoldable pub firstIf : ℕ → List TilePartEntry → List TilePartEntry
-firstIf tile [] = []
-firstIf tile (e ∷ rest) = cond (eqb (e .«tile_index») tile) (e ∷ []) []
+unfolding isFirst
+firstIf tile es = cond (isFirst tile es) (take 1 es) []
 
 -- the records that keys say; a number that the table does not have, and a record of another tile, is left out
 unfoldable pub picked : ℕ → List TilePartEntry → List ℕ → List TilePartEntry
