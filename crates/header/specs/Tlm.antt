@@ -12,9 +12,12 @@ use Rattle.header.specs.Step.{segmentEnd}
 use Rattle.header.specs.declared.tlm.Tlm.{Tlm}
 use Rattle.header.specs.declared.tlm.Tlm.the-variants.{Entries, Refused}
 
--- Ltlm; Ztlm, which is not read, stands at 4
 abbrev pub ltlm : List ℕ → ℕ → ℕ
 ltlm s at = be 2 s (at + 2)
+
+-- Ztlm, a segment's number among the segments: the reading of the header does not look at it
+abbrev pub ztlm : List ℕ → ℕ → ℕ
+ztlm s at = getD s (at + 4) 0
 
 abbrev pub stlm : List ℕ → ℕ → ℕ
 stlm s at = getD s (at + 5) 0

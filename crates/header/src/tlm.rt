@@ -8,7 +8,7 @@ ghost use lib.ListN.{length};
 ghost use lib.Dec.{eqb};
 ghost use Rattle.numbers.specs.Bytes.{be, put};
 ghost use Rattle.types.specs.Row.{rowBytes, rowsOf};
-ghost use Rattle.header.specs.Tlm.{indexSize, lengthSize, Within, tlmAt, Accepted, entryCount};
+ghost use Rattle.header.specs.Tlm.{ztlm, indexSize, lengthSize, Within, tlmAt, Accepted, entryCount};
 ghost use Rattle.header.specs.Tlm.{recordOf, unindexed, entryOn, entriesOn, placed, total};
 use types::CodestreamOffset;
 use types::PartNumbers;
@@ -36,21 +36,36 @@ fn length_size(stlm: u8) -> usize
     2 + (stlm / 64 % 2) as usize * 2
 }
 
+// How many whole entries a segment that is not refused holds.
+pub fn entry_count(codestream: &[u8], at: usize) -> usize
+    requires { ⌜ Accepted (now codestream) at ⌝ }
+    ensures { λ r. ⌜ r ≡ entryCount (now (codestream .entry)) at ⌝ }
+{
+    let ltlm = numbers::read_u16(codestream, at + 2) as usize;
+    let stlm = codestream[at + 5]; // behind Ztlm
+    (ltlm - 4) / (index_size(stlm) + length_size(stlm))
+}
+
+// A segment's number among the segments, which the walk does not look at.
+pub fn ztlm_at(codestream: &[u8], at: usize) -> u8
+    requires { ⌜ Accepted (now codestream) at ⌝ }
+    ensures { λ r. ⌜ r ≡ ztlm (now (codestream .entry)) at ⌝ }
+{
+    codestream[at + 4]
+}
+
 pub fn tlm_at(codestream: &[u8], at: usize) -> Tlm
     requires { ⌜ Within (now codestream) at ⌝ }
     ensures { λ r. ⌜ r ≡ tlmAt (now (codestream .entry)) at ⌝ }
 {
     let place = at as u64;
-    let ltlm = numbers::read_u16(codestream, at + 2) as usize;
-    if ltlm < 4 {
+    if numbers::read_u16(codestream, at + 2) < 4 {
         return Tlm::Refused(Refusal { number: 4, place });
     }
-    let stlm = codestream[at + 5]; // behind Ztlm, which is not read
-    let index_bytes = index_size(stlm);
-    if index_bytes == 3 {
+    if index_size(codestream[at + 5]) == 3 {
         return Tlm::Refused(Refusal { number: 5, place });
     }
-    Tlm::Entries((ltlm - 4) / (index_bytes + length_size(stlm)))
+    Tlm::Entries(entry_count(codestream, at))
 }
 
 // An entry's index, of 0, 1 or 2 bytes; with none it is its number.

@@ -123,7 +123,7 @@ pub fn scan_step(codestream: &[u8], at: usize) -> ScanStep
 }
 
 // Counts the records, and writes none.
-fn judge(codestream: &[u8], start: usize) -> Scanned
+pub fn judge(codestream: &[u8], start: usize) -> Scanned
     ensures { λ r. ⌜ r ≡ judged (scanFrom (now (codestream .entry)) start) ⌝ }
 {
     let mut at = start;
