@@ -1,3 +1,4 @@
+pub mod Check
 pub mod Components
 pub mod Extent
 pub mod Find

@@ -3,6 +3,7 @@
 // never refuses answers is said above it.
 pub mod assembly;
 pub mod by_tile;
+pub mod check;
 pub mod components;
 pub mod extent;
 pub mod find;

@@ -1,0 +1,4 @@
+pub mod Segments
+pub mod Places
+pub mod Check
+pub mod Agree
