@@ -56,12 +56,18 @@ extern "C" {
 #define WINTERHASP_TLM_TOO_MANY_ENTRIES        26 /* the tile-part length segments (TLM) have more entries without an index than there are tile numbers */
 #define WINTERHASP_NO_GRID                     30 /* the image size segment (SIZ) lays no grid of tiles over the image */
 #define WINTERHASP_NO_SUCH_TILE                31 /* the grid has no tile of this index */
+#define WINTERHASP_TLM_NUMBER_REPEATED         32 /* two tile-part length segments (TLM) have the same number */
 #define WINTERHASP_CAP_OUT_OF_PLACE            33 /* the capabilities segment (CAP) is announced and missing, or stands there unannounced or twice */
 #define WINTERHASP_CAP_LENGTH_WRONG            34 /* the capabilities segment (CAP) is not as long as its bits ask */
 
-/* No refusal: what is returned where there is no component of the number, or no marker of the code, that was asked for. */
+/* No refusal: what is returned where there is no component of the number, or no marker of the code, that was asked for, and
+   where a length table differs from what stands there. */
 
-enum { WINTERHASP_NO_SUCH_COMPONENT = 256, WINTERHASP_NO_SUCH_MARKER = 257 };
+enum { WINTERHASP_NO_SUCH_COMPONENT = 256, WINTERHASP_NO_SUCH_MARKER = 257, WINTERHASP_LENGTH_TABLE_DIFFERS = 258 };
+
+/* What is told for the tile of an entry or a tile-part that is not there: no tile has this index. */
+
+enum { WINTERHASP_NO_TILE = 65536 };
 
 /* The rule by which a tile's place is told, and by which it is cut out:
    - WINTERHASP_RULE_ANNEX_B, by which all functions go that take no rule: it lies where the standard has it, and is moved to 0, 0
@@ -243,6 +249,17 @@ uint32_t winterhasp_component_within(const uint8_t *codestream, size_t codestrea
    Refusals: 7, 8, 9, 18. */
 uint32_t winterhasp_scan_sot_markers(const uint8_t *codestream, size_t codestream_len, uint64_t first_sot_offset,
                                      uint8_t *table, size_t table_len, uint64_t *value);
+
+/* "Length table check". Whether the header's length table (TLM) says what stands there: 0 where its entries, in the order of Ztlm
+   and with those without an index numbered on, are the scan's from the first SOT on, tile and length, and `value` and all else
+   stays. WINTERHASP_LENGTH_TABLE_DIFFERS at the first entry that differs, a missing and a surplus one too: `value` is its number,
+   from 0; `offset` is where its tile-part stands, or would stand; then what the table lists, and what stands there, a tile and a
+   length each: WINTERHASP_NO_TILE and 0 where there is nothing. A file without entries differs at 0. The header is read of the first
+   `region` bytes, or of all where there are fewer: winterhasp_grow_header_region tells how many will do, and then no file is too long.
+   Refusals: 19, 1 to 6, 32, 26, 7 to 9. */
+uint32_t winterhasp_check_length_table(const uint8_t *codestream, size_t codestream_len, uint64_t region, uint64_t *value,
+                                       uint64_t *offset, uint64_t *listed_tile, uint64_t *listed_length,
+                                       uint64_t *standing_tile, uint64_t *standing_length);
 
 /* "Tile-parts in order". 1 where the tile-parts of `tile` stand in order in the rows of `table`: TPsot runs 0, 1, 2 and on from
    one to the next, and every TNsot that is not 0 is their number. 0 where they do not, where the numbers of one are not known,
