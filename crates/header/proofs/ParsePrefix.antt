@@ -55,7 +55,7 @@ module _ (q t : List ℕ) where
     stlm-same : stlm (q ++ t) at ≡ stlm q at
     stlm-same = stlm-more q t at within (a .long)
 
-    count-same : entryCount (q ++ t) at ≡ entryCount q at
+    pub count-same : entryCount (q ++ t) at ≡ entryCount q at
     count-same = count-more q t at within (a .long)
 
     unindexed-same : unindexed (q ++ t) at ≡ unindexed q at
@@ -68,12 +68,12 @@ module _ (q t : List ℕ) where
         let inside = entry-inside q at i a h in
         rw (stlm-same, be-front (indexSize (stlm q at)) q t (entryPlace q at i) (omega arith), be-front (lengthSize (stlm q at)) q t (entryPlace q at i + indexSize (stlm q at)) (omega arith))
 
-    entries-same : (k i n : ℕ) → i + n ≤ entryCount q at → entriesOn (q ++ t) at k i n ≡ entriesOn q at k i n
+    pub entries-same : (k i n : ℕ) → i + n ≤ entryCount q at → entriesOn (q ++ t) at k i n ≡ entriesOn q at k i n
     unfolding entriesOn
     entries-same k i zero h = refl
     entries-same k i (suc n) h = ap₂ _∷_ (entry-same k i (omega arith)) (entries-same k (i + 1) n (omega arith))
 
-    next-same : (n : Numbering) (k : ℕ) → nextNumber n (q ++ t) at k ≡ nextNumber n q at k
+    pub next-same : (n : Numbering) (k : ℕ) → nextNumber n (q ++ t) at k ≡ nextNumber n q at k
     unfolding nextNumber
     next-same CarriedOn k = ap (λ (m : ℕ). k + m) unindexed-same
     next-same Restarting k = refl
@@ -84,7 +84,7 @@ module _ (q t : List ℕ) where
     read : Item q at next × (next ≤ length q)
     read = item q at next found
 
-    marker-same : be 2 (q ++ t) at ≡ be 2 q at
+    pub marker-same : be 2 (q ++ t) at ≡ be 2 q at
     marker-same = be-front 2 q t at (omega (arith, item-long (read .0), read .1))
 
     bytes-same : visited (q ++ t) (record { at = at; next = next }) ≡ visited q (record { at = at; next = next })
@@ -93,7 +93,7 @@ module _ (q t : List ℕ) where
         ap (take (next - at)) (drop-append-le at q t (omega (arith, long, read .1)))
         ∙ take-append-le (next - at) (drop at q) t (omega (arith, length-drop at q, read .1))
 
-    tlm-accepted : be 2 q at ≡ TLM → Accepted q at
+    pub tlm-accepted : be 2 q at ≡ TLM → Accepted q at
     tlm-accepted is =
         let p = on-passed q at next found in
         let told = passed-is q at (p .0) (p .1) in

@@ -22,6 +22,8 @@ use Rattle.header.proofs.EditionLaws.{as-accepted}
 use Rattle.header.proofs.ParseLaws.{judged-read}
 use Rattle.header.proofs.ExtentPrefix.{extent-prefix}
 use Rattle.header.proofs.Enough.{accepted-complete, fewer-refused, table-enough, table-after-enough, out-after-enough, finding-enough, parsed-eight, parsed-enough}
+use Rattle.lengths.specs.Check.{checked}
+use Rattle.lengths.proofs.CheckPrefix.{check-enough}
 use Rattle.records.specs.MainHeader.{recordsAfter}
 use Rattle.reader.specs.Growth.{regionAt, grown, FirstWith}
 use Rattle.reader.proofs.GrowthLaws.{region-within, region-least, grown-region}
@@ -74,6 +76,10 @@ region-alike s short =
     let held : enough s ≤ grown s .region = rw (grown-region s) (grown-first s .has) in
     alike s (grown s .region) held short
     (parsed-eight s (grown s .region) held short (λ part. omega (arith, grown-region s, region-least (length s) (grown s .enlargements))))
+
+-- the check of a length table, too
+pub region-checked : (s : List ℕ) → length s ≤ 0xffff_ffff → checked s (grown s .region) ≡ checked s (length s)
+region-checked s short = check-enough s (grown s .region) (rw (grown-region s) (grown-first s .has)) short
 
 -- ---- where the walk accepts with the first SOT at p
 

@@ -1,4 +1,4 @@
--- What is unfolded to compute a walk, a numbering, an edition, a marker, a scan, the order of tile-parts, an index by tile, a split, an assembly, a search or component sizes over sample bytes.
+-- What is unfolded to compute a walk, a numbering, an edition, a marker, a scan, the check of a length table, the order of tile-parts, an index by tile, a split, an assembly, a search or component sizes over sample bytes.
 use mathlib.Core.List.{flatten}
 use Rattle.numbers.specs.Bits.{bit, ones}
 use Rattle.numbers.specs.Bytes.{be, bytesOf, put}
@@ -18,6 +18,8 @@ use Rattle.parts.specs.Scan.{eocAt, sotStepAt, scanStepAt, scanFrom, entriesFro
 use Rattle.parts.specs.Split.{partEnd, splitStepAt, splitFrom, partsFrom, partsOf}
 use Rattle.parts.specs.Tiles.{ofTile}
 use Rattle.parts.specs.Order.{numbersOf, numberedAs, runFrom, runs, inOrder}
+use Rattle.lengths.specs.Segments.{tlmsIn, isIn, once, insert, ordered, before, tableEnd}
+use Rattle.lengths.specs.Check.{listed, standing, same, compared, behindScan, behindTable, behindHeader, checked}
 use Rattle.index.specs.Merge.{laterIn, mergedTo, merged}
 use Rattle.index.specs.Extend.{fits, extended, indexAfter}
 use Rattle.index.specs.Entries.{firstIf, picked, given}
@@ -27,10 +29,11 @@ use Rattle.tile.specs.AnnexB.{laid, cellsOf, fromOf, toOf, cellArea, inCells, o
 use Rattle.tile.specs.Rules.{imageArea, byAnnexB, byOriginal, placedBy}
 use Rattle.tile.specs.Rewrite.{sized, moved, cutBy, sizeOf, sizeIn, tileSize, cutTo, rewritten, over, rewriteAnswer, rewriteOut}
 use Rattle.tile.specs.Assembly.{rangeOf, andPart, partsIn, isSot, patched, partSize, sizeFor, joined, assembled, answerFor, assemblyAnswer, assemblyOut}
-use Rattle.reader.specs.Components.{sizWhole, countHeld, apart, allApart, ordered, componentsRead, atTile, componentsInTile, divided, componentAt, isThere, componentIn, chosen, componentOf, componentInTile}
+use Rattle.reader.specs.Components.{sizWhole, countHeld, apart, allApart, componentsRead, atTile, componentsInTile, divided, componentAt, isThere, componentIn, chosen, componentOf, componentInTile}
 use Rattle.reader.specs.Search.{boxAt, content, passed, onBox, foundFrom, isJp2, foundIn}
-use Rattle.laws.specs.Sample.{two, four, sizFrom, sizOf, siz, header, grid, counting, tlm, announcing, cap, sotOf, sot, part, head, withTlm, A, signature, jp2c}
+use Rattle.laws.specs.Sample.{two, four, sizFrom, sizOf, siz, header, grid, counting, tlmOf, tlm, announcing, cap, sotOf, sot, part, head, withTlm, listing, A, lean, signature, jp2c}
 use Rattle.index.specs.Index as index
+use Rattle.reader.specs.Components as sizes
 use Rattle.parts.specs.Scan as scan
 use Rattle.parts.specs.Split as split
 use Rattle.tile.specs.Rewrite as rewrite
@@ -38,7 +41,7 @@ use Rattle.reader.specs.Search as search
 use Rattle.reader.specs.Siz as siz-reading
 
 unfoldable pub samples : Unit {0}
-unfolding be bytesOf put numbersAt numberBytes rowOf rowsOf two four sizFrom sizOf siz header grid counting tlm sotOf sot part head withTlm A signature jp2c also onMove counted chain
+unfolding be bytesOf put numbersAt numberBytes rowOf rowsOf two four sizFrom sizOf siz header grid counting tlmOf tlm sotOf sot part head withTlm listing A lean signature jp2c also onMove counted chain
 samples = tt
 
 unfoldable pub extents : Unit {0}
@@ -65,6 +68,10 @@ unfoldable pub scan-runs : Unit {0}
 unfolding samples eocAt sotStepAt scanStepAt scan.moveOf scan.moveAt scanFrom entriesFrom scan.endedAs scan.judged scan.withRoom scanned written scannedTable ofTile
 scan-runs = tt
 
+unfoldable pub length-tables : Unit {0}
+unfolding numberings scan-runs tlmsIn isIn once insert ordered before tableEnd listed standing same compared behindScan behindTable behindHeader checked
+length-tables = tt
+
 unfoldable pub orders : Unit {0}
 unfolding scan-runs flatten recordsAt recordsFrom recordsIn numbersOf numberedAs runFrom runs inOrder
 orders = tt
@@ -90,5 +97,5 @@ unfolding samples siz-reading.sizRead siz-reading.sizFrom siz-reading.moveAt
 siz-readings = tt
 
 unfoldable pub components : Unit {0}
-unfolding tiles segmentEnd stands sizWhole countHeld apart allApart imageArea ordered componentsRead atTile componentsInTile divided componentAt isThere componentIn chosen componentOf componentInTile
+unfolding tiles segmentEnd stands sizWhole countHeld apart allApart imageArea sizes.ordered componentsRead atTile componentsInTile divided componentAt isThere componentIn chosen componentOf componentInTile
 components = tt

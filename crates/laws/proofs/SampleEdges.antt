@@ -9,7 +9,7 @@ use lib.ListN.{length, take, replicate}
 use lib.Dec.{eqb}
 use borrow.Author.Tests.{ne-eqb}
 use Rattle.numbers.specs.Bytes.{bytesOf}
-use Rattle.types.specs.Markers.{SOC, CAP, SOT}
+use Rattle.types.specs.Markers.{SOC, CAP, SOT, EOC}
 use Rattle.types.specs.Refusals.{refusal}
 use Rattle.types.specs.Row.{rowOf, rowsOf, recordsIn}
 use Rattle.types.specs.declared.Area.{Area}
@@ -46,6 +46,11 @@ use Rattle.parts.specs.Tiles.{ofTile}
 use Rattle.parts.specs.Order.{inOrder}
 use Rattle.parts.proofs.OrderAnswers.{TPsotByte}
 use Rattle.parts.specs.declared.scan.Scanned.the-variants.{Table}
+use Rattle.lengths.specs.Check.{differing}
+use Rattle.lengths.specs.Check as lengths
+use Rattle.lengths.specs.declared.check.Said.the-variants.{Part, Nothing}
+use Rattle.lengths.specs.declared.check.Check.{Check}
+use Rattle.lengths.specs.declared.check.Check.the-variants as check
 use Rattle.index.specs.Index.{keyOf, indexOf}
 use Rattle.index.specs.Index.{numbered as numbered-entries}
 use Rattle.index.specs.Merge.{merged}
@@ -73,9 +78,9 @@ use Rattle.reader.specs.Growth.{regionAt, grown}
 use Rattle.reader.specs.declared.search.Found.the-variants.{Codestream}
 use Rattle.reader.proofs.GrowthLaws.{region-pow, whole-suffices, truncated-not, grown-end, grown-on}
 use Rattle.reader.proofs.GrowthFirst.{grown-only}
-use Rattle.laws.proofs.SampleComputing.{samples, extents, walks, numberings, editions, findings, scan-runs, orders, indexes, split-runs, tiles, searches, siz-readings, components}
+use Rattle.laws.proofs.SampleComputing.{samples, extents, walks, numberings, editions, findings, scan-runs, length-tables, orders, indexes, split-runs, tiles, searches, siz-readings, components}
 use Rattle.laws.proofs.SampleNumbering.{three}
-use Rattle.laws.specs.Sample.{two, zeros, sizOf, header, grid, counting, tlm, announcing, cap, sotOf, sot, part, head, withTlm, A, signature, jp2c}
+use Rattle.laws.specs.Sample.{two, zeros, sizOf, header, grid, counting, tlmOf, tlm, announcing, cap, sotOf, sot, part, head, withTlm, listing, A, lean, signature, jp2c}
 use Rattle.laws.proofs.SampleStandard as standard
 use Rattle.laws.proofs.SampleNumbering as many
 use Rattle.header.specs.declared.parse.MainHeader.the-variants as parse
@@ -891,6 +896,135 @@ entry-in-row = refl
 pub entry-no-row : entries.given 1 0 ≡ index.Refused (refusal 18 1)
 unfolding indexes
 entry-no-row = refl
+
+-- ---- * A passes, of its first 59 bytes, of all, and of more than there are; of 58: 6; of none: 1.
+
+abbrev refuses : ℕ → ℕ → Check
+refuses number place = check.Refused (refusal number place)
+
+pub check-A : lengths.checked A 89 ≡ check.Passes
+unfolding length-tables
+check-A = refl
+
+pub check-59 : lengths.checked A 59 ≡ check.Passes
+unfolding length-tables
+check-59 = refl
+
+pub check-58 : lengths.checked A 58 ≡ refuses 6 58
+unfolding length-tables
+check-58 = refl
+
+pub check-0 : lengths.checked A 0 ≡ refuses 1 0
+unfolding length-tables
+check-0 = refl
+
+pub check-most : lengths.checked A 0xffff_ffff_ffff_ffff ≡ check.Passes
+unfolding length-tables
+check-most = refl
+
+-- ---- * A with a length of 15 for 14: differs at 0; with index 4 for 5: at 1; without its second entry: at 1; with a third: at 2, where EOC stands.
+
+pub other-length : lengths.checked (listing (0 ∷ 0 ∷ 15 ∷ 5 ∷ 0 ∷ 16 ∷ [])) 89 ≡ differing 0 57 (Part 0 15) (Part 0 14)
+unfolding length-tables
+other-length = refl
+
+pub other-index : lengths.checked (listing (0 ∷ 0 ∷ 14 ∷ 4 ∷ 0 ∷ 16 ∷ [])) 89 ≡ differing 1 71 (Part 4 16) (Part 5 16)
+unfolding length-tables
+other-index = refl
+
+pub entry-missing : lengths.checked (listing (0 ∷ 0 ∷ 14 ∷ [])) 86 ≡ differing 1 68 Nothing (Part 5 16)
+unfolding length-tables
+entry-missing = refl
+
+pub entry-surplus : lengths.checked (listing (0 ∷ 0 ∷ 14 ∷ 5 ∷ 0 ∷ 16 ∷ 7 ∷ 0 ∷ 12 ∷ [])) 92 ≡ differing 2 90 (Part 7 12) Nothing
+unfolding length-tables
+entry-surplus = refl
+
+-- ---- * No TLM segment; one without entries: differs at 0.
+
+pub no-segment : lengths.checked (withTlm []) 59 ≡ differing 0 45 Nothing (Part 0 14)
+unfolding length-tables
+no-segment = refl
+
+pub no-entries : lengths.checked (withTlm (tlm 0 [])) 65 ≡ differing 0 51 Nothing (Part 0 14)
+unfolding length-tables
+no-entries = refl
+
+-- ---- * Two segments of the same Ztlm: 32 at the second; of two: none. The third repeats the first: at the third. Two that repeat: at the first of them.
+
+pub same-ztlm : lengths.checked (lean (tlmOf 0 0 [] ++ tlmOf 0 0 []) (sot 0 12)) 30 ≡ refuses 32 12
+unfolding length-tables
+same-ztlm = refl
+
+pub other-ztlm : lengths.checked (lean (tlmOf 0 0 [] ++ tlmOf 1 0 []) (sot 0 12)) 30 ≡ differing 0 18 Nothing (Part 0 12)
+unfolding length-tables
+other-ztlm = refl
+
+pub third-repeats : lengths.checked (lean (tlmOf 0 0 [] ++ tlmOf 1 0 [] ++ tlmOf 0 0 []) (sot 0 12)) 36 ≡ refuses 32 18
+unfolding length-tables
+third-repeats = refl
+
+pub first-that-repeats : lengths.checked (lean (tlmOf 0 0 [] ++ tlmOf 0 0 [] ++ tlmOf 1 0 [] ++ tlmOf 1 0 []) (sot 0 12)) 42 ≡ refuses 32 12
+unfolding length-tables
+first-that-repeats = refl
+
+-- ---- * The same Ztlm, and no SOT; a segment behind it that is cut: 6; 3. A tile-part that passes the end; an SOT that is cut: 32; of two Ztlm 9; 7.
+
+pub six-before-32 : lengths.checked (lean (tlmOf 0 0 [] ++ tlmOf 0 0 []) []) 18 ≡ refuses 6 18
+unfolding length-tables
+six-before-32 = refl
+
+pub three-before-32 : lengths.checked (lean (tlmOf 0 0 [] ++ tlmOf 0 0 []) (two 0xff64 ++ two 4)) 22 ≡ refuses 3 18
+unfolding length-tables
+three-before-32 = refl
+
+pub thirty-two-before-9 : lengths.checked (lean (tlmOf 0 0 [] ++ tlmOf 0 0 []) (sot 0 13)) 30 ≡ refuses 32 12
+unfolding length-tables
+thirty-two-before-9 = refl
+
+pub nine-of-two : lengths.checked (lean (tlmOf 0 0 [] ++ tlmOf 1 0 []) (sot 0 13)) 30 ≡ refuses 9 18
+unfolding length-tables
+nine-of-two = refl
+
+pub thirty-two-before-7 : lengths.checked (lean (tlmOf 0 0 [] ++ tlmOf 0 0 []) (two SOT)) 20 ≡ refuses 32 12
+unfolding length-tables
+thirty-two-before-7 = refl
+
+pub seven-of-two : lengths.checked (lean (tlmOf 0 0 [] ++ tlmOf 1 0 []) (two SOT)) 20 ≡ refuses 7 18
+unfolding length-tables
+seven-of-two = refl
+
+-- ---- * An entry that differs, and behind it a tile-part that passes the end: 9 there.
+
+pub nine-behind : lengths.checked (lean (tlmOf 0 0 (0 ∷ 13 ∷ [])) (sot 0 12 ++ sot 0 13)) 38 ≡ refuses 9 26
+unfolding length-tables
+nine-behind = refl
+
+-- ---- * Two segments of one length without an index, 12 with Ztlm 1 and 13 with Ztlm 0, before parts of 13 and 12: passes; their Ztlm swapped: differs at 0.
+
+pub by-ztlm : lengths.checked (lean (tlmOf 1 0 (0 ∷ 12 ∷ []) ++ tlmOf 0 0 (0 ∷ 13 ∷ [])) (sot 0 13 ++ (0 ∷ sot 1 12))) 47 ≡ check.Passes
+unfolding length-tables
+by-ztlm = refl
+
+pub by-file-order : lengths.checked (lean (tlmOf 0 0 (0 ∷ 12 ∷ []) ++ tlmOf 1 0 (0 ∷ 13 ∷ [])) (sot 0 13 ++ (0 ∷ sot 1 12))) 47 ≡ differing 0 22 (Part 0 12) (Part 0 13)
+unfolding length-tables
+by-file-order = refl
+
+-- ---- * Without an index; with index 7; without: numbered 0, 7, 1 in the order of Ztlm, which is the file's in reverse.
+
+pub numbered-by-ztlm : lengths.checked (lean (tlmOf 9 0 (0 ∷ 12 ∷ []) ++ tlmOf 8 0x10 (7 ∷ 0 ∷ 13 ∷ []) ++ tlmOf 4 0 (0 ∷ 14 ∷ [])) (part 0 14 [] ++ sot 7 13 ++ (0 ∷ sot 1 12))) 70 ≡ check.Passes
+unfolding length-tables
+numbered-by-ztlm = refl
+
+-- ---- * Psot 0: to the codestream's end. With EOC the table, which leaves it out, differs; without it passes.
+
+pub eoc-counted : lengths.checked (lean (tlmOf 0 0 (0 ∷ 12 ∷ [])) (sot 0 0 ++ two EOC)) 28 ≡ differing 0 14 (Part 0 12) (Part 0 14)
+unfolding length-tables
+eoc-counted = refl
+
+pub no-eoc : lengths.checked (lean (tlmOf 0 0 (0 ∷ 12 ∷ [])) (sot 0 0)) 26 ≡ check.Passes
+unfolding length-tables
+no-eoc = refl
 
 -- ---- * Split of a part with Psot 14 and 11 more bytes: one part.
 

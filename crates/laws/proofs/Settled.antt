@@ -10,6 +10,7 @@ use Rattle.types.proofs as types
 use Rattle.header.proofs as header
 use Rattle.header.specs.Parse.{tableAfter, outAfter}
 use Rattle.parts.proofs as parts
+use Rattle.lengths.proofs as lengths
 use Rattle.types.specs.Row.{rowBytes, recordsIn}
 use Rattle.index.proofs as index
 use Rattle.index.specs.Extend.{oldOf, indexAfter, scratchAfter, indexMade}
@@ -88,6 +89,9 @@ parse-main-header m κs a g =
 pub scan-step : {M : Type 1} → Settles M parts.scan.scan_step.ended parts.scan.scan_step.clauses
 scan-step m κs a g = settles m (last m) λ x y e i. (e i, x .1)
 
+pub scan-judge : {M : Type 1} → Settles M parts.scan.judge.ended parts.scan.judge.clauses
+scan-judge m κs a g = settles m (last m) λ x y e i. (e i, x .1)
+
 pub parts-decide : {M : Type 1} → Settles M parts.scan.decide.ended parts.scan.decide.clauses
 parts-decide m κs a g = settles m (last m) λ x y e i. (e i, x .1)
 
@@ -121,6 +125,11 @@ split-at m κs a g = settles m (last m) λ x y e i. (e i, x .1)
 
 pub split-tell : {M : Type 1} → Settles M parts.split.tell.ended parts.split.tell.clauses
 split-tell m κs a g = settles m (before m (before m (last m))) λ x y e i. (e .0 i, (tt, (e .1 .1 i, (e .1 .0 i, tt))))
+
+-- ---- lengths
+
+pub check-length-table : {M : Type 1} → Settles M lengths.check.check_length_table.ended lengths.check.check_length_table.clauses
+check-length-table m κs a g = settles m (last m) λ x y e i. (e i, x .1)
 
 -- ---- index
 
@@ -357,6 +366,9 @@ winterhasp-read-components-in-tile m κs a g = settles m (before m (before m (be
 
 pub winterhasp-read-components-in-tile-by-rule : {M : Type 1} → Settles M host.components.winterhasp_read_components_in_tile_by_rule.ended host.components.winterhasp_read_components_in_tile_by_rule.clauses
 winterhasp-read-components-in-tile-by-rule m κs a g = settles m (before m (before m (before m (before m (before m (last m)))))) λ x y e i. (e .0 i, (tt, (tt, (tt, (e .1 .0 i, (e .1 .1 .0 i, (e .1 .1 .1 .0 i, (e .1 .1 .1 .1 .0 i, (e .1 .1 .1 .1 .1 i, tt)))))))))
+
+pub winterhasp-check-length-table : {M : Type 1} → Settles M host.check.winterhasp_check_length_table.ended host.check.winterhasp_check_length_table.clauses
+winterhasp-check-length-table m κs a g = settles m (before m (before m (before m (before m (before m (before m (last m))))))) λ x y e i. (e .0 i, (tt, (tt, (e .1 .0 i, (e .1 .1 .0 i, (e .1 .1 .1 .0 i, (e .1 .1 .1 .1 .0 i, (e .1 .1 .1 .1 .1 .0 i, (e .1 .1 .1 .1 .1 .1 i, tt)))))))))
 
 pub winterhasp-component : {M : Type 1} → Settles M host.components.winterhasp_component.ended host.components.winterhasp_component.clauses
 winterhasp-component m κs a g = settles m (before m (before m (before m (before m (before m (before m (before m (before m (last m))))))))) λ x y e i. (e .0 i, (tt, (tt, (e .1 .0 i, (e .1 .1 .0 i, (e .1 .1 .1 .0 i, (e .1 .1 .1 .1 .0 i, (e .1 .1 .1 .1 .1 .0 i, (e .1 .1 .1 .1 .1 .1 .0 i, (e .1 .1 .1 .1 .1 .1 .1 .0 i, (e .1 .1 .1 .1 .1 .1 .1 .1 i, tt)))))))))))

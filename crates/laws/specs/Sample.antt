@@ -49,10 +49,15 @@ unfoldable pub counting : ℕ → ℕ → ℕ → ℕ → List ℕ → List ℕ
 unfolding two sizOf
 counting lsiz xo yo csiz components = two SOC ++ sizOf lsiz 10 6 xo yo 4 4 csiz components
 
--- TLM of an Stlm, and the bytes of its entries
-unfoldable pub tlm : ℕ → List ℕ → List ℕ
+-- TLM of a Ztlm and an Stlm, and the bytes of its entries
+unfoldable pub tlmOf : ℕ → ℕ → List ℕ → List ℕ
 unfolding two
-tlm stlm entries = two TLM ++ two (4 + length entries) ++ (0 ∷ stlm ∷ entries)
+tlmOf ztlm stlm entries = two TLM ++ two (4 + length entries) ++ (ztlm ∷ stlm ∷ entries)
+
+-- of Ztlm 0
+unfoldable pub tlm : ℕ → List ℕ → List ℕ
+unfolding tlmOf
+tlm stlm entries = tlmOf 0 stlm entries
 
 -- SOC, SIZ with nothing but Rsiz, segments, and SOT
 unfoldable pub announcing : ℕ → List ℕ → List ℕ
@@ -89,10 +94,19 @@ unfoldable pub withTlm : List ℕ → List ℕ
 unfolding head part
 withTlm segments = head ++ segments ++ part 0 14 []
 
--- TLM with indices of 1 byte and lengths of 2
-unfoldable pub A : List ℕ
+-- TLM with indices of 1 byte and lengths of 2, of any entries, before two tile-parts
+unfoldable pub listing : List ℕ → List ℕ
 unfolding two head tlm part
-A = head ++ tlm 0x10 (0 ∷ 0 ∷ 14 ∷ 5 ∷ 0 ∷ 16 ∷ []) ++ part 0 14 [] ++ part 5 16 (0xaa ∷ 0xbb ∷ []) ++ two EOC
+listing entries = head ++ tlm 0x10 entries ++ part 0 14 [] ++ part 5 16 (0xaa ∷ 0xbb ∷ []) ++ two EOC
+
+unfoldable pub A : List ℕ
+unfolding listing
+A = listing (0 ∷ 0 ∷ 14 ∷ 5 ∷ 0 ∷ 16 ∷ [])
+
+-- SOC, a SIZ of no field, segments, and what follows
+unfoldable pub lean : List ℕ → List ℕ → List ℕ
+unfolding two
+lean segments parts = two SOC ++ two SIZ ++ two 2 ++ segments ++ parts
 
 -- JP2's signature box, and the first bytes of a jp2c box of a length
 unfoldable pub signature : List ℕ

@@ -4,3 +4,6 @@ pub mod PlacesNumbered
 pub mod AgreeLaws
 pub mod CheckCompared
 pub mod CheckLaws
+pub mod SegmentsLaws
+pub mod CheckVerdict
+pub mod CheckPrefix

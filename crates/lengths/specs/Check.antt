@@ -1,16 +1,19 @@
 -- The check of a length table (docs/RULES.md, "Length table check"): the entries of the TLM segments in the order of Ztlm, those without an index numbered on,
 -- against the entries of the scan. The header is read of the first bytes of the codestream, the tile-parts of all of them.
-use Prim.Native.Nat.{ℕ, _+_}
+use Prim.Native.Nat.{ℕ, zero, suc, _+_}
+use mathlib.Core.Path.{_≡_}
 use mathlib.Core.Bool.{Bool, cond, _&&_}
 use mathlib.Core.List.{List, [], _∷_, map}
 use lib.ListN.{take}
 use lib.Dec.{eqb}
+use Rattle.types.specs.declared.Refusal.{Refusal}
 use Rattle.types.specs.declared.TilePartEntry.{TilePartEntry}
-use Rattle.header.specs.Tlm.{Entry}
+use Rattle.header.specs.Tlm.{Entry, total}
 use Rattle.header.specs.Walk.{WalkEnd, firstSot, refused, walkFrom}
 use Rattle.header.specs.Numbering.{entriesBy}
 use Rattle.header.specs.Parse.{judged}
 use Rattle.header.specs.declared.numbering.Numbering.the-variants.{CarriedOn}
+use Rattle.header.specs.declared.parse.MainHeaderInfo.{MainHeaderInfo}
 use Rattle.header.specs.declared.parse.MainHeader.{MainHeader}
 use Rattle.header.specs.declared.parse.MainHeader.the-variants as main
 use Rattle.parts.specs.Scan.{ScanEnd, ended, scanFrom, entriesFrom}
@@ -18,6 +21,7 @@ use Rattle.parts.specs.Scan as scan
 use Rattle.lengths.specs.Segments.{tlmsOf, ordered, tableEnd}
 use Rattle.lengths.specs.declared.check.Said.{Said}
 use Rattle.lengths.specs.declared.check.Said.the-variants.{Part, Nothing}
+use Rattle.lengths.specs.declared.check.Difference.{Difference}
 use Rattle.lengths.specs.declared.check.Check.{Check}
 use Rattle.lengths.specs.declared.check.Check.the-variants.{Passes, DiffersAt, Refused}
 
@@ -70,3 +74,34 @@ behindHeader h s (main.Refused r) = Refused r
 -- the check of a codestream whose header is read of its first bytes, as many as the region says
 unfoldable pub checked : List ℕ → ℕ → Check
 checked s region = behindHeader (take region s) s (judged (take region s))
+
+-- ---- of which the laws speak
+
+-- the n-th entry of a list, or that there is none
+unfoldable pub saidAt : ℕ → List Entry → Said
+saidAt n [] = Nothing
+saidAt zero (e ∷ es) = said e
+saidAt (suc n) (e ∷ es) = saidAt n es
+
+-- nothing is refused: the header is accepted with its first SOT at p, no Ztlm is used twice and no number passes, and the scan from p is accepted
+pub record Compares (s : List ℕ) (region p : ℕ) : Type 0 where
+  pub info : MainHeaderInfo
+  pub header : judged (take region s) ≡ main.Header info
+  pub first : info .«first_sot_offset» .0 ≡ p
+  pub table : tableEnd (take region s) (tlmsOf (take region s)) ≡ firstSot
+  pub scan : scanFrom s p .ended ≡ ended
+
+-- something is, at one of these stages and at none before it
+pub data Refuses (s : List ℕ) (region : ℕ) (r : Refusal) : Type 0 where
+  byHeader : judged (take region s) ≡ main.Refused r → Refuses s region r
+  byTable : (info : MainHeaderInfo) → judged (take region s) ≡ main.Header info → tableEnd (take region s) (tlmsOf (take region s)) ≡ refused r → Refuses s region r
+  byScan : (info : MainHeaderInfo) → judged (take region s) ≡ main.Header info → tableEnd (take region s) (tlmsOf (take region s)) ≡ firstSot
+      → scanFrom s (info .«first_sot_offset» .0) .ended ≡ scan.refused r → Refuses s region r
+
+-- the first n entries of two lists are the same, and the n-th are not; where they stand if the first stands at a place
+pub record DiffersFirst (n at : ℕ) (xs ys : List Entry) (d : Difference) : Type 0 where
+  pub alike : take n xs ≡ take n ys
+  pub unlike : saidAt n xs ≡ saidAt n ys → ⊥
+  pub listed : d .listed ≡ saidAt n xs
+  pub standing : d .standing ≡ saidAt n ys
+  pub offset : d .offset .0 ≡ at + total (take n xs)

@@ -1,6 +1,6 @@
 -- The TLM segments of a main header in the order of Ztlm (docs/RULES.md, "Length table check"): those that the walk visits, a Ztlm that is used twice, their
 -- order, and numbers that pass. Said of any list of visits, so that it has an answer for any bytes.
-use Prim.Native.Nat.{ℕ}
+use Prim.Native.Nat.{ℕ, _+_, _≤_, _<_}
 use mathlib.Core.Bool.{Bool, false, cond, _||_}
 use mathlib.Core.List.{List, [], _∷_}
 use lib.Dec.{leb, eqb}
@@ -50,3 +50,27 @@ before (refused r) that = refused r
 unfoldable pub tableEnd : List ℕ → List Visit → WalkEnd
 unfolding before
 tableEnd h tlms = before (once h [] tlms) (endedBy CarriedOn h 0 (ordered h tlms) firstSot)
+
+-- ---- of which the laws speak
+
+-- how often a position stands in a list of visits
+unfoldable pub times : ℕ → List Visit → ℕ
+times at [] = 0
+times at (v ∷ rest) = cond (eqb (v .at) at) 1 0 + times at rest
+
+-- the numbers of segments, the last one's first, and behind them others
+unfoldable pub numbersOf : List ℕ → List Visit → List ℕ → List ℕ
+numbersOf h [] used = used
+numbersOf h (v ∷ rest) used = numbersOf h rest (ztlm h (v .at) ∷ used)
+
+-- Ztlm rises from a segment to the next
+unfoldable pub Rising : List ℕ → List Visit → Type 0
+Rising h [] = Unit {0}
+Rising h (v ∷ []) = Unit {0}
+Rising h (v ∷ u ∷ rest) = (ztlm h (v .at) < ztlm h (u .at)) × Rising h (u ∷ rest)
+
+-- it does not fall
+unfoldable pub NotFalling : List ℕ → List Visit → Type 0
+NotFalling h [] = Unit {0}
+NotFalling h (v ∷ []) = Unit {0}
+NotFalling h (v ∷ u ∷ rest) = (ztlm h (v .at) ≤ ztlm h (u .at)) × NotFalling h (u ∷ rest)
