@@ -292,6 +292,74 @@ static void editions(void)
     }
 }
 
+/* What a check tells. */
+typedef struct {
+    uint64_t value, offset, listed_tile, listed_length, standing_tile, standing_length;
+} difference;
+
+/* Each of the numbers holds 7 before. */
+static uint32_t checked(const uint8_t *codestream, size_t length, uint64_t region, difference *told)
+{
+    *told = (difference){ 7, 7, 7, 7, 7, 7 };
+    return winterhasp_check_length_table(codestream, length, region, &told->value, &told->offset, &told->listed_tile,
+                                         &told->listed_length, &told->standing_tile, &told->standing_length);
+}
+
+/* Whether it told the first of these, and left the others. */
+static int told_alone(const difference *told, uint64_t value)
+{
+    return told->value == value && told->offset == 7 && told->listed_tile == 7 && told->listed_length == 7 &&
+           told->standing_tile == 7 && told->standing_length == 7;
+}
+
+static int told_parts(const difference *told, uint64_t listed_tile, uint64_t listed_length, uint64_t standing_tile,
+                      uint64_t standing_length)
+{
+    return told->listed_tile == listed_tile && told->listed_length == listed_length && told->standing_tile == standing_tile &&
+           told->standing_length == standing_length;
+}
+
+/* The sample's table, at 45, lists tile 0 with 14 bytes and tile 5 with 16, and so they stand. */
+static void length_tables(const uint8_t *sample)
+{
+    enum { DIFFERS = WINTERHASP_LENGTH_TABLE_DIFFERS, NONE = WINTERHASP_NO_TILE, TLM_BYTES = 12 };
+    static const uint64_t regions[] = { 59, SAMPLE_BYTES, UINT64_MAX };
+    uint8_t other[SAMPLE_BYTES + TLM_BYTES];
+    difference told;
+    for (size_t i = 0; i < sizeof regions / sizeof *regions; i++)
+        CHECK(checked(sample, SAMPLE_BYTES, regions[i], &told) == 0 && told_alone(&told, 7));
+    CHECK(checked(sample, SAMPLE_BYTES, 58, &told) == WINTERHASP_NO_TILE_PART && told_alone(&told, 58));
+    CHECK(checked(NULL, 0, 0, &told) == WINTERHASP_NO_SOC && told_alone(&told, 0));
+    CHECK(checked(sample, 80, 80, &told) == WINTERHASP_TILE_PART_CUT_SHORT && told_alone(&told, 71));
+
+    /* another length, and another tile */
+    memcpy(other, sample, SAMPLE_BYTES);
+    other[56] = 17;
+    CHECK(checked(other, SAMPLE_BYTES, SAMPLE_BYTES, &told) == DIFFERS && told.value == 1 && told.offset == 71);
+    CHECK(told_parts(&told, 5, 17, 5, 16));
+    other[51] = 6;
+    CHECK(checked(other, SAMPLE_BYTES, SAMPLE_BYTES, &told) == DIFFERS && told.value == 0 && told.offset == FIRST_SOT);
+    CHECK(told_parts(&told, 6, 14, 0, 14));
+    /* the second tile-part cut off; its entry left out; and a comment in the place of the table */
+    CHECK(checked(sample, 71, 71, &told) == DIFFERS && told.value == 1 && told.offset == 71 && told_parts(&told, 5, 16, NONE, 0));
+    memcpy(other, sample, 54);
+    other[48] = 7;
+    memcpy(other + 54, sample + FIRST_SOT, SAMPLE_BYTES - FIRST_SOT);
+    CHECK(checked(other, SAMPLE_BYTES - 3, SAMPLE_BYTES, &told) == DIFFERS && told.value == 1 && told.offset == 68);
+    CHECK(told_parts(&told, NONE, 0, 5, 16));
+    memcpy(other, sample, SAMPLE_BYTES);
+    other[46] = 0x64;
+    CHECK(checked(other, SAMPLE_BYTES, SAMPLE_BYTES, &told) == DIFFERS && told.value == 0 && told.offset == FIRST_SOT);
+    CHECK(told_parts(&told, NONE, 0, 0, 14));
+
+    /* the table twice, under one number and under two */
+    memcpy(other, sample, FIRST_SOT);
+    memcpy(other + FIRST_SOT, sample + 45, SAMPLE_BYTES - 45);
+    CHECK(checked(other, sizeof other, sizeof other, &told) == WINTERHASP_TLM_NUMBER_REPEATED && told_alone(&told, FIRST_SOT));
+    other[FIRST_SOT + 4] = 1;
+    CHECK(checked(other, sizeof other, sizeof other, &told) == DIFFERS && told.value == 2 && told_parts(&told, 0, 14, NONE, 0));
+}
+
 /* Three segments of 22,000 lengths each without an index: where numbers are carried on the third has one that is past 65,534. */
 static void too_many_entries(void)
 {
@@ -315,6 +383,12 @@ static void too_many_entries(void)
                                                   &first, &length, &entries, &fillers) == 0);
     CHECK(first == 6 + 3 * SEGMENT && length == 6 && entries == 66000);
     CHECK(winterhasp_row_index(table + 65999 * (size_t)WINTERHASP_ROW_BYTES) == 21999);
+
+    /* checked, the last is the one of the last number */
+    difference told;
+    for (int segment = 0; segment < 3; segment++)
+        codestream[6 + segment * SEGMENT + 4] = (uint8_t)(2 - segment);
+    CHECK(checked(codestream, sizeof codestream, UINT64_MAX, &told) == WINTERHASP_TLM_TOO_MANY_ENTRIES && told_alone(&told, 6));
 }
 
 static void parts(const uint8_t *sample)
@@ -583,6 +657,7 @@ int main(void)
     header_with_fillers();
     numberings();
     editions();
+    length_tables(sample);
     too_many_entries();
     parts(sample);
     index_by_tile();

@@ -151,6 +151,29 @@ pub const SCAN_RECORDS: Wanted = Wanted {
     ..SCAN
 };
 
+/// Of a length table beside the tile-parts; the original compares none.
+pub const PASSES: &str = "passes";
+pub const DIFFERS: &str = "differs";
+pub const CHECK: Wanted = Wanted {
+    name: "check_length_table",
+    answers: &[
+        (PASSES, 0),
+        (DIFFERS, 0),
+        ("refused 1", 0),
+        ("refused 2", 0),
+        ("refused 3", 0),
+        ("refused 4", 0),
+        ("refused 5", 0),
+        ("refused 6", 0),
+        ("refused 7", 0),
+        ("refused 8", 0),
+        ("refused 9", 0),
+        (TOO_LONG, 0),
+        ("refused 26", 0),
+        ("refused 32", 0),
+    ],
+};
+
 /// The original doesn't read what they are told by.
 pub const IN_ORDER: &str = "in order";
 pub const NOT_IN_ORDER: &str = "not in order";

@@ -233,6 +233,13 @@ const REFUSALS: &[Words] = &[
         remedy: "check the tile's index: the grid of tiles ends before it",
     },
     Words {
+        number: 32,
+        name: "TLM_NUMBER_REPEATED",
+        wrong: "two tile-part length segments (TLM) have the same number",
+        origin: Origin::Codestream,
+        remedy: "tell the writer of the file: its length table has no order; the scan lists the tile-parts without TLM",
+    },
+    Words {
         number: 33,
         name: "CAP_OUT_OF_PLACE",
         wrong: "the capabilities segment (CAP) is announced and missing, or stands there unannounced or twice",

@@ -23,7 +23,7 @@ macro_rules! labels {
 
 /// By number; 0 is none.
 const LABELS: &[(u32, &str)] =
-    labels![1 2 3 4 5 6 7 8 9 10 11 12 13 14 15 16 17 18 19 20 21 22 23 24 25 26 30 31 33 34];
+    labels![1 2 3 4 5 6 7 8 9 10 11 12 13 14 15 16 17 18 19 20 21 22 23 24 25 26 30 31 32 33 34];
 
 impl Refusal {
     pub fn new(number: u32, place: u64) -> Self {
@@ -31,11 +31,12 @@ impl Refusal {
     }
 
     /// Of output and tables, too long a loan, 15, components, numbers that are carried on, the
-    /// standard's rule for tiles, and the newer edition: the original has nothing that answers to them.
+    /// standard's rule for tiles, the order of TLM, and the newer edition: the original has nothing that
+    /// answers to them.
     pub fn is_ours_alone(&self) -> bool {
         matches!(
             self.number,
-            15 | 17 | 18 | 19 | 23 | 24 | 25 | 26 | 30 | 31 | 33 | 34
+            15 | 17 | 18 | 19 | 23 | 24 | 25 | 26 | 30 | 31 | 32 | 33 | 34
         )
     }
 
