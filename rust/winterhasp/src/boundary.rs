@@ -60,6 +60,18 @@ mod archive {
             value: *mut u64,
         ) -> u32;
 
+        pub fn winterhasp_check_length_table(
+            codestream: *const u8,
+            codestream_len: usize,
+            region: u64,
+            value: *mut u64,
+            offset: *mut u64,
+            listed_tile: *mut u64,
+            listed_length: *mut u64,
+            standing_tile: *mut u64,
+            standing_length: *mut u64,
+        ) -> u32;
+
         pub fn winterhasp_tile_in_order(table: *const u8, table_len: usize, tile: u16) -> u32;
 
         pub fn winterhasp_index_tiles(
@@ -398,6 +410,36 @@ pub fn scan_sot_markers(
             table.as_mut_ptr(),
             table.len(),
             value,
+        )
+    }
+}
+
+/// What the function below answers where the length table differs from what stands there; where it does
+/// not, the numbers lent are as they were.
+pub const LENGTH_TABLE_DIFFERS: u32 = 258;
+
+/// What it tells for the tile of what is not there, with a length of 0.
+pub const NO_TILE: u64 = 65_536;
+
+/// The header is read of the first `region` bytes. Numbers: the entry's, where its tile-part stands, the
+/// tile and the length that are listed, and those that stand there.
+pub fn check_length_table(
+    codestream: &[u8],
+    region: u64,
+    [number, offset, listed_tile, listed_length, standing_tile, standing_length]: &mut [u64; 6],
+) -> u32 {
+    // SAFETY: as at the top of this file.
+    unsafe {
+        archive::winterhasp_check_length_table(
+            codestream.as_ptr(),
+            codestream.len(),
+            region,
+            number,
+            offset,
+            listed_tile,
+            listed_length,
+            standing_tile,
+            standing_length,
         )
     }
 }

@@ -3,7 +3,7 @@
 use crate::refusal::Refusal;
 use crate::tile_part::ROW;
 
-const ACCEPTED: u32 = 0;
+pub const ACCEPTED: u32 = 0;
 const OUTPUT_TOO_SMALL: u32 = 17;
 pub const TABLE_TOO_SMALL: u32 = 18;
 

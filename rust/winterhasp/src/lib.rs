@@ -20,7 +20,8 @@
 //! # Ok::<(), Box<dyn std::error::Error>>(())
 //! ```
 //!
-//! To look up one tile after another, and as tile-parts are appended late, there is [`TileIndex`].
+//! To look up one tile after another, and as tile-parts are appended late, there is [`TileIndex`]; to see
+//! whether a header's length table says what stands there, [`check_length_table`].
 //!
 //! Functions that take no [`Rule`] go by Annex B's, which moves a tile that is cut out to 0, 0; the one
 //! that takes no [`Reading`] numbers on over a length table's segments, by the older edition.
@@ -39,6 +40,7 @@ mod edition;
 mod extent;
 mod growth;
 mod header;
+mod lengths;
 mod lent;
 mod marker;
 mod numbering;
@@ -63,6 +65,9 @@ pub use edition::Edition;
 pub use extent::{main_header_extent, MainHeaderExtent};
 pub use growth::{grow_header_region, next_region, HeaderRegion};
 pub use header::{parse_main_header, parse_main_header_by_reading, MainHeader};
+pub use lengths::{
+    check_length_table, check_length_table_within, Difference, LengthTable, PartLength,
+};
 pub use marker::find_marker;
 pub use numbering::Numbering;
 pub use offsets::{CodestreamOffset, FileOffset};
