@@ -131,8 +131,9 @@ pub enum Command {
     Completions(Completions),
 }
 
+/// Of a command that takes many files.
 #[derive(Args)]
-pub struct List {
+pub struct Several {
     /// Files, and folders with all that is below them
     #[arg(value_name = "PATH", required = true)]
     pub paths: Vec<PathBuf>,
@@ -142,6 +143,12 @@ pub struct List {
     /// So many files side by side, 1 to 64; else as many as there are processors
     #[arg(short, long, value_name = "N", value_parser = value_parser!(u16).range(1..=64))]
     pub jobs: Option<u16>,
+}
+
+#[derive(Args)]
+pub struct List {
+    #[command(flatten)]
+    pub files: Several,
     /// How tile-parts are numbered that the header's own table (tlm) gives no tile
     #[arg(long, value_enum, default_value_t)]
     pub numbering: Numbering,

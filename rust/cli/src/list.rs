@@ -1,190 +1,31 @@
 //! `winterhasp list`: the tile-parts of each file, in the listing program's lines or as JSON.
 
-use std::io::{self, IsTerminal, Write};
+use std::io::{self, Write};
 use std::path::Path;
-use std::thread;
 
-use indicatif::{ProgressBar, ProgressStyle};
-use rayon::prelude::*;
-use rayon::{ThreadPool, ThreadPoolBuilder};
 use serde::Serialize;
 use winterhasp::{scan_sot_markers, FileOffset, Reading, Refusal, TilePart};
 
-use crate::arguments::List;
-use crate::contents::Contents;
+use crate::arguments::{List, Several};
 use crate::files::Files;
-use crate::mapped;
 use crate::names::shown;
-use crate::output::{not_printed, standard_output, tell, Out};
+use crate::output::print_json;
+use crate::run::{run, Ended, Question, NOT_READ};
 use crate::stages::{End, Stages, Stopped};
 use crate::trouble::{about, sentence, Refused, Status, Trouble};
 
-/// So many files for each that is read at a time wait to be printed, at most.
-const WAITING: usize = 8;
-
 pub fn list(arguments: &List) -> Result<Status, Trouble> {
-    let files = Files::of(&arguments.paths);
+    let Several { paths, json, jobs } = &arguments.files;
+    let files = Files::of(paths);
     let form = Form {
-        json: arguments.json,
+        json: *json,
         named: !files.alone,
         reading: Reading {
             numbering: arguments.numbering.into(),
             edition: arguments.edition.into(),
         },
     };
-    let mut run = Run::new(form, files.paths.len());
-    for trouble in &files.troubles {
-        run.say(trouble.sentence());
-        run.status = run.status.max(trouble.status());
-    }
-    let printed = run.files(&files, arguments.jobs);
-    run.bar.finish_and_clear();
-    match printed {
-        Err(Trouble::ReaderGone) => return Ok(run.status),
-        printed => printed?,
-    }
-    if !files.alone {
-        tell(&run.count.summary());
-    }
-    Ok(run.status)
-}
-
-struct Run {
-    form: Form,
-    out: Out,
-    bar: ProgressBar,
-    count: Count,
-    status: Status,
-}
-
-impl Run {
-    fn new(form: Form, files: usize) -> Self {
-        Run {
-            form,
-            out: standard_output(),
-            bar: progress(files),
-            count: Count::default(),
-            status: Status::Accepted,
-        }
-    }
-
-    /// Side by side, and printed in order.
-    fn files(&mut self, files: &Files, jobs: Option<u16>) -> Result<(), Trouble> {
-        if let [path] = files.paths.as_slice() {
-            return self.single(path);
-        }
-        let pool = pool(jobs, files.paths.len())?;
-        let form = self.form;
-        for paths in files.paths.chunks(WAITING * pool.current_num_threads()) {
-            let blocks: Vec<_> =
-                pool.install(|| paths.par_iter().map(|path| form.block(path)).collect());
-            for Block { text, end } in blocks {
-                self.out.write_all(&text).map_err(not_printed)?;
-                self.ended(end)?;
-            }
-        }
-        Ok(())
-    }
-
-    /// Printed line by line: of one file, however long its list, no text is kept.
-    fn single(&mut self, path: &Path) -> Result<(), Trouble> {
-        let listing = listed(path, self.form.reading);
-        let printed = self.form.print(&mut self.out, path, &listing);
-        printed.map_err(not_printed)?;
-        self.ended(Ended::of(path, &listing))
-    }
-
-    fn ended(&mut self, end: Ended) -> Result<(), Trouble> {
-        self.out.flush().map_err(not_printed)?;
-        self.say(end.said.as_deref());
-        self.count.add(end.status);
-        self.status = self.status.max(end.status);
-        self.bar.inc(1);
-        Ok(())
-    }
-
-    fn say(&self, sentence: Option<&str>) {
-        if let Some(sentence) = sentence {
-            self.bar.suspend(|| tell(sentence));
-        }
-    }
-}
-
-/// A file's listing as it is printed, and how it ended.
-struct Block {
-    text: Vec<u8>,
-    end: Ended,
-}
-
-struct Ended {
-    status: Status,
-    /// What standard error hears.
-    said: Option<String>,
-}
-
-impl Ended {
-    fn of(path: &Path, listing: &Result<Listing, Trouble>) -> Self {
-        match listing {
-            Ok(listing) => Ended {
-                status: listing.status(),
-                said: listing.said(path),
-            },
-            Err(trouble) => Ended {
-                status: trouble.status(),
-                said: trouble.sentence().map(str::to_string),
-            },
-        }
-    }
-}
-
-/// Shown only where it is alone on the terminal: what is listed there is progress enough.
-fn progress(files: usize) -> ProgressBar {
-    if files < 2 || io::stdout().is_terminal() || !io::stderr().is_terminal() {
-        return ProgressBar::hidden();
-    }
-    let bar = ProgressBar::new(files as u64);
-    let style = ProgressStyle::with_template("{bar:40} {pos} of {len} files, {eta} left");
-    match style {
-        Ok(style) => bar.with_style(style),
-        Err(_) => bar,
-    }
-}
-
-fn pool(jobs: Option<u16>, files: usize) -> Result<ThreadPool, Trouble> {
-    let processors = || thread::available_parallelism().map_or(1, usize::from);
-    let jobs = jobs.map_or_else(processors, usize::from);
-    let threads = jobs.min(files).clamp(1, mapped::MOST);
-    let pool = ThreadPoolBuilder::new().num_threads(threads).build();
-    pool.map_err(|error| Trouble::Failed(format!("winterhasp: {threads} threads: {error}")))
-}
-
-#[derive(Default)]
-struct Count {
-    accepted: usize,
-    refused: usize,
-    unread: usize,
-}
-
-impl Count {
-    fn add(&mut self, status: Status) {
-        match status {
-            Status::Accepted => self.accepted += 1,
-            Status::Refused => self.refused += 1,
-            Status::Failed => self.unread += 1,
-        }
-    }
-
-    fn summary(&self) -> String {
-        let Count {
-            accepted,
-            refused,
-            unread,
-        } = self;
-        let files = accepted + refused + unread;
-        format!(
-            "winterhasp: {files} files: {accepted} accepted, {refused} refused, {unread} not read"
-        )
-    }
+    run(&files, *jobs, &form)
 }
 
 /// What a file's stages gave, without its bytes.
@@ -206,13 +47,6 @@ struct Header {
     first_sot: u64,
     decode_length: u64,
     tlm: Vec<TilePart>,
-}
-
-fn listed(path: &Path, reading: Reading) -> Result<Listing, Trouble> {
-    let contents = Contents::open(path)?;
-    let listing = Listing::of(Stages::of(contents.bytes(), reading, scan_sot_markers));
-    contents.unchanged(path)?;
-    Ok(listing)
 }
 
 impl Listing {
@@ -238,6 +72,13 @@ impl Listing {
         match self.refused {
             Some(_) => Status::Refused,
             None => Status::Accepted,
+        }
+    }
+
+    fn counted(&self) -> &'static str {
+        match self.refused {
+            Some(_) => REFUSED,
+            None => ACCEPTED,
         }
     }
 
@@ -285,10 +126,7 @@ impl Listing {
     fn json(&self, file: String) -> Json<'_> {
         Json {
             file,
-            status: match self.status() {
-                Status::Accepted => "accepted",
-                _ => "refused",
-            },
+            status: self.counted(),
             codestream: self.codestream,
             header: self.header.as_ref().map(|header| JsonHeader {
                 first_sot: header.first_sot,
@@ -321,16 +159,16 @@ struct Form {
     reading: Reading,
 }
 
-impl Form {
-    fn block(&self, path: &Path) -> Block {
-        let listing = listed(path, self.reading);
-        let mut text = Vec::new();
-        // A vector takes all that is written to it.
-        let _ = self.print(&mut text, path, &listing);
-        Block {
-            text,
-            end: Ended::of(path, &listing),
-        }
+const ACCEPTED: &str = "accepted";
+const REFUSED: &str = "refused";
+
+impl Question for Form {
+    type Answer = Listing;
+
+    const COUNTED: &'static [&'static str] = &[ACCEPTED, REFUSED, NOT_READ];
+
+    fn ask(&self, file: &[u8]) -> Listing {
+        Listing::of(Stages::of(file, self.reading, scan_sot_markers))
     }
 
     fn print(
@@ -344,8 +182,7 @@ impl Form {
                 Ok(listing) => listing.json(shown(path)),
                 Err(trouble) => Json::unread(shown(path), trouble),
             };
-            serde_json::to_writer(&mut *out, &json)?;
-            return writeln!(out);
+            return print_json(out, &json);
         }
         if self.named {
             writeln!(out, "file {}", shown(path))?;
@@ -353,6 +190,14 @@ impl Form {
         match listing {
             Ok(listing) => listing.lines(out),
             Err(_) => writeln!(out, "unread"),
+        }
+    }
+
+    fn ended(&self, path: &Path, listing: &Listing) -> Ended {
+        Ended {
+            status: listing.status(),
+            counted: listing.counted(),
+            said: listing.said(path),
         }
     }
 }

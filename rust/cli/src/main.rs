@@ -13,6 +13,7 @@ mod names;
 mod offsets;
 mod output;
 mod picture;
+mod run;
 mod show;
 mod siz;
 mod stages;

@@ -7,6 +7,8 @@ use std::os::unix::fs::MetadataExt;
 use std::path::{Path, PathBuf};
 use std::process;
 
+use serde::Serialize;
+
 use crate::trouble::Trouble;
 
 pub type Out = BufWriter<StdoutLock<'static>>;
@@ -26,6 +28,12 @@ pub fn print(bytes: &[u8]) -> Result<(), Trouble> {
     let mut out = standard_output();
     let printed = out.write_all(bytes).and_then(|()| out.flush());
     printed.map_err(not_printed)
+}
+
+/// One JSON object, on a line of its own.
+pub fn print_json(out: &mut impl Write, json: &impl Serialize) -> io::Result<()> {
+    serde_json::to_writer(&mut *out, json)?;
+    writeln!(out)
 }
 
 /// A line on standard error. Nobody is left to tell if that is closed too.
