@@ -8,11 +8,12 @@ use clap_complete::Shell;
 const EXAMPLES: &str = "\
 Examples:
   winterhasp list flights/            every file of a folder: tile-parts, or what is wrong
+  winterhasp check flights/           which files have a length table that says what stands there
   winterhasp show flight.jp2          what one file holds, and what is missing
   winterhasp tile flight.jp2 5        tile 5 alone, as flight.tile5.j2k
   winterhasp grid flight.jp2 -o flight.svg    the tiles as a picture
 
-Status: 0 all accepted, 1 some file refused, 2 wrong words or a file that can't be read or written.";
+Status: 0 all accepted, 1 some file refused, or not passed by check, 2 wrong words or a file that can't be read or written.";
 
 const LIST: &str = "\
 Examples:
@@ -42,6 +43,35 @@ Editions, of the standard, by which a header is read:
   older    capabilities (CAP) are passed over as any segment
   newer    they stand there exactly once where bit 14 of Rsiz announces them, as high-throughput files have it, and are as long as
            their bits ask; a header that has them otherwise is refused";
+
+const CHECK: &str = "\
+Examples:
+  winterhasp check flight.jp2
+  winterhasp check delivery/ > checked.txt    the count, and what is refused, stay on the terminal too
+  winterhasp check --json -j 8 delivery/*.jp2
+
+Lines, one a file:
+  NAME: pass
+      the length table (TLM) lists each tile-part that stands there, with its tile and its length, and no other
+  NAME: differs at 1: the table lists tile 5 with 17 bytes, and tile 5 with 16 bytes stands at byte 71 of the codestream, byte 71 of the file
+      entry 1 of the table, from 0, is the first that is wrong; where an entry is missing or surplus, the line says so
+  NAME: no length table
+      there is none, or one without an entry
+  NAME: refused 9 71: a tile-part runs past the end; ask for the file again: it is cut short, or a length in it is wrong
+      what stands there can't be told: the refusal's number and place; standard error has the place in the file
+  NAME: unread
+      standard error says why
+The table's segments are taken in the order of their own numbers (Ztlm), and entries that give no tile are numbered on over them, as the
+standard has it. A last tile-part that says no length (Psot 0) reaches to the codestream's end, with EOC; where the table differs by
+EOC alone, which the standard's leaves out, the line says so.
+
+JSON, of a file that differs:
+  {\"file\":\"flight.jp2\",\"verdict\":\"differs\",\"differs\":{\"number\":1,\"offset\":71,\"file_offset\":71,
+   \"listed\":{\"tile\":5,\"length\":17},\"standing\":{\"tile\":5,\"length\":16},\"eoc_counted\":false}}
+on one line. The verdict is pass, differs, no length table, refused or unread. What is listed, or stands there, is null where it is nothing;
+eoc_counted is true where EOC alone makes the difference.
+
+Status: 0 where all files pass, 1 where some file does not, 2 where one can't be read.";
 
 const SHOW: &str = "\
 Examples:
@@ -117,6 +147,9 @@ pub enum Command {
     /// List the tile-parts of files and folders
     #[command(after_help = LIST)]
     List(List),
+    /// Check whether the length tables (TLM) of files and folders say what stands there
+    #[command(after_help = CHECK)]
+    Check(Several),
     /// Show what one file holds: image, tiles, components, what is missing, where its tile-parts end
     #[command(after_help = SHOW)]
     Show(Show),

@@ -3,6 +3,7 @@
 #![deny(unsafe_code)]
 
 mod arguments;
+mod check;
 mod components;
 mod contents;
 mod files;
@@ -45,6 +46,7 @@ fn main() -> ExitCode {
 fn run(command: &Command) -> Result<Status, Trouble> {
     match command {
         Command::List(arguments) => list::list(arguments),
+        Command::Check(arguments) => check::check(arguments),
         Command::Show(arguments) => show::show(arguments),
         Command::Tile(arguments) => tile::tile(arguments),
         Command::Grid(arguments) => picture::grid(arguments),

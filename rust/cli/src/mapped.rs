@@ -5,9 +5,9 @@
 //! and marks the mapping as cut: whoever reads goes on to an end, and then asks [`Mapped::is_cut`],
 //! and throws the answer away.
 //!
-//! Where a file is written to in place between two passes of a scan, the second may be led outside
-//! of the memory. It writes no more rows than the first has counted; where its read raises SIGSEGV,
-//! the run ends with a sentence and status 2.
+//! Where a file is written to in place between two passes of a scan or of a check, the second may be led
+//! outside of the memory. It writes no more rows than the first has counted, and a check writes none; where
+//! its read raises SIGSEGV, the run ends with a sentence and status 2.
 
 use std::ffi::{c_int, c_void};
 use std::fs::File;
@@ -81,8 +81,8 @@ impl Mapped {
         // SAFETY: read-only. The file may change meanwhile, and then an answer is thrown away; what
         // is written to meanwhile is as large as a single pass over the bytes has counted, or made
         // of a copy of them (`stages::main_header`). What this does not shut out: a file that is
-        // written to in place between two passes of a scan may lead its reads, and no writes,
-        // outside of the memory, and then an answer is thrown away too, or the run ends as above.
+        // written to in place between two passes of a scan or of a check may lead their reads, and no
+        // writes, outside of the memory, and then an answer is thrown away too, or the run ends as above.
         let memory = unsafe { Mmap::map(file)? };
         let watched = Watched::take(&memory).ok_or_else(|| {
             io::Error::other("too many large files are read at a time: use a smaller -j")

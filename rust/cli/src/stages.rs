@@ -9,7 +9,7 @@ use winterhasp::{
 const MARKER: u64 = 2;
 const CAP: u16 = 0xFF50;
 const PPM: u16 = 0xFF60;
-const EOC: [u8; 2] = [0xFF, 0xD9];
+pub const EOC: [u8; 2] = [0xFF, 0xD9];
 const PSOT_AT: u64 = 6;
 
 /// As nothing is refused that another reading accepts.

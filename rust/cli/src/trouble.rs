@@ -14,7 +14,7 @@ use crate::names::shown;
 pub enum Status {
     /// All files were accepted.
     Accepted,
-    /// Some file was refused.
+    /// Some file was refused, or did not pass a check.
     Refused,
     /// Wrong words, or a file that can't be read or written.
     Failed,
