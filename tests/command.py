@@ -9,6 +9,7 @@ groups of these names are run. Status 1 if a run differs, 2 if the runs can't be
 
 import argparse
 import concurrent.futures
+import itertools
 import json
 import os
 import re
@@ -29,7 +30,7 @@ from refusals import RULES, refusals
 
 WORKERS = 2
 OUT = "out.j2k"
-COMMANDS = ["list", "show", "tile", "grid", "completions"]
+COMMANDS = ["list", "check", "show", "tile", "grid", "completions"]
 NOT_THERE = "No such file or directory (os error 2)"
 A_DIRECTORY = "Is a directory (os error 21)"
 DEVICE_FULL = "No space left on device (os error 28)"
@@ -79,6 +80,13 @@ def sentence(number, place, start=0):
 
 def refused_line(number, place):
     return f"{number} {place}: {WORDS[number].wrong}; {WORDS[number].remedy}"
+
+
+def refused_json(number, place, start=0):
+    words = WORDS[number]
+    in_file = start + place if words.origin == "codestream" else place
+    found = {"number": number, "name": words.name, "place": place, "counts_from": words.origin, "file_offset": in_file}
+    return found | {"wrong": words.wrong, "remedy": words.remedy}
 
 
 def of_components(out):
@@ -135,6 +143,28 @@ def with_segments(segments):
     """A tile-part of tile 0, with these behind its SOT."""
     first = part(0, 14)
     return first[:6] + struct.pack(">I", len(first) + len(segments)) + first[10:12] + segments + b"\xff\x93"
+
+
+# Length tables
+
+
+def table(number, entries, index=1, length=2):
+    """A TLM segment of that number (Ztlm): entries of a tile, in so many bytes, and a length."""
+    form = 16 * index + 64 * (length == 4)
+    in_bytes = lambda number, count: number.to_bytes(8, "big")[8 - count :]
+    listed = b"".join(in_bytes(tile, index) + in_bytes(size, length) for tile, size in entries)
+    return segment(0xFF55, bytes([number, form]) + listed)
+
+
+def with_tables(*segments, parts, end=EOC):
+    """A codestream with these TLM segments, of tile-parts of a tile and a length."""
+    return SOC + siz() + b"".join(segments) + b"".join(part(*each) for each in parts) + end
+
+
+def left_open(content, size):
+    """The same with Psot 0 in its last tile-part, which starts so many bytes before the end."""
+    at = len(content) - size + 6
+    return content[:at] + bytes(4) + content[at + 4 :]
 
 
 # Tiles by each rule, in a codestream without TLM whose SIZ is whole
@@ -201,6 +231,61 @@ def cut_of(content, tile, rule):
             parts += content[at : at + 4] + bytes(2) + content[at + 6 : at + length]
         at += length
     return header + parts + EOC
+
+
+# What is told of a length table: a word, a difference, or a refusal's number and place
+
+PASS, NO_TABLE, UNREAD = "pass", "no length table", "unread"
+
+
+class Differs(NamedTuple):
+    number: int
+    offset: int
+    # A tile and a length, or nothing.
+    listed: tuple
+    standing: tuple
+    eoc: bool = False
+
+
+EOC_COUNTED = (
+    ": they differ by EOC's 2 bytes alone, which the standard's table leaves out, and which the scan, as the ported program, counts, "
+    "since the last tile-part says no length (Psot 0)"
+)
+
+
+def check_text(told, start=0):
+    """The line of a file, behind its name."""
+    if isinstance(told, Differs):
+        listed, standing = ("tile {} with {} bytes".format(*each) if each else "nothing" for each in (told.listed, told.standing))
+        place = f"byte {told.offset} of the codestream, byte {start + told.offset} of the file"
+        why = {told.listed: ": an entry is missing", told.standing: ": the entry is surplus"}.get(None, "")
+        return f"differs at {told.number}: the table lists {listed}, and {standing} stands at {place}{EOC_COUNTED if told.eoc else why}"
+    return told if isinstance(told, str) else f"refused {refused_line(*told)}"
+
+
+def check_json(told, start=0):
+    """What JSON has behind the name."""
+    if isinstance(told, Differs):
+        listed, standing = (each and dict(zip(["tile", "length"], each)) for each in (told.listed, told.standing))
+        places = {"number": told.number, "offset": told.offset, "file_offset": start + told.offset}
+        return {"verdict": "differs", "differs": places | {"listed": listed, "standing": standing, "eoc_counted": told.eoc}}
+    return {"verdict": told} if isinstance(told, str) else {"verdict": "refused", "refused": refused_json(*told, start)}
+
+
+def counted(passed=0, differ=0, without=0, refused=0, unread=0):
+    """What standard error hears last of several files."""
+    kinds = f"{passed} pass, {differ} differ, {without} without a length table, {refused} refused, {unread} not read"
+    return f"winterhasp: {passed + differ + without + refused + unread} files: {kinds}\n"
+
+
+def compared(listed, standing, first):
+    """What is told of a table of a tile and a length each beside the tile-parts from there on: where the first differs."""
+    at = first
+    for number, (entry, there) in enumerate(itertools.zip_longest(listed, standing)):
+        if entry != there:
+            return Differs(number, at, entry, there) if listed else NO_TABLE
+        at += there[1]
+    return PASS
 
 
 # Sample A: tiles of 4 by 4, and of tile 5 the image has 2 by 2
@@ -778,9 +863,7 @@ class Runs:
             self.hold(f"show --tile {tile} {file}", saw, wanted)
             status, out, _ = self.run("show", "--json", "--tile", str(tile), file)
             found = json.loads(out)
-            words = WORDS[number]
-            why = {"number": number, "name": words.name, "place": 2, "counts_from": words.origin, "file_offset": start + 2}
-            why |= {"wrong": words.wrong, "remedy": words.remedy}
+            why = refused_json(number, 2, start)
             saw = status, found["status"], found["refused"], found["in_tile"], found["grid"] is None
             self.hold(f"show --json --tile {tile} {file}", saw, (1, "refused", why, {"index": tile, "refused": why}, number == 30))
             # without the tile it is accepted
@@ -1227,6 +1310,189 @@ class Runs:
         self.cut(file, 4, None)
         return self.decoded(OUT)
 
+    def checks(self):
+        """Length tables beside the tile-parts that stand there, bare and in a JP2: as they are, and damaged in one place each."""
+        found = {"sample": (SAMPLE, PASS), **self.tables_of_forms(), **self.tables_damaged(), **self.tables_in_segments()}
+        found |= self.tables_without_a_length() | self.tables_refused()
+        for name, (content, told) in found.items():
+            for file, start in (f"check-{name}.j2k", 0), (f"check-{name}.jp2", START):
+                (self.folder / file).write_bytes(jp2(content) if start else content)
+                self.checked(file, told, start)
+        for file, refused in REFUSED.items():
+            self.checked(file, (refused.number, refused.place), refused.start)
+        self.checks_of_a_folder()
+        self.checks_of_readme()
+
+    def checked(self, file, told, start=0):
+        """The line of one file, and its JSON."""
+        error = "" if isinstance(told, (str, Differs)) else about(file, sentence(*told, start))
+        self.case(Case(["check", file], int(told != PASS), f"{file}: {check_text(told, start)}\n", error))
+        status, out, said = self.run("check", "--json", file)
+        wanted = int(told != PASS), {"file": file} | check_json(told, start), error
+        self.hold(f"check --json {file}", (status, json.loads(out), said), wanted)
+
+    def tables_of_forms(self):
+        """Entries of every form, and none."""
+        parts = [(0, 14), (1, 16), (2, 300)]
+        found = {}
+        for index, length in itertools.product([0, 1, 2], [2, 4]):
+            found[f"form{index}{length}"] = with_tables(table(0, parts, index, length), parts=parts), PASS
+        # numbered from 0, where the second tile-part is of tile 5
+        parts[1] = (5, 16)
+        whole = with_tables(table(0, parts, 0), parts=parts)
+        found["numbered"] = whole, Differs(1, whole.index(part(*parts[1])), (1, 16), (5, 16))
+        found["none"] = with_tables(parts=parts), NO_TABLE
+        # with no entry, with a part of one, and among others
+        found["no-entry"] = with_tables(table(0, []), parts=parts), NO_TABLE
+        found["part-of-an-entry"] = with_tables(segment(0xFF55, b"\0\x10\0\0"), parts=parts), NO_TABLE
+        found["no-entry-first"] = with_tables(table(0, []), table(1, parts), table(2, []), parts=parts), PASS
+        # TLM in a comment, and behind the first SOT
+        found["comment"] = with_tables(segment(0xFF64, b"\0\1" + table(0, parts)), parts=parts), NO_TABLE
+        found["behind"] = with_header(siz(), parts=with_segments(table(0, parts))), NO_TABLE
+        return found
+
+    def tables_damaged(self):
+        """In each entry one length and one tile, each entry left out and twice, and so with each tile-part."""
+        parts = [(0, 14), (5, 16), (0, 20), (3, 30)]
+        found = {}
+        for at, (tile, size) in enumerate(parts):
+            dropped, doubled = parts[:at] + parts[at + 1 :], parts[: at + 1] + parts[at:]
+            for name, listed, standing in (
+                ("length", [*parts[:at], (tile, size + 1), *parts[at + 1 :]], parts),
+                ("tile", [*parts[:at], (tile + 1, size), *parts[at + 1 :]], parts),
+                ("left-out", dropped, parts),
+                ("twice", doubled, parts),
+                ("part-left-out", parts, dropped),
+                ("part-twice", parts, doubled),
+            ):
+                segments = table(0, listed, 2, 4)
+                found[f"{name}{at}"] = with_tables(segments, parts=standing), compared(listed, standing, len(HEADER + segments))
+        return found
+
+    def tables_in_segments(self):
+        """Segments in every order, with their numbers and without."""
+        parts = [(0, 14), (5, 16), (0, 20), (3, 30)]
+        pieces = [parts[:1], parts[1:3], parts[3:]]
+        first = len(HEADER) + sum(len(table(0, piece)) for piece in pieces)
+        found = {}
+        for order in itertools.permutations(range(3)):
+            name = "".join(map(str, order))
+            # numbers that are not beside each other
+            found[f"swapped{name}"] = with_tables(*(table([0, 7, 255][at], pieces[at]) for at in order), parts=parts), PASS
+            listed = sum((pieces[at] for at in order), [])
+            content = with_tables(*(table(number, pieces[at]) for number, at in enumerate(order)), parts=parts)
+            found[f"without{name}"] = content, compared(listed, parts, first)
+        # without an index, numbered on in the order of the numbers
+        parts = [(0, 14), (1, 16), (2, 20), (3, 30)]
+        segments = table(1, parts[2:], 0), table(0, parts[:2], 0, 4)
+        found["numbered-on"] = with_tables(*segments, parts=parts), PASS
+        segments = table(1, parts[2:], 0), table(0, parts[:2], 1)
+        first = len(HEADER) + sum(map(len, segments))
+        found["numbered-on-from-0"] = with_tables(*segments, parts=parts), Differs(2, first + 30, (0, 20), (2, 20))
+        return found
+
+    def tables_without_a_length(self):
+        """A last tile-part with Psot 0, which takes all that is left, EOC too."""
+        parts = [(0, 14), (5, 16)]
+        open_with = lambda *entries, end=EOC: left_open(with_tables(table(0, entries), parts=parts, end=end), 16 + len(end))
+        at = lambda content, size: len(content) - size
+        found = {"open-counted": (open_with((0, 14), (5, 18)), PASS), "open-no-eoc": (open_with(*parts, end=b""), PASS)}
+        for name, entries, end, eoc in (
+            ("open", parts, EOC, True),
+            ("open-tile", [(0, 14), (6, 16)], EOC, False),
+            ("open-less", [(0, 14), (5, 15)], EOC, False),
+            ("open-surplus", [*parts, (5, 16)], EOC, False),
+            ("open-no-eoc-less", [(0, 14), (5, 14)], b"", False),
+            ("open-other-end", parts, b"\xff\xd8", False),
+        ):
+            content = open_with(*entries, end=end)
+            size = 16 + len(end)
+            found[name] = content, Differs(1, at(content, size), entries[1], (5, size), eoc)
+        # a length that is said, and counts EOC
+        content = with_tables(table(0, parts), parts=[parts[0], (5, 18)], end=b"")[: -len(EOC)] + EOC
+        found["said-with-eoc"] = content, Differs(1, at(content, 18), (5, 16), (5, 18))
+        return found
+
+    def tables_refused(self):
+        """A number twice, numbers that pass, and what comes before and behind these."""
+        parts = [(0, 14), (5, 16)]
+        one, two = table(3, parts[:1]), table(3, parts[1:])
+        second = len(HEADER + one)
+        found = {"repeated": (with_tables(one, two, parts=parts), (32, second))}
+        found["repeated-third"] = with_tables(one, table(4, []), two, parts=parts), (32, second + len(table(4, [])))
+        found["repeated-empty"] = with_tables(table(3, []), table(3, []), parts=parts), (32, len(HEADER + table(3, [])))
+        # before the scan's, and behind the walk's
+        found["repeated-cut"] = with_tables(one, two, parts=parts)[:-3], (32, second)
+        found["repeated-past"] = SOC + siz() + one + two + b"\xff\x64\0\x09", (3, second + len(two))
+        # behind an entry that differs
+        content = with_tables(table(0, [(1, 14), (5, 16)]), parts=parts)
+        found["cut"] = content[:-3], (9, len(content) - 18)
+        found["lsot"] = content[:-15] + b"\x0b" + content[-14:], (8, len(content) - 18)
+        # 65,535 numbers, and one more: in the order of the segments' numbers, whichever comes first in the file
+        full = [(0, 14)] * 32765
+        for name, numbers, place in ("numbers", [0, 1, 2], 2), ("numbers-reversed", [2, 1, 0], 0):
+            for count in 5, 6:
+                sizes = [full, full, [(0, 14)] * count][:: 1 if place else -1]
+                segments = [table(number, entries, 0) for number, entries in zip(numbers, sizes)]
+                first = len(HEADER) + sum(map(len, segments))
+                refused = 26, len(HEADER) + sum(map(len, segments[:place]))
+                told = Differs(1, first + 14, (1, 14), (5, 16))
+                found[f"{name}{count}"] = with_tables(*segments, parts=parts), refused if count > 5 else told
+        return found
+
+    def checks_of_a_folder(self):
+        """A line a file, in the order of names, whoever is read first; and the worst status."""
+        parts = [(0, 14), (5, 16)]
+        right, wrong = table(0, parts), table(0, [parts[0], (5, 17)])
+        delivered = {
+            "a.j2k": (SAMPLE, PASS),
+            "b.j2k": (with_tables(wrong, parts=parts), Differs(1, len(HEADER + wrong) + 14, (5, 17), (5, 16))),
+            "m/c.jp2": (with_tables(right, parts=parts), PASS),
+            "m/d.jp2": (with_tables(parts=parts), NO_TABLE),
+            "n.j2k": (with_tables(right, right, parts=parts), (32, len(HEADER + right))),
+        }
+        (self.folder / "delivery/m").mkdir(parents=True)
+        lines, objects, said = "", [], ""
+        for file, (content, told) in delivered.items():
+            start = START if file.endswith("jp2") else 0
+            (self.folder / "delivery" / file).write_bytes(jp2(content) if start else content)
+            lines += f"delivery/{file}: {check_text(told, start)}\n"
+            objects.append({"file": f"delivery/{file}"} | check_json(told, start))
+            said += about(f"delivery/{file}", sentence(*told, start)) if not isinstance(told, (str, Differs)) else ""
+        for jobs in [], ["-j", "1"], ["-j", "3"], ["--jobs", "64"]:
+            self.case(Case(["check", *jobs, "delivery"], 1, lines, said + counted(2, 1, 1, 1)))
+            status, out, error = self.run("check", "--json", *jobs, "delivery")
+            found = [json.loads(line) for line in out.splitlines()]
+            self.hold(f"check --json {jobs}", (status, found, error), (1, objects, said + counted(2, 1, 1, 1)))
+        # one that can't be read is a line too, and not the end
+        error = about("missing", NOT_THERE)
+        self.case(Case(["check", "missing", "delivery"], 2, f"missing: {UNREAD}\n{lines}", error + said + counted(2, 1, 1, 1, 1)))
+        status, out, _ = self.run("check", "--json", "missing")
+        self.hold("check --json missing", (status, json.loads(out)), (2, {"file": "missing", "verdict": UNREAD, "error": error.strip()}))
+        self.case(Case(["check", "a.j2k", "a.jp2"], 0, f"a.j2k: {PASS}\na.jp2: {PASS}\n", counted(2)))
+        self.case(Case(["check", b"\xff.j2k"], 0, f"\\xff.j2k: {PASS}\n"))
+        self.case(Case(["check", "<a&b>\n.j2k"], 0, f"<a&b>\\x0a.j2k: {PASS}\n"))
+        (self.folder / "nothing").mkdir()
+        self.case(Case(["check", "nothing"], 0, "", counted()))
+
+    def checks_of_readme(self):
+        """The README's own lines, of sample A with other tables; and by its line for a shell those of files that don't pass."""
+        with_table = lambda *segments: SAMPLE[:45] + b"".join(segments) + SAMPLE[57:]
+        entries = [(0, 14), (5, 16)]
+        delivered = {
+            "a.j2k": SAMPLE,
+            "length.j2k": with_table(table(0, [(0, 14), (5, 17)])),
+            "missing.jp2": jp2(with_table(table(0, entries[:1]))),
+            "none.j2k": with_table(),
+            "open.j2k": left_open(SAMPLE, 18),
+            "repeated.j2k": with_table(table(0, entries[:1]), table(0, entries[1:])),
+            "surplus.j2k": with_table(table(0, [*entries, entries[1]])),
+        }
+        lines = [line[4:] for line in (ROOT / "README.md").read_text().splitlines() if line.startswith("    flights/")]
+        line, (saw, _) = self.line_of_readme("winterhasp check flights/ |", delivered)
+        self.hold(line, saw.splitlines(), [told for told in lines if not told.endswith(f": {PASS}")])
+        self.hold("README, files that pass", [told for told in lines if told.endswith(f": {PASS}")], [f"flights/a.j2k: {PASS}"])
+
     def rules(self):
         """Tiles by each rule, where tiles start before the image: built here, by editing sample A, and of OpenJPEG, as it is and with
         a damaged SIZ."""
@@ -1358,21 +1624,12 @@ class Runs:
             "parts": [each | {"file_offset": START + each["offset"]} | NUMBERED for each in tlm],
             "unread": 0,
         }
-        words = WORDS[9]
         refused = {
             "file": "cut.jp2",
             "status": "refused",
             "codestream": {"start": START, "length": len(CUT)},
             "header": {"first_sot": 45, "decode_length": 45, "tlm": []},
-            "refused": {
-                "number": 9,
-                "name": words.name,
-                "place": SECOND,
-                "counts_from": words.origin,
-                "file_offset": START + SECOND,
-                "wrong": words.wrong,
-                "remedy": words.remedy,
-            },
+            "refused": refused_json(9, SECOND, START),
         }
         missing = {"file": "missing", "status": "unread", "error": about("missing", NOT_THERE).strip()}
         self.hold("list --json", (status, found), (2, [accepted, refused, missing]))
@@ -1423,23 +1680,25 @@ class Runs:
         self.case(Case(["grid", "siz-cut.j2k", "-o", OUT], 1, error=about("siz-cut.j2k", short)))
 
     def not_read(self):
-        asked = {"list": [], "show": [], "tile": ["0", "-o", OUT], "grid": ["-o", OUT]}
+        asked = {"list": [], "check": [], "show": [], "tile": ["0", "-o", OUT], "grid": ["-o", OUT]}
         for command, rest in asked.items():
             for file in "missing", "missing/a.j2k":
-                out = "unread\n" if command == "list" else ""
+                out = {"list": f"{UNREAD}\n", "check": f"{file}: {UNREAD}\n"}.get(command, "")
                 self.cases([Case([command, file, *rest], 2, out, about(file, NOT_THERE))])
-            if command != "list":
+            if command not in ("list", "check"):
                 self.cases([Case([command, "directory", *rest], 2, error=about("directory", A_DIRECTORY))])
         endless = "more than 16 MiB come from what is no plain file: save it as a file first"
         self.case(Case(["show", "/dev/zero"], 2, error=about("/dev/zero", endless)))
         self.hold("a device that ends", self.run("list", "/dev/null")[:2], (1, "refused 11 0\n"))
+        self.hold("a device that ends, checked", self.run("check", "/dev/null")[:2], (1, f"/dev/null: refused {refused_line(11, 0)}\n"))
 
     def words(self):
         (self.folder / OUT).unlink(missing_ok=True)
         few = [[], *([command] for command in COMMANDS), ["tile", "a.j2k"], ["grid", "a.j2k"]]
         many = [["show", "a.j2k", "a.j2k"], ["tile", "a.j2k", "0", "1"], ["grid", "a.j2k", "a.j2k", "-o", OUT]]
         unknown = [["part", "a.j2k"], ["LIST", "a.j2k"], [b"\xff", "a.j2k"], ["list", "--what", "a.j2k"]]
-        unknown += [["list", "-j", number, "a.j2k"] for number in ("0", "-1", "x", "65")] + [["completions", "sh"]]
+        unknown += [[command, "-j", number, "a.j2k"] for command in ("list", "check") for number in ("0", "-1", "x", "65")]
+        unknown += [["completions", "sh"], ["check", "--numbering", CARRIED_ON, "a.j2k"], ["check", "--edition", NEWER, "a.j2k"]]
         unknown += [["tile", "a.j2k", "5", "--rule"], ["show", "a.j2k", "--tile", "5", "--rule", ORIGINAL]]
         for words in few + many + unknown:
             status, out, error = self.run(*words)
@@ -1478,6 +1737,12 @@ class Runs:
             self.hold(f"list --help: {words}", words in help_text, True)
         row = json.dumps(json.loads(self.run("list", "--json", "a.j2k")[1])["parts"][1], separators=(",", ":"))
         self.hold("list --help: JSON", f"  {row}\n" in help_text, True)
+        help_text = self.run("check", "--help")[1]
+        differs = Differs(1, 71, (5, 17), (5, 16))
+        for told in PASS, NO_TABLE, UNREAD, differs, (9, 71):
+            self.hold(f"check --help: {told}", f"  NAME: {check_text(told)}\n" in help_text, True)
+        told = json.dumps({"file": "flight.jp2"} | check_json(differs), separators=(",", ":"))
+        self.hold("check --help: JSON", f"  {told}\n" in help_text.replace(",\n   ", ","), True)
         help_text = self.run("tile", "--help")[1]
         for words in "in-place    the tile stays where it lies, with its own pixels", "[default: in-place]":
             self.hold(f"tile --help: {words}", words in help_text, True)
@@ -1517,7 +1782,7 @@ class Runs:
         full = f"winterhasp: standard output: {DEVICE_FULL}\n"
         printing = [["list", "a.j2k"], ["list", "many.j2k"], ["list", "a.j2k", "a.jp2"], ["show", "a.j2k"], ["--help"]]
         printing += [["list", "--json", "many.j2k"], ["tile", "a.j2k", "5", "-o", "-"], ["grid", "a.j2k", "-o", "-"]]
-        printing += [["completions", "bash"]]
+        printing += [["completions", "bash"], ["check", "a.j2k"], ["check", "a.j2k", "a.jp2"], ["check", "--json", "many.j2k"]]
         for words in printing:
             with open("/dev/full", "wb") as device:
                 program = self.start(words, stdout=device, stderr=subprocess.PIPE)
@@ -1555,6 +1820,7 @@ class Runs:
         status, out, error = self.run("list", "damaged")
         blocks = self.blocks(out)
         self.hold("list damaged", (status, "panicked" in error, list(blocks)), (1, False, [f"damaged/{name}" for name in sorted(contents)]))
+        self.checked_as_listed("damaged", len(contents))
         with concurrent.futures.ThreadPoolExecutor(WORKERS) as workers:
             told = workers.map(self.listing, contents.values())
             for name, lines in zip(contents, told):
@@ -1575,6 +1841,35 @@ class Runs:
                 saw = ended.returncode in (0, 1), b"panicked" in ended.stderr
                 self.hold(f"{words}, status {ended.returncode}", saw, (True, False))
         shutil.rmtree(folder)
+
+    def checked_as_listed(self, folder, count):
+        """Of files whose length tables have one segment at most: what is told of each is what its listing says."""
+        _, out, _ = self.run("list", "--json", "--numbering", CARRIED_ON, folder)
+        wanted = []
+        for listed in map(json.loads, out.splitlines()):
+            start = listed.get("codestream", {"start": 0})["start"]
+            if "refused" in listed:
+                told = listed["refused"]["number"], listed["refused"]["place"]
+            else:
+                both = listed["header"]["tlm"], listed["parts"]
+                entries, parts = ([(row["tile"], row["length"]) for row in each] for each in both)
+                told = compared(entries, parts, listed["header"]["first_sot"])
+                if self.takes_eoc(listed) and entries == parts[:-1] + [(parts[-1][0], parts[-1][1] - len(EOC))]:
+                    told = told._replace(eoc=True)
+            wanted.append({"file": listed["file"]} | check_json(told, start))
+        status, out, error = self.run("check", "--json", folder)
+        found = [json.loads(line) for line in out.splitlines()]
+        self.hold(f"check --json {folder}", (status, len(found), "panicked" in error), (1, count, False))
+        for saw, told in zip(found, wanted):
+            self.hold(f"check --json {told['file']}", saw, told)
+        verdicts = {each["verdict"] for each in found}
+        self.hold(f"check --json {folder}, verdicts", verdicts, {PASS, NO_TABLE, "differs", "refused"})
+
+    def takes_eoc(self, listed):
+        """Whether the last tile-part of a file has Psot 0, and EOC at its end."""
+        content, last = (self.folder / listed["file"]).read_bytes(), listed["parts"][-1]
+        at, end = last["file_offset"], last["file_offset"] + last["length"]
+        return (content[at + 6 : at + 10], content[end - len(EOC) : end]) == (bytes(4), EOC)
 
     def blocks(self, out):
         """What is listed below each `file NAME`."""
@@ -1616,6 +1911,12 @@ class Runs:
         status, out, _ = self.run("list", "--json", "flights")
         found = [json.loads(line) for line in out.splitlines()]
         self.hold("list --json flights", (status, [each["file"] for each in found]), (1, sorted(lines)))
+        told = {name: (12, 0) if lines[name].startswith("refused") else NO_TABLE for name in sorted(lines)}
+        wanted = "".join(f"{name}: {check_text(verdict)}\n" for name, verdict in told.items())
+        for jobs in [], ["-j", "1"], ["-j", "7"]:
+            status, out, error = self.run("check", *jobs, "flights")
+            count = counted(without=1_000 - refused, refused=refused)
+            self.hold(f"check {jobs} flights", (status, out, error.endswith(count)), (1, wanted, True))
         # a file that can't be read is a line too, and not the end
         first = sorted(lines)[0]
         status, out, error = self.run("list", first, "missing", first)
@@ -1653,11 +1954,33 @@ class Runs:
             self.hold(f"show {name}", f"tile-parts  {len(sizes)}, {sum(sizes)} bytes" in shown, True)
             self.hold(f"show {name}, fetch", f"fetch       {fetch_text(47, 65_536, 0)}\n" in shown, True)
             path.unlink()
+        self.large_tables()
         # more bytes than a main header may have are not asked for PPM
         self.sparse(self.folder / "6g-ppm.j2k", HEADER + PPM, [3 * giga, 3 * giga, 14])
         error = about("6g-ppm.j2k", of_all_tiles(len(HEADER), 0))
         self.cases([Case(["tile", "6g-ppm.j2k", "2", "-o", OUT], 1, error=error)])
         (self.folder / "6g-ppm.j2k").unlink()
+
+    def large_tables(self):
+        """Length tables of codestreams above 4 GiB, of which the header's region alone is read as a header, bare and in a JP2."""
+        giga = 1 << 30
+        sizes = [2 * giga, 2 * giga - 1, giga, 40]
+        parts = list(enumerate(sizes))
+        for file, start in ("5g.j2k", 0), ("5g.jp2", START):
+            before = BEFORE + struct.pack(">I4s", 0, b"jp2c") if start else b""
+            for changed in None, *range(len(sizes)):
+                entries = [(tile, size + (tile == changed)) for tile, size in parts]
+                header = SOC + siz() + table(0, entries[:1], 2, 4) + table(1, entries[1:], 1, 4)
+                self.sparse(self.folder / file, before + header, sizes)
+                told = compared(entries, parts, len(header))
+                self.hold(f"{file}, what is told", told == PASS, changed is None)
+                started = time.monotonic()
+                saw, memory = self.measured(["check", file])
+                took = time.monotonic() - started
+                wanted = int(told != PASS), f"{file}: {check_text(told, start)}\n", ""
+                self.hold(f"check {file}, length {changed}", (saw, memory < 128 << 20, took < 5), (wanted, True, True))
+                (self.folder / file).unlink()
+            print(f"command: check {file}: {memory >> 20} MiB, {took:.2f} s")
 
     def sparse(self, path, header, sizes):
         """A file of tile-parts that take no room; gives what is written of each, by its place."""
@@ -1683,11 +2006,13 @@ class Runs:
         sample = listing(0, 89, 57, 45, SAMPLE_LISTED, SAMPLE_LISTED)
         count = 6_000_000
         wanted = {
-            "list": (2, f"file shrinks.j2k\nunread\nfile a.j2k\n{sample}"),
+            "list": (2, f"file shrinks.j2k\n{UNREAD}\nfile a.j2k\n{sample}"),
+            "check": (2, f"shrinks.j2k: {UNREAD}\na.j2k: {PASS}\n"),
             "show": (2, ""),
             "tile": (2, ""),
         }
-        for words in ["list", "shrinks.j2k", "a.j2k"], ["show", "shrinks.j2k"], ["tile", "shrinks.j2k", "0", "-o", OUT]:
+        several = [[command, "shrinks.j2k", "a.j2k"] for command in ("list", "check")]
+        for words in *several, ["show", "shrinks.j2k"], ["tile", "shrinks.j2k", "0", "-o", OUT]:
             path = self.folder / "shrinks.j2k"
             path.write_bytes(HEADER + part(0, 14) * count + EOC)
             program = self.start(words, stdout=subprocess.PIPE, stderr=subprocess.PIPE)
@@ -1732,6 +2057,7 @@ class Runs:
             whole = found["tiles"]["missing"], found["scan_ended"]["at"], found["scan_ended"]["unread"]
             self.hold(f"show {name}, its end", whole, (0, "EOC", 0))
             self.hold(f"show {name}, its order", found["tile_parts"]["out_of_order_ranges"], [])
+            self.checked(name, PASS if {"-TLM", "-X"} & {*options} else NO_TABLE)
             listed = {int(line.split()[1]) for line in out.splitlines() if line.startswith("part ")}
             self.hold(f"list {name}, its tiles", listed, set(range(tiles)))
             status, out, _ = self.run("grid", name, "-o", "-")
@@ -1750,7 +2076,7 @@ class Runs:
 
 GROUPS = [
     Runs.accepted, Runs.refused, Runs.components, Runs.tiles, Runs.packed, Runs.fetches, Runs.fillers, Runs.numberings, Runs.orders,
-    Runs.editions, Runs.rules, Runs.never_over_the_input, Runs.machines, Runs.pictures, Runs.not_read, Runs.words, Runs.not_written,
+    Runs.editions, Runs.checks, Runs.rules, Runs.never_over_the_input, Runs.machines, Runs.pictures, Runs.not_read, Runs.words, Runs.not_written,
     Runs.streams, Runs.damaged, Runs.folders, Runs.large, Runs.shrinking, Runs.encoders,
 ]  # fmt: skip
 
