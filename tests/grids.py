@@ -179,7 +179,7 @@ TLM = [[], ["-TLM"]]
 SUFFIXES = ["j2k", "jp2"]
 LAYERS = [[], ["-r", "20,5,1"]]
 EXTRAS = [[], ["-I"], ["-b", "32,16"], ["-SOP"], ["-PLT"], ["-c", "[128,128]"]]
-GRK_COMPRESS = "grk_compress"
+OPJ_COMPRESS, GRK_COMPRESS = "opj_compress", "grk_compress"
 # More ways, in place alone: code-blocks, precincts and modes of every kind, and a change of progression.
 POC = "POC"
 EXTRAS_IN_PLACE = [
@@ -207,7 +207,7 @@ class Case(NamedTuple):
     options: list
     suffix: str
     in_place: str = None
-    tool: str = "opj_compress"
+    tool: str = OPJ_COMPRESS
 
     def words(self):
         return [*self.grid.words(), *self.options]
@@ -224,6 +224,7 @@ class Case(NamedTuple):
         yield words[words.index("-p") + 1] if "-p" in words else PROGRESSIONS[0]
         if self.tool == GRK_COMPRESS:
             yield "written by Grok"
+            yield from ["TLM by Grok"] * ("-X" in words)
             yield from ["high throughput"] * ("64" in words)
             return
         named = {"-c": "precincts", "-b": "code-blocks", "-M": "modes", "-ROI": "ROI", "-POC": POC, "-r": "several layers"}
@@ -322,7 +323,7 @@ def write_images(folder):
     return words
 
 
-def compressed(read, path, words, tool="opj_compress"):
+def compressed(read, path, words, tool=OPJ_COMPRESS):
     """Whether the tool wrote the file, of an image with these words for it."""
     if tool == GRK_COMPRESS:
         read = ["-H", "1", *("-Y" if word == "-mct" else word for word in read)]

@@ -4,8 +4,10 @@
 Makes small images, compresses them by opj_compress over a grid of options, and for each file holds
   the tile-parts that `winterhasp list` lists to those that OpenJPEG meets as it decodes,
   each tile that `winterhasp tile` cuts, by each rule, decoded, to the crop of the whole picture, decoded,
-  the components that `winterhasp show` tells to those that opj_dump tells, and
-  their sizes and places, in the image and in some tiles, and these tiles' own, to OpenJPEG's as it decodes.
+  the components that `winterhasp show` tells to those that opj_dump tells,
+  their sizes and places, in the image and in some tiles, and these tiles' own, to OpenJPEG's as it decodes, and
+  what `winterhasp check` tells of its length table (TLM): it passes, and damaged in one place it differs there. One
+  of OpenJPEG's with -POC and -TP lists the tile-parts that TNsot counts and that are not there: that differs too.
 
 In place, by the default rule, every tile has to be equal, decoded plainly, with its own size and place, on
 every grid and however it is compressed: to the crop of the whole picture, or if the whole is not decoded to
@@ -50,8 +52,9 @@ from concurrent.futures import ThreadPoolExecutor
 from pathlib import Path
 from typing import NamedTuple
 
+import lengths
 import packed
-from grids import COLOUR, GRAY, GRIDS_IN_PLACE, Grid, cases, compressed, write_images
+from grids import COLOUR, GRAY, GRIDS_IN_PLACE, GRK_COMPRESS, OPJ_COMPRESS, Grid, cases, compressed, write_images
 from pictures import Component, Library, corner, decoded, grok, in_gray_jp2, install, rectangle, sizes, told
 
 ROOT = Path(__file__).resolve().parent.parent
@@ -75,6 +78,10 @@ LEAST_SIZED_APART = 20
 LEAST_IN_PLACE = 400
 LEAST_OF_A_FEATURE = 10
 LEAST_RGB = 10
+# Length tables that pass, of OpenJPEG and of Grok, each with what is made of it; and files without one.
+LEAST_TABLES = 20
+LEAST_TABLES_OF_GROK = 2
+LEAST_WITHOUT_TABLE = 30
 
 
 def give_up(why):
@@ -306,7 +313,8 @@ OWN_SIZE = "own size"
 class Seen(NamedTuple):
     """What came of one file: tiles counted by rule under their outcome, and under what a plain decode of them
     shows; those that had to be as they are; some counted under what came of the sizes in them; in place, by decoder
-    under their outcome, and as RGB; what the file has; troubles as text."""
+    under their outcome, and as RGB; what was told of its length table, under the tool that wrote it, and of what was
+    made of that; what the file has; troubles as text."""
 
     kind: str
     outcomes: Counter
@@ -315,12 +323,13 @@ class Seen(NamedTuple):
     sized: Counter
     decoders: Counter
     rgb: Counter
+    tables: Counter
     features: tuple
     troubles: list
 
     @classmethod
     def empty(cls, kind, features=()):
-        return cls(kind, *(Counter() for _ in range(6)), tuple(features), [])
+        return cls(kind, *(Counter() for _ in range(7)), tuple(features), [])
 
     @classmethod
     def without_tiles(cls, kind, name):
@@ -380,7 +389,7 @@ class Run:
         finally:
             shutil.rmtree(folder)
 
-    def compressed(self, image, path, words, tool="opj_compress"):
+    def compressed(self, image, path, words, tool=OPJ_COMPRESS):
         return compressed(self.images[image], path, words, tool)
 
     def compared(self, path, case):
@@ -400,6 +409,8 @@ class Run:
         seen = Seen.empty(case.in_place or kind(siz, case.grid.levels), case.features())
         some = {tiles[0], tiles[len(tiles) // 2], tiles[-1]}
         for what in self.components(path, siz, some, seen.sized):
+            seen.troubles.append(f"{what}: {name}")
+        for what in self.tables(path, codestream, case.tool, seen.tables):
             seen.troubles.append(f"{what}: {name}")
         whole = Whole(path, codestream, siz, self.library.picture(codestream), decoded(codestream))
         for what in self.in_place(whole, tiles, some if case.in_place else tiles, seen):
@@ -565,6 +576,33 @@ class Run:
             return "not decoded"
         return "equal" if read_components(inside) == wanted else "different"
 
+    def tables(self, path, codestream, tool, counted):
+        """Counts what is told of its length table, and of what is made of it; gives what must not be told and is."""
+        content = codestream.read_bytes()
+        whole = lengths.Codestream.read(content)
+        wanted = whole.told()
+        variants = lengths.variants(whole) if wanted == lengths.Told(lengths.PASS) else {}
+        folder = path.with_name("tables")
+        folder.mkdir()
+        for name, (made, _) in variants.items():
+            (folder / name).write_bytes(made)
+        told, *found = self.checked(path, folder)
+        counted[tool, told.verdict] += 1
+        if told != wanted or whole.written() != content:
+            yield f"its length table: {told}, and not {wanted}"
+        if told.verdict == lengths.DIFFERS and not packed.unfinished(content):
+            yield f"its length table is wrong: {told}"
+        for (name, (_, wanted)), told in itertools.zip_longest(sorted(variants.items()), found):
+            counted[name, told.verdict] += 1
+            if told != wanted:
+                yield f"its length table, {name}: {told}, and not {wanted}"
+
+    def checked(self, *paths):
+        """What `check` tells of each file, in order."""
+        command = [self.winterhasp, "check", "--json", *map(str, paths)]
+        out = subprocess.run(command, capture_output=True, text=True).stdout
+        return [lengths.Told.of(json.loads(line)) for line in out.splitlines()]
+
     def shown(self, path, *words):
         """What `show` tells, also where it refuses a tile."""
         command = [self.winterhasp, "show", "--json", *words, path]
@@ -719,6 +757,17 @@ def table_of_features(seen):
     return {decoder: min(counts[decoder] for counts in found.values()) for decoder in DECODERS}
 
 
+def table_of_tables(seen):
+    """What was told of length tables, by who wrote the file, and by what was made of it."""
+    found = sum((one.tables for one in seen), Counter())
+    columns = [lengths.PASS, lengths.DIFFERS, lengths.REFUSED, lengths.NO_TABLE]
+    print("| a length table | " + " | ".join(columns) + " |")
+    print("|---|" + "---:|" * len(columns))
+    for name in sorted({name for name, _ in found}):
+        print(f"| {name} | " + " | ".join(str(found[name, column]) for column in columns) + " |")
+    return found
+
+
 def summary(results, files_packed):
     """Prints it; whether all is as it must be. A file that wasn't made is none of our trouble."""
     for trouble in itertools.chain(files_packed.troubles, *(one.troubles for one in results if one and one.kind != NOT_MADE)):
@@ -728,6 +777,7 @@ def summary(results, files_packed):
     table(seen)
     table_of_grok(seen)
     of_a_feature = table_of_features(seen)
+    tables = table_of_tables(seen)
     as_rgb = sum((one.rgb for one in seen), Counter())
     for decoder in DECODERS:
         counts = ", ".join(f"{as_rgb[decoder, outcome]} {outcome}" for outcome in RGB)
@@ -760,6 +810,9 @@ def summary(results, files_packed):
         (f"tiles with their own size by {ANNEX_B}, where tiles start before the image", bound[OWN_SIZE], LEAST_APART),
         ("tiles with equal components, where origins are equal", sized[True, "equal"], LEAST_SIZED),
         ("tiles with equal components, where tiles start before the image", sized[False, "equal"], LEAST_SIZED_APART),
+        (f"length tables of {OPENJPEG} that pass", tables[OPJ_COMPRESS, lengths.PASS], LEAST_TABLES),
+        (f"length tables of {GROK} that pass", tables[GRK_COMPRESS, lengths.PASS], LEAST_TABLES_OF_GROK),
+        ("files without a length table", sum(tables[tool, lengths.NO_TABLE] for tool in (OPJ_COMPRESS, GRK_COMPRESS)), LEAST_WITHOUT_TABLE),
     ]
     for what, count, needed in least:
         print(f"openjpeg: {count} {what} (needed: {needed})")
@@ -775,7 +828,7 @@ def binary(folder):
     if not path.exists():
         give_up(f"no {path}; build it by cargo build --release in rust/cli/")
     help_text = subprocess.run([path, "--help"], capture_output=True, text=True).stdout
-    for command in ["list", "show", "tile"]:
+    for command in ["list", "check", "show", "tile"]:
         if f"winterhasp {command} " not in help_text:
             give_up(f"{path} has no command {command}")
     help_text = subprocess.run([path, "tile", "--help"], capture_output=True, text=True).stdout
