@@ -340,6 +340,7 @@ static void length_tables(const uint8_t *sample)
     other[51] = 6;
     CHECK(checked(other, SAMPLE_BYTES, SAMPLE_BYTES, &told) == DIFFERS && told.value == 0 && told.offset == FIRST_SOT);
     CHECK(told_parts(&told, 6, 14, 0, 14));
+    CHECK(checked(other, 80, 80, &told) == WINTERHASP_TILE_PART_CUT_SHORT && told_alone(&told, 71));
     /* the second tile-part cut off; its entry left out; and a comment in the place of the table */
     CHECK(checked(sample, 71, 71, &told) == DIFFERS && told.value == 1 && told.offset == 71 && told_parts(&told, 5, 16, NONE, 0));
     memcpy(other, sample, 54);
