@@ -1389,6 +1389,11 @@ class Runs:
         segments = table(1, parts[2:], 0), table(0, parts[:2], 1)
         first = len(HEADER) + sum(map(len, segments))
         found["numbered-on-from-0"] = with_tables(*segments, parts=parts), Differs(2, first + 30, (0, 20), (2, 20))
+        # as many as there are numbers, the last first; and one more
+        parts = [(tile, 14 + tile) for tile in range(256)]
+        segments = [table(number, [entry]) for number, entry in enumerate(parts)]
+        found["most"] = with_tables(*segments[::-1], parts=parts), PASS
+        found["one-more"] = with_tables(*segments, table(200, []), parts=parts), (32, len(HEADER) + sum(map(len, segments)))
         return found
 
     def tables_without_a_length(self):
