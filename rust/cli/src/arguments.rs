@@ -134,7 +134,7 @@ const COMPLETIONS: &str = "\
 Examples:
   winterhasp completions bash > ~/.local/share/bash-completion/completions/winterhasp";
 
-/// Lists, shows and cuts the tile-parts of JPEG 2000 files: JP2 and bare codestreams of any size
+/// Lists, checks, shows and cuts the tile-parts of JPEG 2000 files: JP2 and bare codestreams of any size
 #[derive(Parser)]
 #[command(name = "winterhasp", version, after_help = EXAMPLES)]
 pub struct Arguments {
