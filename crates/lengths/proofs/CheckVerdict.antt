@@ -48,6 +48,9 @@ use Rattle.lengths.proofs.AgreeLaws.{same-both, same-is, same-self, sta
 differs-passes : {d : Difference} → _≡_ {A = Check} (DiffersAt d) Passes → ⊥
 differs-passes e = let z : _≡_ {A = ℕ} 0 1 = cc in omega arith
 
+pub refused-passes : {r : Refusal} → _≡_ {A = Check} (Refused r) Passes → ⊥
+refused-passes e = let z : _≡_ {A = ℕ} 0 1 = cc in omega arith
+
 differs-same : {d e : Difference} → _≡_ {A = Check} (DiffersAt d) (DiffersAt e) → d ≡ e
 differs-same e = cc
 
@@ -185,9 +188,6 @@ module _ (s : List ℕ) (region : ℕ) where
   stage = by-header (judged head) refl
 
   -- ---- in sentences
-
-  refused-passes : {r : Refusal} → _≡_ {A = Check} (Refused r) Passes → ⊥
-  refused-passes e = let z : _≡_ {A = ℕ} 0 1 = cc in omega arith
 
   refused-differs : {r : Refusal} {d : Difference} → _≡_ {A = Check} (Refused r) (DiffersAt d) → ⊥
   refused-differs e = let z : _≡_ {A = ℕ} 0 1 = cc in omega arith

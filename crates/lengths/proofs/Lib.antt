@@ -7,3 +7,5 @@ pub mod CheckLaws
 pub mod SegmentsLaws
 pub mod CheckVerdict
 pub mod CheckPrefix
+pub mod IsoListed
+pub mod IsoCheck

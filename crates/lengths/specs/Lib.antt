@@ -2,3 +2,4 @@ pub mod Segments
 pub mod Places
 pub mod Check
 pub mod Agree
+pub mod Iso
