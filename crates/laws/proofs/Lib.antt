@@ -2,6 +2,7 @@ pub mod SampleComputing
 pub mod SampleEdges
 pub mod SampleStandard
 pub mod SampleNumbering
+pub mod SampleLengths
 pub mod SampleEdition
 pub mod SamplePartition
 pub mod Demand3Entries
@@ -20,3 +21,4 @@ pub mod RegionPremises
 pub mod OrderPremises
 pub mod Demand3Index
 pub mod IndexPremises
+pub mod LengthsPremises

@@ -80,6 +80,8 @@ use Rattle.reader.proofs.GrowthLaws.{region-pow, whole-suffices, truncated-not,
 use Rattle.reader.proofs.GrowthFirst.{grown-only}
 use Rattle.laws.proofs.SampleComputing.{samples, extents, walks, numberings, editions, findings, scan-runs, length-tables, orders, indexes, split-runs, tiles, searches, siz-readings, components}
 use Rattle.laws.proofs.SampleNumbering.{three}
+use Rattle.laws.proofs.SampleLengths.{segments}
+use Rattle.laws.proofs.SampleLengths as table
 use Rattle.laws.specs.Sample.{two, zeros, sizOf, header, grid, counting, tlmOf, tlm, announcing, cap, sotOf, sot, part, head, withTlm, listing, A, lean, signature, jp2c}
 use Rattle.laws.proofs.SampleStandard as standard
 use Rattle.laws.proofs.SampleNumbering as many
@@ -1015,6 +1017,18 @@ by-file-order = refl
 pub numbered-by-ztlm : lengths.checked (lean (tlmOf 9 0 (0 ∷ 12 ∷ []) ++ tlmOf 8 0x10 (7 ∷ 0 ∷ 13 ∷ []) ++ tlmOf 4 0 (0 ∷ 14 ∷ [])) (part 0 14 [] ++ sot 7 13 ++ (0 ∷ sot 1 12))) 70 ≡ check.Passes
 unfolding length-tables
 numbered-by-ztlm = refl
+
+-- ---- * 5 entries without an index with Ztlm 2, then two segments of 32,765 with Ztlm 0 and 1, then an SOT that is cut: 7. 6 entries: 26 at the first in the
+-- file. 6 with Ztlm 0, as the next: 32 at that.
+
+pub check-65535 : let s = upToSot standard.siz (segments 2 0 1 32_765 5) [] in lengths.checked s (length s) ≡ refuses 7 131_133
+check-65535 = table.check-fits 2 0 1 32_765 5 (omega arith) (omega arith) (omega arith) (omega arith) (omega arith) (omega arith) (omega arith) (omega arith)
+
+pub check-65536 : let s = upToSot standard.siz (segments 2 0 1 32_765 6) [] in lengths.checked s (length s) ≡ refuses 26 45
+check-65536 = table.check-past 2 0 1 32_765 6 (omega arith) (omega arith) (omega arith) (omega arith) (omega arith) (omega arith) (omega arith) (omega arith) (omega arith)
+
+pub thirty-two-before-26 : let s = upToSot standard.siz (segments 0 0 1 32_765 6) [] in lengths.checked s (length s) ≡ refuses 32 63
+thirty-two-before-26 = table.check-repeated 0 0 1 32_765 6 (omega arith) (omega arith) (omega arith) (omega arith) (omega arith) refl
 
 -- ---- * Psot 0: to the codestream's end. With EOC the table, which leaves it out, differs; without it passes.
 

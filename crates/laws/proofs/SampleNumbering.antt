@@ -36,9 +36,12 @@ use Rattle.header.proofs.IsoMain.{upToSot, main-standard, carried-main, tlm-car
 use Rattle.header.proofs.IsoNumbering.{carried-standard, own-carried, own-restarting, past-standard}
 use Rattle.laws.proofs.SampleStandard.{siz, A-main, siz-length}
 
--- so many entries of 2 bytes, without an index
+-- so many entries of 2 bytes, without an index, in a segment of a Ztlm
+abbrev pub entriesOf : ℕ → ℕ → TlmSegment
+entriesOf z n = record { Ztlm = z; ST = 0; SP = 0; pointers = replicate n (record { Ttlm = 0; Ptlm = 14 }) }
+
 abbrev pub entries : ℕ → TlmSegment
-entries n = record { Ztlm = 0; ST = 0; SP = 0; pointers = replicate n (record { Ttlm = 0; Ptlm = 14 }) }
+entries n = entriesOf 0 n
 
 not-equal : eqb 0 0 ≡ false → ⊥
 not-equal e = let z : _≡_ {A = ℕ} 0 1 = cc in omega arith
@@ -48,13 +51,13 @@ unfolding Held
 held zero = tt
 held (suc n) = ((λ e. absurd (not-equal e), omega arith), held n)
 
-count : (n : ℕ) → length (entries n .pointers) ≡ n
+pub count : (n : ℕ) → length (entries n .pointers) ≡ n
 count n = length-replicate {A = Pointer} n (record { Ttlm = 0; Ptlm = 14 })
 
-ranges : (n : ℕ) → n ≤ 32_765 → TlmRanges (entries n)
-ranges n h =
+pub ranges : (z n : ℕ) → z < 256 → n ≤ 32_765 → TlmRanges (entriesOf z n)
+ranges z n small h =
     let long = count n in
-    record { Ztlm = omega arith; ST = omega arith; SP = omega arith; Ltlm = omega arith; held = held n }
+    record { Ztlm = small; ST = omega arith; SP = omega arith; Ltlm = omega arith; held = held n }
 
 abbrev two-full : ℕ → List Piece
 two-full full = tlm (entries full) ∷ tlm (entries full) ∷ []
@@ -65,7 +68,7 @@ three full n = tlm (entries full) ∷ tlm (entries full) ∷ tlm (entries n) ∷
 module _ (full n : ℕ) (fits : full ≤ 32_765) (few : n ≤ 32_765) where
   main : IsMain siz (three full n)
   unfolding AllSound Sound
-  main = record { siz = A-main .siz; fits = A-main .fits; pieces = (ranges full fits, (ranges full fits, (ranges n few, tt))) }
+  main = record { siz = A-main .siz; fits = A-main .fits; pieces = (ranges 0 full (omega arith) fits, (ranges 0 full (omega arith) fits, (ranges 0 n (omega arith) few, tt))) }
 
   -- SOC and SIZ are 45 bytes
   length-before : length (mainHeader siz (two-full full)) ≡ 57 + 4 * full

@@ -38,19 +38,19 @@ abbrev pub siz : Segment
 siz = record { marker = SIZ; parameters = drop 6 (bytesOfRows (sizRows size)) }
 
 -- two lengths, with indices of 1 byte
-abbrev lengths : TlmSegment
+abbrev pub lengths : TlmSegment
 lengths = record { Ztlm = 0; ST = 1; SP = 0; pointers = record { Ttlm = 0; Ptlm = 14 } ∷ record { Ttlm = 5; Ptlm = 16 } ∷ [] }
 
-abbrev first : TilePart
+abbrev pub first : TilePart
 first = record { Isot = 0; TPsot = 0; TNsot = 1; header = []; packets = [] }
 
-abbrev second : TilePart
+abbrev pub second : TilePart
 second = record { Isot = 5; TPsot = 0; TNsot = 1; header = []; packets = 0xaa ∷ 0xbb ∷ [] }
 
-abbrev parts : List TilePart
+abbrev pub parts : List TilePart
 parts = first ∷ second ∷ []
 
-unfoldable standards : Unit {0}
+unfoldable pub standards : Unit {0}
 unfolding samples bytesOfRows componentRows sizRows segmentBytes pointerRows tlmRows pieceBytes piecesBytes mainHeader sotRows partBytes partsBytes
 standards = tt
 

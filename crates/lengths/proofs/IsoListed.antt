@@ -5,7 +5,7 @@ use native.Mathlib.Nat.{add-zero}
 use native.Mathlib.Omega.{arith}
 use mathlib.Core.Path.{_≡_, refl, sym, ap, ap₂, _∙_}
 use mathlib.Core.Bool.{Bool, true, false, cond}
-use mathlib.Core.List.{List, [], _∷_, _++_, append-assoc}
+use mathlib.Core.List.{List, [], _∷_, _++_, append-assoc, map}
 use lib.ListN.{length, take, length-append}
 use lib.Dec.{leb, eqb}
 use borrow.Author.Tests.{eq-eqb, eqb-true, le-leb}
@@ -40,14 +40,14 @@ use Rattle.lengths.proofs.CheckLaws.{numbersEnd}
 -- ---- visits and segments, one for one
 
 -- what is read at a visit is a segment
-record Reads (s : List ℕ) (v : Visit) (t : TlmSegment) : Type 0 where
-  is : isTlm s v ≡ true
-  number : ztlm s (v .at) ≡ t .Ztlm
-  entries : (k : ℕ) → entriesOn s (v .at) k 0 (entryCount s (v .at)) ≡ numbered (t .ST) k (t .pointers)
-  many : unindexed s (v .at) ≡ cond (eqb (t .ST) 0) (length (t .pointers)) 0
+pub record Reads (s : List ℕ) (v : Visit) (t : TlmSegment) : Type 0 where
+  pub is : isTlm s v ≡ true
+  pub number : ztlm s (v .at) ≡ t .Ztlm
+  pub entries : (k : ℕ) → entriesOn s (v .at) k 0 (entryCount s (v .at)) ≡ numbered (t .ST) k (t .pointers)
+  pub many : unindexed s (v .at) ≡ cond (eqb (t .ST) 0) (length (t .pointers)) 0
 
 -- each in turn
-data Met (s : List ℕ) : List Visit → List TlmSegment → Type 0 where
+pub data Met (s : List ℕ) : List Visit → List TlmSegment → Type 0 where
   none : Met s [] []
   next : {v : Visit} {t : TlmSegment} {vs : List Visit} {ts : List TlmSegment} → Reads s v t → Met s vs ts → Met s (v ∷ vs) (t ∷ ts)
 
@@ -187,32 +187,64 @@ walked front (p ∷ ps) rest h =
     (past front p ps after (h .0)
     (rw (← append-assoc front (pieceBytes p) after, ← length-append front (pieceBytes p)) (walked (front ++ pieceBytes p) ps rest (h .1))))
 
+-- where the length table's segments stand, from a position on
+unfoldable pub standsFrom : ℕ → List Piece → List ℕ
+standsFrom at [] = []
+standsFrom at (tlm t ∷ more) = at ∷ standsFrom (at + length (pieceBytes (tlm t))) more
+standsFrom at (other g ∷ more) = standsFrom (at + length (pieceBytes (other g))) more
+
+abbrev places : List Visit → List ℕ
+places vs = map (λ v. v .at) vs
+
+past-at : (front : List ℕ) (p : Piece) (ps : List Piece) (rest : List ℕ) → Sound p
+    → places (ahead (front ++ (pieceBytes p ++ rest)) (length front + length (pieceBytes p))) ≡ standsFrom (length front + length (pieceBytes p)) ps
+    → places (ahead (front ++ (pieceBytes p ++ rest)) (length front)) ≡ standsFrom (length front) (p ∷ ps)
+unfolding Sound pieceBytes passingOf standsFrom
+past-at front (other g) ps rest h behind = rw (ahead-plain _ _ _ (piece-passed front (other g) rest h) refl) behind
+past-at front (tlm t) ps rest h behind = rw (ahead-tlm _ _ _ (piece-passed front (tlm t) rest h) refl) (ap (λ (l : List ℕ). length front ∷ l) behind)
+
+walked-at : (front : List ℕ) (ps : List Piece) (rest : List ℕ) → AllSound ps
+    → places (ahead (front ++ (piecesBytes ps ++ (bytesOf 2 SOT ++ rest))) (length front)) ≡ standsFrom (length front) ps
+unfolding AllSound piecesBytes standsFrom
+walked-at front [] rest h = rw (at-sot front rest)
+walked-at front (p ∷ ps) rest h =
+    let after : List ℕ = piecesBytes ps ++ (bytesOf 2 SOT ++ rest) in
+    rw append-assoc
+    (past-at front p ps after (h .0)
+    (rw (← append-assoc front (pieceBytes p) after, ← length-append front (pieceBytes p)) (walked-at (front ++ pieceBytes p) ps rest (h .1))))
+
 -- ---- the main header
 
 module _ (g : Segment) (ps : List Piece) (rest : List ℕ) (m : IsMain g ps) where
   -- SIZ is the first piece
-  main : Met (upToSot g ps rest) (tlmsOf (upToSot g ps rest)) (tables ps)
+  pub main-met : Met (upToSot g ps rest) (tlmsOf (upToSot g ps rest)) (tables ps)
   unfolding bytesOf piecesBytes pieceBytes AllSound Sound tables
-  main =
+  main-met =
       rw (split-main g ps (bytesOf 2 SOT ++ rest), ← append-assoc (segmentBytes g) (piecesBytes ps) _)
       (walked (bytesOf 2 SOC) (other g ∷ ps) rest ((siz-main m, λ e. omega (arith, m .siz)), m .pieces))
+
+  pub main-places : map (λ v. v .at) (tlmsOf (upToSot g ps rest)) ≡ standsFrom 2 (other g ∷ ps)
+  unfolding bytesOf piecesBytes pieceBytes AllSound Sound
+  main-places =
+      rw (split-main g ps (bytesOf 2 SOT ++ rest), ← append-assoc (segmentBytes g) (piecesBytes ps) _)
+      (walked-at (bytesOf 2 SOC) (other g ∷ ps) rest ((siz-main m, λ e. omega (arith, m .siz)), m .pieces))
 
   -- The table that is compared is the standard's.
   pub listed-standard : listed (upToSot g ps rest) ≡ isoTable (tables ps)
   unfolding listed isoTable
-  listed-standard = met-listed 0 (met-ordered main)
+  listed-standard = met-listed 0 (met-ordered main-met)
 
   -- No Ztlm is refused as used twice exactly where no two are the same.
   pub once-standard : Distinct (tables ps) → once (upToSot g ps rest) [] (tlmsOf (upToSot g ps rest)) ≡ firstSot
   unfolding isIn
-  once-standard distinct = met-once [] main (λ z e. absurd (not-true-false (sym e))) distinct
+  once-standard distinct = met-once [] main-met (λ z e. absurd (not-true-false (sym e))) distinct
 
   pub distinct-standard : once (upToSot g ps rest) [] (tlmsOf (upToSot g ps rest)) ≡ firstSot → Distinct (tables ps)
-  distinct-standard e = once-met [] main e .1
+  distinct-standard e = once-met [] main-met e .1
 
   -- No number passes exactly where no more than 65,535 entries have no index.
   pub numbers-standard : withoutIndex (tables ps) ≤ 65_535 → numbersEnd (upToSot g ps rest) ≡ firstSot
-  numbers-standard few = met-few 0 (met-ordered main) (omega (arith, count-ordered (tables ps)))
+  numbers-standard few = met-few 0 (met-ordered main-met) (omega (arith, count-ordered (tables ps)))
 
   pub few-standard : numbersEnd (upToSot g ps rest) ≡ firstSot → withoutIndex (tables ps) ≤ 65_535
-  few-standard e = omega (arith, few-before (upToSot g ps rest) _ e, met-count (met-ordered main), count-ordered (tables ps))
+  few-standard e = omega (arith, few-before (upToSot g ps rest) _ e, met-count (met-ordered main-met), count-ordered (tables ps))
