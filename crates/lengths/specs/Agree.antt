@@ -21,6 +21,10 @@ agreedBy e (step.Part p) = cond (same e (pairOf p)) (To (p .offset .0 + p .lengt
 agreedBy e step.Ended = Not
 agreedBy e (step.Refused r) = Not
 
+-- an entry with which the comparison stops
+abbrev pub stopAt : ℕ → Entry → Stop
+stopAt number e = record { number = number; listed = said e }
+
 -- the first of what stands there, beside what is listed there
 unfoldable pub settledAs : ℕ → ℕ → List Entry → Said → Check
 settledAs number at (y ∷ ys) x = differing number at x (said y)

@@ -10,7 +10,7 @@ ghost use Rattle.parts.specs.Scan.{scanStepAt, scanFrom, entriesFrom};
 ghost use Rattle.lengths.specs.Segments.{tlmsOf, ordered};
 ghost use Rattle.lengths.specs.Places.{Noted};
 ghost use Rattle.lengths.specs.Check.{pairOf, listed, standing, compared, behindScan, behindHeader, checked};
-ghost use Rattle.lengths.specs.Agree.{agreedBy, settled};
+ghost use Rattle.lengths.specs.Agree.{agreedBy, stopAt, settled};
 use crate::segments::Found;
 use header::numbering::Numbering;
 use header::parse::Front;
@@ -67,6 +67,18 @@ fn agree(codestream: &[u8], at: usize, entry: TilePartEntry) -> Agreed
         Agreed::To(types::end_of(part).position())
     } else {
         Agreed::Not
+    }
+}
+
+fn stop_at(number: u64, entry: TilePartEntry) -> Stop
+    ensures { λ r. ⌜ r ≡ stopAt number (pairOf entry) ⌝ }
+{
+    Stop {
+        number,
+        listed: Said::Part {
+            tile: entry.tile_index,
+            length: entry.length,
+        },
     }
 }
 
@@ -138,13 +150,7 @@ fn compare(
                 );
                 let agreed = agree(codestream, at, entry);
                 let Agreed::To(end) = agreed else {
-                    break 'table Stop {
-                        number,
-                        listed: Said::Part {
-                            tile: entry.tile_index,
-                            length: entry.length,
-                        },
-                    };
+                    break 'table stop_at(number, entry);
                 };
                 at = end;
                 number += 1;

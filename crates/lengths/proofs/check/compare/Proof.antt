@@ -102,6 +102,9 @@ enum-known-agreed c = search needs
 enum-told : tie.Need-enum-told Inv-loop μ-loop Inv-table μ-table
 enum-told c = search needs
 
+stop-at-requires : tie.Need-stop-at-requires Inv-loop μ-loop Inv-table μ-table
+stop-at-requires c κs = search needs
+
 add-number : tie.Need-add-number Inv-loop μ-loop Inv-table μ-table
 add-number c =
     let l = c .before .before .before .before .before .before .before in
@@ -154,7 +157,7 @@ halted c =
     let l = c .before in
     ⊎-elim
     (λ w. rw (w .1, w .3) (stops-whole _ _ _ _ _ _ _ (l .table .inv) (omega (arith, w .0 .taken))))
-    (λ w. rw (w .11, w .13)
+    (λ w. rw (w .12, w .14, w .11 .ensures)
     (stops-inside _ _ _ _ _ _ _ (l .table .inv) (below (record { before = l; if1 = w .0 })) (noted (record { before = l; if1 = w .0 })) (w .2 .taken) (w .3 .ensures)
     (w .4 .inv) (w .5 .taken) (w .7 .ensures) (sym (w .8 .ensures) ∙ w .10 .given .1)))
     (c .if1 .came)
@@ -214,6 +217,7 @@ compare-spec =
     agree-requires
     enum-known-agreed
     enum-told
+    stop-at-requires
     add-number
     add-i
     loop-less
