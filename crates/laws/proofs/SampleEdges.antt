@@ -1002,6 +1002,18 @@ pub nine-behind : lengths.checked (lean (tlmOf 0 0 (0 ∷ 13 ∷ [])) (sot 0 12 
 unfolding length-tables
 nine-behind = refl
 
+-- ---- * An entry of tile 9 in the first segment, and in the second the one that stands there: differs at 0, and does not go on in the second.
+
+pub stops-in-the-first : lengths.checked (lean (tlmOf 0 0x10 (9 ∷ 0 ∷ 12 ∷ []) ++ tlmOf 1 0x10 (0 ∷ 0 ∷ 12 ∷ [])) (sot 0 12)) 36 ≡ differing 0 24 (Part 9 12) (Part 0 12)
+unfolding length-tables
+stops-in-the-first = refl
+
+-- ---- * Two segments of one entry each, of which the second differs: at 1, counted over both.
+
+pub counted-over-both : lengths.checked (lean (tlmOf 0 0x10 (0 ∷ 0 ∷ 12 ∷ []) ++ tlmOf 1 0x10 (9 ∷ 0 ∷ 12 ∷ [])) (sot 0 12 ++ sot 0 12)) 48 ≡ differing 1 36 (Part 9 12) (Part 0 12)
+unfolding length-tables
+counted-over-both = refl
+
 -- ---- * Two segments of one length without an index, 12 with Ztlm 1 and 13 with Ztlm 0, before parts of 13 and 12: passes; their Ztlm swapped: differs at 0.
 
 pub by-ztlm : lengths.checked (lean (tlmOf 1 0 (0 ∷ 12 ∷ []) ++ tlmOf 0 0 (0 ∷ 13 ∷ [])) (sot 0 13 ++ (0 ∷ sot 1 12))) 47 ≡ check.Passes
