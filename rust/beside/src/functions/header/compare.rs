@@ -18,8 +18,8 @@ use crate::readings::meant;
 use crate::sample::codestream::{Codestream, CAP, SOT, TLM};
 use crate::sample::markers::holding;
 use crate::sample::short::each_behind;
-use crate::sample::zeros::zeros;
-use crate::sample::{caps, fillers, headers, numbers, opened, sample_a, tlms, TELLING};
+use crate::sample::zeros::each_too_long;
+use crate::sample::{caps, fillers, headers, numbers, opened, tlms, TELLING};
 use crate::tally::{hex_of_front, Tally};
 use crate::wanted;
 
@@ -173,20 +173,15 @@ fn every_room(run: &mut Run, codestream: &[u8]) {
     }
 }
 
-/// Zeros, and sample A before zeros, on both sides of the longest loan.
+/// On both sides of the longest one.
 fn over_long_loans(run: &mut Run) {
-    const TOO_LONG: usize = 1 << 32;
-    let Some(mut codestream) = zeros(TOO_LONG) else {
-        return;
-    };
-    let sample = sample_a();
-    for front in [&[][..], &sample] {
-        codestream[..front.len()].copy_from_slice(front);
-        check_with(run, &codestream, 2, 45);
-        check_with(run, &codestream, 0, 0);
-        check_with(run, &codestream[..TOO_LONG - 1], 2, 45);
-        check_with(run, &codestream[..TOO_LONG - 1], 1, 44);
-    }
+    each_too_long(|codestream| {
+        let longest = &codestream[..codestream.len() - 1];
+        check_with(run, codestream, 2, 45);
+        check_with(run, codestream, 0, 0);
+        check_with(run, longest, 2, 45);
+        check_with(run, longest, 1, 44);
+    });
 }
 
 /// Alone, after SOC and SIZ, as a TLM's length field and on; as they are and with a SOT behind.

@@ -14,8 +14,8 @@ use crate::model::{Refusal, ACCEPTED};
 use crate::sample::codestream::{PPM, SIZ, SOT, TLM};
 use crate::sample::markers::{code, every_code, holding};
 use crate::sample::short::each_behind;
-use crate::sample::zeros::zeros;
-use crate::sample::{headers, markers, opened, prefixes, sample_a, tlms, TELLING};
+use crate::sample::zeros::each_too_long;
+use crate::sample::{headers, markers, opened, prefixes, tlms, TELLING};
 use crate::tally::hex_of_front;
 use crate::wanted::{self, NO_MARKER};
 
@@ -100,19 +100,13 @@ fn told(marker: u16, stripped: u64, document: &Found) -> Told<Option<[u64; 1]>> 
     }
 }
 
-/// Zeros, and a header before zeros, on both sides of the longest loan.
+/// On both sides of the longest one.
 fn over_long_loans(run: &mut Run) {
-    const TOO_LONG: usize = 1 << 32;
-    let Some(mut codestream) = zeros(TOO_LONG) else {
-        return;
-    };
-    let sample = sample_a();
-    for front in [&[][..], &sample] {
-        codestream[..front.len()].copy_from_slice(front);
-        for length in [TOO_LONG, TOO_LONG - 1] {
-            check_for(run, &codestream[..length], &[SIZ, TLM, PPM]);
+    each_too_long(|codestream| {
+        for codestream in [codestream, &codestream[..codestream.len() - 1]] {
+            check_for(run, codestream, &[SIZ, TLM, PPM]);
         }
-    }
+    });
 }
 
 /// Alone, after SOC and SIZ, and as a TLM's length field and on; as they are and with a SOT behind.
