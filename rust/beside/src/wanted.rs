@@ -1,6 +1,7 @@
 //! What each function is called, the answers that it has to give, and how many of each have to come
 //! of the original itself where the function is compared: 0 where it is none for the original to give.
 
+use crate::model::check::Difference;
 use crate::model::ACCEPTED;
 use crate::tally::Answer;
 
@@ -151,26 +152,65 @@ pub const SCAN_RECORDS: Wanted = Wanted {
     ..SCAN
 };
 
-/// Of a length table beside the tile-parts; the original compares none.
+/// Of a length table, by what differs first. The original's answers count where its lists have to be ours.
 pub const PASSES: &str = "passes";
-pub const DIFFERS: &str = "differs";
+pub const NO_ENTRIES: &str = "differs, no entries";
+pub const MISSING: &str = "differs, an entry missing";
+pub const SURPLUS: &str = "differs, an entry too many";
+pub const ANOTHER_TILE: &str = "differs in the tile";
+pub const ANOTHER_LENGTH: &str = "differs in the length";
 pub const CHECK: Wanted = Wanted {
     name: "check_length_table",
     answers: &[
-        (PASSES, 0),
-        (DIFFERS, 0),
-        ("refused 1", 0),
-        ("refused 2", 0),
-        ("refused 3", 0),
-        ("refused 4", 0),
-        ("refused 5", 0),
-        ("refused 6", 0),
-        ("refused 7", 0),
-        ("refused 8", 0),
-        ("refused 9", 0),
+        (PASSES, 30_000),
+        (NO_ENTRIES, 6_000),
+        (MISSING, 3_000),
+        (SURPLUS, 3_000),
+        (ANOTHER_TILE, 40_000),
+        (ANOTHER_LENGTH, 15_000),
+        ("refused 1", 12_000),
+        ("refused 2", 2_000),
+        ("refused 3", 100_000),
+        ("refused 4", 2_000),
+        ("refused 5", 1_500),
+        ("refused 6", 5_000),
+        ("refused 7", 4_000),
+        ("refused 8", 3_000),
+        ("refused 9", 6_000),
         (TOO_LONG, 0),
         ("refused 26", 0),
         ("refused 32", 0),
+    ],
+};
+
+/// Of one that is not refused.
+pub fn checked(difference: Option<Difference>) -> &'static str {
+    let Some(difference) = difference else {
+        return PASSES;
+    };
+    match (difference.listed, difference.standing) {
+        (None, _) if difference.number == 0 => NO_ENTRIES,
+        (None, _) => MISSING,
+        (_, None) => SURPLUS,
+        (Some((listed, _)), Some((standing, _))) if listed != standing => ANOTHER_TILE,
+        _ => ANOTHER_LENGTH,
+    }
+}
+
+/// Laws of the check, by our own answers.
+pub const SAME_LISTS: &str = "passes, the lists are the same";
+pub const OTHER_LISTS: &str = "does not pass, they are not";
+pub const FIRST_AGREE: &str = "the first agree";
+pub const AS_THE_WHOLE: &str = "enough is as the whole";
+pub const SHUFFLED: &str = "shuffled alike";
+pub const LAWS_OF_CHECK: Wanted = Wanted {
+    name: "laws of the check",
+    answers: &[
+        (SAME_LISTS, 0),
+        (OTHER_LISTS, 0),
+        (FIRST_AGREE, 0),
+        (AS_THE_WHOLE, 0),
+        (SHUFFLED, 0),
     ],
 };
 

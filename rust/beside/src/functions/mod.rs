@@ -1,6 +1,7 @@
 //! Each function that is run beside the original or the model: a module, named once in each program's list.
 
 mod assembly;
+mod check;
 mod components;
 mod enough;
 mod entries;
@@ -32,6 +33,7 @@ pub const COMPARISONS: &[&dyn Compared] = &[
     &header::COMPARISON,
     &marker::COMPARISON,
     &scan::COMPARISON,
+    &check::COMPARISON,
     &order::COMPARISON,
     &index::COMPARISON,
     &split::COMPARISON,

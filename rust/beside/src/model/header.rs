@@ -76,7 +76,7 @@ impl Reading {
 }
 
 const LONGEST_LOAN: u64 = u32::MAX as u64;
-const LAST_NUMBER: u16 = 65_534;
+pub const LAST_NUMBER: u16 = 65_534;
 
 pub fn parse_main_header(codestream: &[u8], reading: Reading) -> Result<Header, Refusal> {
     let length = codestream.len() as u64;
@@ -184,18 +184,20 @@ pub fn markers(codestream: &[u8]) -> impl Iterator<Item = (u64, u16)> + '_ {
     })
 }
 
+/// The TLM segments at which the steps stand: where each does, and what it holds from Ltlm on.
+pub fn tlms(codestream: &[u8]) -> impl Iterator<Item = (u64, &[u8])> + '_ {
+    let of_tlm = markers(codestream).filter(|&(_, marker)| marker == TLM);
+    of_tlm.filter_map(move |(at, marker)| {
+        let end = step(codestream, marker.into(), at)?;
+        Some((at, &codestream[at as usize + 2..end as usize]))
+    })
+}
+
 /// Whether the numberings have to give the same: no more than one of the segments at which the steps
 /// stand has entries without an index.
 pub fn have_to_agree(codestream: &[u8]) -> bool {
-    let unindexed = |&(at, marker): &(u64, u16)| {
-        let end = step(codestream, marker.into(), at);
-        let whole = end.map(|end| &codestream[at as usize..end as usize]);
-        let listed = whole
-            .filter(|_| marker == TLM)
-            .map(|whole| tlm(&whole[2..]));
-        listed.is_some_and(|listed| matches!(listed.as_deref(), Ok([(None, _), ..])))
-    };
-    markers(codestream).filter(unindexed).count() <= 1
+    let unindexed = |(_, body): &(u64, &[u8])| matches!(tlm(body).as_deref(), Ok([(None, _), ..]));
+    tlms(codestream).filter(unindexed).count() <= 1
 }
 
 /// Of the places at which the steps stand: delimiters whose first byte isn't FF.
@@ -234,7 +236,7 @@ pub fn is_delimiter(marker: u16) -> bool {
 }
 
 /// Index, if there is one, and length of each entry; `body` is from Ltlm on. Or the refusal's number.
-fn tlm(body: &[u8]) -> Result<Vec<(Option<u16>, u64)>, u32> {
+pub fn tlm(body: &[u8]) -> Result<Vec<(Option<u16>, u64)>, u32> {
     let [_, _, _, stlm, entries @ ..] = body else {
         return Err(4);
     };

@@ -1,6 +1,7 @@
 //! The rules in plain Rust: for every input its answer, or its refusal's number and place. Written
 //! from docs/RULES.md, to stand beside the original, which only says that it refuses.
 
+pub mod check;
 pub mod components;
 pub mod header;
 pub mod index;
@@ -31,8 +32,8 @@ impl Refusal {
     }
 
     /// Of output and tables, too long a loan, 15, components, numbers that are carried on, the
-    /// standard's rule for tiles, the order of TLM, and the newer edition: the original has nothing that
-    /// answers to them.
+    /// standard's rule for tiles, the order of TLM segments, and the newer edition: the original has nothing
+    /// that answers to them.
     pub fn is_ours_alone(&self) -> bool {
         matches!(
             self.number,

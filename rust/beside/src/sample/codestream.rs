@@ -42,6 +42,7 @@ impl Default for Siz {
 }
 
 /// A TLM segment; `stlm` decides how wide an entry's index and length are written.
+#[derive(Clone)]
 pub struct Tlm {
     pub ztlm: u8,
     pub stlm: u8,
@@ -49,7 +50,7 @@ pub struct Tlm {
 }
 
 impl Tlm {
-    fn body(&self) -> Vec<u8> {
+    pub fn body(&self) -> Vec<u8> {
         let mut body = vec![self.ztlm, self.stlm];
         for (index, length) in &self.entries {
             match self.stlm >> 4 & 3 {

@@ -4,6 +4,7 @@ mod components;
 mod extent;
 mod header;
 mod index;
+mod lengths;
 mod parts;
 mod reader;
 mod tile;
