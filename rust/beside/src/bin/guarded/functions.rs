@@ -9,8 +9,8 @@ use beside::readings::{self, meant};
 use beside::sample::codestream::CAP;
 use beside::sample::damage::damage;
 use beside::sample::{
-    boxes, caps, components, headers, indices, markers, numbers, orders, padded, parts, sizes,
-    tiles,
+    boxes, caps, components, deliveries, headers, indices, lengths, markers, numbers, orders,
+    padded, parts, sizes, tiles,
 };
 use beside::wanted::{self, Wanted, COMPLETE, COUNT, NONE, NO_MARKER, TRUNCATED};
 use probe::host;
@@ -28,6 +28,7 @@ pub const FUNCTIONS: &[Function] = &[
     (wanted::FIND_MARKER, find_marker),
     (wanted::SCAN, scan),
     (wanted::SCAN_RECORDS, scan_records),
+    (wanted::CHECK, check_length_table),
     (wanted::ORDER, order),
     (wanted::ORDER_OF_RECORDS, order_of_records),
     (wanted::INDEX, index_tiles),
@@ -222,6 +223,37 @@ fn scan_records(calls: &mut Calls) {
         usual,
         |[codestream], [table], [value]| probe::scan_records(codestream, start, table, value),
     );
+}
+
+/// A codestream with a table that is right, or nearly, and often cut short; the whole of it, or a region.
+fn check_length_table(calls: &mut Calls) {
+    let random = &mut calls.random;
+    let codestream = match random.below(64) {
+        0 | 1 => lengths::many(random),
+        2..=9 => codestream(random),
+        10..=19 => cut_short(random),
+        _ => {
+            let built = deliveries::any(random).bytes();
+            perhaps_damaged(random, built)
+        }
+    };
+    let region = lengths::region(random, &codestream);
+    let document = model::check::check_length_table(&codestream, region);
+    let answer = |status| match document {
+        Ok(difference) => wanted::checked(difference),
+        Err(_) => usual(status),
+    };
+    calls.call([codestream], [], answer, |[codestream], [], values| {
+        host::check_length_table(codestream, region, values)
+    });
+}
+
+/// Of which the last tile-part may be missing, or a part of it.
+fn cut_short(random: &mut Random) -> Vec<u8> {
+    let mut built = deliveries::sound(random).bytes();
+    let less = random.below(built.len().min(40));
+    built.truncate(built.len() - less);
+    built
 }
 
 /// Of rows with any bytes behind them, for a tile that is there or not.
