@@ -53,6 +53,8 @@ pub const BENCHMARKS: &[Benchmark] = &[
     header::BENCHMARK,
     marker::BENCHMARK,
     scan::BENCHMARK,
+    check::BENCHMARK,
+    check::BENCHMARK_BESIDE_A_SCAN,
     order::BENCHMARK,
     index::BENCHMARK,
     index::BENCHMARK_COUNTED,

@@ -3,10 +3,12 @@
 
 mod compare;
 mod laws;
+mod rows;
 #[cfg(test)]
 mod slips;
 
 pub use compare::COMPARISON;
+pub use rows::{BENCHMARK, BENCHMARK_BESIDE_A_SCAN};
 
 use super::{header, scan};
 use crate::model::check::{header as region_of, Lists};
