@@ -29,6 +29,18 @@ pub(crate) fn marker(payload: &[u8]) {
     print::finding(header::find::find_marker(&payload[2..], numbers::read_u16(payload, 0)));
 }
 
+// The payload is the header's region, 8 bytes, and the codestream.
+pub(crate) fn length_table(payload: &[u8]) {
+    if payload.len() < 8 {
+        return print::text(b"unknown kind");
+    }
+    print::text(b"check");
+    print::checked(lengths::check::check_length_table(
+        &payload[8..],
+        numbers::read_u64(payload, 0),
+    ));
+}
+
 // The payload is the tile's buffer.
 pub(crate) fn split(tile: &[u8]) {
     let count = parts::split::split_count(tile);

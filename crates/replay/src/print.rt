@@ -2,6 +2,9 @@
 use header::find::Finding;
 use header::parse::MainHeader;
 use index::extend::Indexed;
+use lengths::check::Check;
+use lengths::check::Difference;
+use lengths::check::Said;
 use libc::STDOUT_FILENO;
 use parts::scan::Scanned;
 use reader::components::ComponentRead;
@@ -47,6 +50,37 @@ pub(crate) fn finding(answer: Finding) {
         Finding::At(offset) => number(offset.0),
         Finding::Absent => text(b" none"),
         Finding::Refused(why) => refused(why),
+    }
+}
+
+pub(crate) fn checked(answer: Check) {
+    match answer {
+        Check::Passes => text(b" passes"),
+        Check::DiffersAt(difference) => differs(difference),
+        Check::Refused(why) => refused(why),
+    }
+}
+
+fn differs(at: Difference) {
+    let offset = at.offset;
+    let listed = at.listed;
+    let standing = at.standing;
+    text(b" differs");
+    number(at.number);
+    number(offset.0);
+    text(b", listed");
+    said(listed);
+    text(b", standing");
+    said(standing);
+}
+
+fn said(what: Said) {
+    match what {
+        Said::Part { tile, length } => {
+            number(tile as u64);
+            number(length);
+        }
+        Said::Nothing => text(b" none"),
     }
 }
 

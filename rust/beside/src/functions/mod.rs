@@ -104,6 +104,7 @@ pub const KINDS: &[Kind] = &[
     order::RECORDS,
     index::KIND,
     index::RECORDS,
+    check::KIND,
 ];
 
 #[cfg(test)]
@@ -113,6 +114,6 @@ mod tests {
     #[test]
     fn kinds_are_numbered_in_order() {
         let numbers: Vec<_> = KINDS.iter().map(|kind| kind.number).collect();
-        assert_eq!(numbers, (1..=25).collect::<Vec<_>>());
+        assert_eq!(numbers, (1..=26).collect::<Vec<_>>());
     }
 }

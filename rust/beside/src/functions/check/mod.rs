@@ -1,12 +1,14 @@
 //! `check_length_table`, ours beside the model's, and beside the lists that the original has where these are
 //! the ones that are compared.
 
+mod cases;
 mod compare;
 mod laws;
 mod rows;
 #[cfg(test)]
 mod slips;
 
+pub use cases::KIND;
 pub use compare::COMPARISON;
 pub use rows::{BENCHMARK, BENCHMARK_BESIDE_A_SCAN};
 
