@@ -84,6 +84,21 @@ mod tests {
     }
 
     #[test]
+    fn what_is_shuffled_is_all_there_in_any_order() {
+        let mut random = Random::new(2);
+        let mut seen = [[0; 3]; 3];
+        for _ in 0..600 {
+            let mut items = [0, 1, 2];
+            random.shuffle(&mut items);
+            for (place, item) in items.into_iter().enumerate() {
+                seen[item][place] += 1;
+            }
+        }
+        assert!(seen.iter().flatten().all(|&count| count > 150), "{seen:?}");
+        assert!(seen.iter().all(|places| places.iter().sum::<i32>() == 600));
+    }
+
+    #[test]
     fn below_stays_below() {
         let mut random = Random::new(1);
         assert!((0..1000).all(|_| random.below(3) < 3));
