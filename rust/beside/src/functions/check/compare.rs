@@ -321,7 +321,7 @@ mod tests {
     use super::{at_the_last, check_in, known_by_hand, original, Sides};
     use crate::compare::holds_on;
     use crate::functions::check::slips::{PAST_THE_LAST, RIGHT, WRONG};
-    use crate::functions::check::Check;
+    use crate::functions::check::{Check, Listing};
     use crate::model::check::Lists;
 
     fn beside_the_original(check: Check) -> Sides {
@@ -357,7 +357,7 @@ mod tests {
 
     #[test]
     fn other_lists_of_the_original_show() {
-        let wrong: [fn(&[u8], u64) -> Option<Lists>; 4] = [
+        let wrong: [Listing; 4] = [
             |_, _| None,
             |codestream, region| {
                 let mut lists = original(codestream, region)?;

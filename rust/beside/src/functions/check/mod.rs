@@ -18,11 +18,14 @@ use crate::model::check::{header as region_of, Lists};
 /// By a codestream, the region of its header, and the numbers that are lent.
 type Check = fn(&[u8], u64, &mut [u64; 6]) -> u32;
 
+/// By the first two, if nothing is refused.
+type Listing = fn(&[u8], u64) -> Option<Lists>;
+
 /// The archive's function, or what stands for it, and the original's lists.
 #[derive(Clone, Copy)]
 pub struct Sides {
     check: Check,
-    lists: fn(&[u8], u64) -> Option<Lists>,
+    lists: Listing,
 }
 
 /// What the original's main header lists, in file order and numbered from 0 in each segment, and what its
