@@ -17,22 +17,20 @@ use Rattle.chain.specs.Chain.{Visit}
 use Rattle.header.specs.Tlm.{unindexed}
 use Rattle.header.specs.Walk.{firstSot, refused, walkFrom}
 use Rattle.header.specs.Numbering.{nextNumber, endedBy}
-use Rattle.header.specs.Parse.{judged}
 use Rattle.header.specs.declared.numbering.Numbering.the-variants.{CarriedOn}
-use Rattle.header.specs.Iso.{Segment, segmentBytes}
-use Rattle.header.specs.IsoTlm.{TlmSegment, tlmRows, withoutIndex}
+use Rattle.header.specs.Iso.{segmentBytes}
+use Rattle.header.specs.IsoTlm.{tlmRows, withoutIndex}
 use Rattle.header.specs.IsoMain.{Piece, tlm, other, pieceBytes, piecesBytes, mainHeader, Sound, AllSound, IsMain, tables}
 use Rattle.header.proofs.ParseLaws.{judged-sound}
 use Rattle.header.proofs.IsoTlm.{length-tlm}
 use Rattle.header.proofs.IsoMain.{upToSot, front-main, ended-main}
-use Rattle.parts.specs.Scan as scan
 use Rattle.parts.proofs.ScanLaws.{step-short, sot-no-eoc, scan-refused}
 use Rattle.lengths.specs.Segments.{tlmsOf, isIn, once, insert, ordered}
 use Rattle.lengths.specs.Check.{behindScan, behindTable, behindHeader, checked}
 use Rattle.lengths.specs.Iso.{Apart, Distinct}
 use Rattle.lengths.specs.declared.check.Check.the-variants.{Refused}
-use Rattle.lengths.proofs.CheckLaws.{behindSound, numbersEnd, repeat-refuses, order-accepts}
-use Rattle.lengths.proofs.IsoListed.{Reads, Met, none, next, standsFrom, main-met, main-places, once-standard}
+use Rattle.lengths.proofs.CheckLaws.{behindSound, repeat-refuses, order-accepts}
+use Rattle.lengths.proofs.IsoListed.{Met, none, next, standsFrom, main-met, main-places, once-standard}
 use Rattle.lengths.proofs.IsoCheck.{check-standard}
 use Rattle.laws.proofs.SampleStandard.{siz, A-main, siz-length}
 use Rattle.laws.proofs.SampleNumbering.{entriesOf, count, ranges}

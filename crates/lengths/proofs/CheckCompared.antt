@@ -3,12 +3,12 @@
 use Prim.Native.Nat.{ℕ, _+_, _-_, _≤_, _<_}
 use native.Mathlib.Omega.{arith}
 use mathlib.Core.Path.{_≡_, refl, sym, ap, _∙_}
-use mathlib.Core.List.{List, [], _∷_, _++_}
+use mathlib.Core.List.{List, _∷_, _++_}
 use lib.ListN.{length, getD}
 use Rattle.types.specs.declared.Refusal.{Refusal}
 use Rattle.types.specs.declared.TilePartEntry.{TilePartEntry}
 use Rattle.chain.specs.Chain.{Visit, Chain, also}
-use Rattle.header.specs.Tlm.{Entry, entryCount, entryOn, entriesOn, unindexed, recordOf}
+use Rattle.header.specs.Tlm.{Entry, entryCount, entryOn, entriesOn, recordOf}
 use Rattle.header.specs.Walk.{firstSot}
 use Rattle.header.specs.Numbering.{entriesBy, endedBy}
 use Rattle.header.specs.declared.numbering.Numbering.the-variants.{CarriedOn}
@@ -27,12 +27,11 @@ use Rattle.lengths.specs.Places.{having, Notes}
 use Rattle.lengths.specs.Check.{pairOf, listed, standing, said, compared, behindScan}
 use Rattle.lengths.specs.Agree.{agreedBy, settledAs, settled}
 use Rattle.lengths.specs.declared.check.Said.the-variants.{Nothing}
-use Rattle.lengths.specs.declared.check.Check.{Check}
 use Rattle.lengths.specs.declared.check.Check.the-variants.{Refused}
 use Rattle.lengths.specs.declared.check.Agreed.the-variants.{To, Not}
 use Rattle.lengths.specs.declared.check.Stop.{Stop}
 use Rattle.lengths.proofs.SegmentsOrder.{grouped-end}
-use Rattle.lengths.proofs.PlacesNumbered.{restFrom, next, endFrom, listedFrom, segmentEntries, all-from-0, end-none, end-fits, end-past, listed-none, listed-one}
+use Rattle.lengths.proofs.PlacesNumbered.{next, endFrom, listedFrom, all-from-0, end-none, end-fits, end-past, listed-none, listed-one}
 use Rattle.lengths.proofs.AgreeLaws.{Passed, agrees, stopped, standing-part, compared-same, settled-none}
 
 -- ---- the entries of one segment

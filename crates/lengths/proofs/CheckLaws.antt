@@ -1,7 +1,7 @@
 -- The check's answer, stage by stage: what the header's walk, the order of the segments and their numbers refuse, and then the comparison.
 use Prim.Native.Nat.{ℕ, min}
 use native.Mathlib.Omega.{arith}
-use mathlib.Core.Path.{_≡_, refl, sym, ap, ap₂, _∙_}
+use mathlib.Core.Path.{_≡_, refl, sym, ap, _∙_}
 use mathlib.Core.List.{List, []}
 use lib.ListN.{length, take}
 use lib.Seq.{take-all, take-length}

@@ -17,12 +17,11 @@ use Rattle.chain.specs.Chain.{Visit, Chain, Run, stay, step}
 use Rattle.header.specs.Step.{segmentEnd}
 use Rattle.header.specs.Tlm.{Entry, ztlm, Accepted, entryCount}
 use Rattle.header.specs.Extent.{enough}
-use Rattle.header.specs.Walk.{WalkEnd, firstSot, refused, walkAt, walkFrom}
+use Rattle.header.specs.Walk.{WalkEnd, firstSot, refused, walkAt}
 use Rattle.header.specs.Strip.{isTlm}
 use Rattle.header.specs.Numbering.{nextNumber, entriesBy, endedBy}
 use Rattle.header.specs.Parse.{judged}
 use Rattle.header.specs.declared.numbering.Numbering.the-variants.{CarriedOn, Restarting}
-use Rattle.header.specs.declared.parse.MainHeaderInfo.{MainHeaderInfo}
 use Rattle.header.specs.declared.parse.MainHeader.{MainHeader}
 use Rattle.header.specs.declared.parse.MainHeader.the-variants as main
 use Rattle.header.proofs.WalkLaws.{walk-run}
@@ -34,7 +33,6 @@ use Rattle.header.proofs.Enough.{by-enough}
 use Rattle.parts.specs.Scan.{scanFrom}
 use Rattle.lengths.specs.Segments.{tlmsIn, tlmsOf, once, insert, ordered, before, tableEnd}
 use Rattle.lengths.specs.Check.{listed, standing, compared, behindScan, behindTable, behindHeader, checked}
-use Rattle.lengths.specs.declared.check.Check.{Check}
 
 module _ (q t : List ℕ) where
   -- TLM segments that the walk over the prefix passed

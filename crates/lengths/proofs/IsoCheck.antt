@@ -26,7 +26,7 @@ use Rattle.parts.specs.Scan.{scanFrom}
 use Rattle.parts.specs.Iso.{TilePart, sotRows, partBytes, lengthOf, AllRanges, partsBytes, listedFrom}
 use Rattle.parts.proofs.Iso.{scan-standard}
 use Rattle.lengths.specs.Segments.{tlmsOf, once, ordered}
-use Rattle.lengths.specs.Check.{pairOf, standing, same, compared, behindScan, behindTable, behindHeader, checked}
+use Rattle.lengths.specs.Check.{pairOf, standing, compared, behindScan, behindTable, behindHeader, checked}
 use Rattle.lengths.specs.Iso.{Distinct, partEntries, codestream}
 use Rattle.lengths.specs.declared.check.Check.the-variants.{Passes}
 use Rattle.lengths.proofs.CheckLaws.{behindSound, numbersEnd, repeat-refuses, order-accepts}

@@ -17,7 +17,7 @@ use Rattle.numbers.proofs.Choice.{by-bool}
 use Rattle.types.specs.Markers.{SOC, SOT}
 use Rattle.chain.specs.Chain.{Visit, Chain}
 use Rattle.header.specs.Tlm.{ztlm, entryCount, entriesOn, unindexed}
-use Rattle.header.specs.Walk.{WalkEnd, firstSot, refused}
+use Rattle.header.specs.Walk.{WalkEnd, firstSot}
 use Rattle.header.specs.Strip.{isTlm}
 use Rattle.header.specs.Numbering.{nextNumber, entriesBy, endedBy, unindexedIn}
 use Rattle.header.specs.Iso.{Segment, segmentBytes}
@@ -32,7 +32,7 @@ use Rattle.header.proofs.Numberings.{few-before}
 use Rattle.header.proofs.IsoTlm.{tlm-marker, tlm-count, tlm-numbered, tlm-unindexed}
 use Rattle.header.proofs.IsoMain.{passingOf, piece-passed, siz-main, split-main, upToSot}
 use Rattle.lengths.specs.Segments.{tlmsIn, tlmsOf, isIn, once, insert, ordered}
-use Rattle.lengths.specs.Check.{listed, same, compared}
+use Rattle.lengths.specs.Check.{listed, same}
 use Rattle.lengths.specs.Iso.{Apart, Distinct}
 use Rattle.lengths.proofs.PlacesFound.{ahead, ahead-plain, ahead-tlm}
 use Rattle.lengths.proofs.CheckLaws.{numbersEnd}

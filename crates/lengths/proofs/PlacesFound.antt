@@ -1,9 +1,9 @@
 -- The walk that notes where the segment of each Ztlm stands: what is noted so far, with what lies ahead, is what the whole header has. Once a Ztlm is used
 -- again nothing is said of the notes any more, and the answer is settled unless the walk is refused.
-use Prim.Native.Nat.{ℕ, _+_, _≤_, _<_}
+use Prim.Native.Nat.{ℕ, _≤_, _<_}
 use native.Mathlib.Omega.{arith}
 use mathlib.Core.Path.{_≡_, refl, sym, ap, _∙_}
-use mathlib.Core.Bool.{Bool, true, false, cond, not, _||_}
+use mathlib.Core.Bool.{Bool, true, false, cond, not}
 use mathlib.Core.List.{List, [], _∷_}
 use lib.ListN.{length, getD, set, length-set, replicate, getD-replicate}
 use lib.Seq.{getD-set-same, getD-set-other}
@@ -14,7 +14,6 @@ use Rattle.numbers.proofs.Choice.{by-bool}
 use Rattle.types.specs.Markers.{TLM}
 use Rattle.types.specs.Refusals.{refusal}
 use Rattle.types.specs.declared.Refusal.{Refusal}
-use Rattle.types.specs.declared.CodestreamOffset.{CodestreamOffset}
 use Rattle.chain.specs.Chain.{Visit, Chain}
 use Rattle.header.specs.Tlm.{ztlm, Accepted}
 use Rattle.header.specs.Walk.{WalkEnd, firstSot, refused, walkStepAt, walkFrom}
@@ -23,9 +22,8 @@ use Rattle.header.specs.declared.walk.Passed.{Passed as Passing}
 use Rattle.header.specs.declared.walk.WalkStep.the-variants as step
 use Rattle.header.proofs.WalkLaws.{passed-is, walk-found, walk-refused}
 use Rattle.header.proofs.WalkVisited.{visits-on, stopped-on, ended-on}
-use Rattle.lengths.specs.Segments.{tlmsIn, tlmsOf, isIn, once, before}
+use Rattle.lengths.specs.Segments.{tlmsIn, isIn, once, before}
 use Rattle.lengths.specs.Places.{having, Notes, none, one, Blank, Noted, NotedIf, foundAs, found}
-use Rattle.lengths.specs.declared.segments.Found.{Found}
 use Rattle.lengths.specs.declared.segments.Found.the-variants.{FirstSot, Refused}
 use Rattle.lengths.proofs.SegmentsOrder.{having-here, having-other}
 

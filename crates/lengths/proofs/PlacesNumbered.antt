@@ -1,16 +1,14 @@
 -- The entries of the segments that are noted, and how their numbers end, Ztlm by Ztlm: nothing is noted, or one segment, whose entries come next.
 use Prim.Native.Nat.{ℕ, _+_, _-_, _≤_, _<_}
 use native.Mathlib.Omega.{arith}
-use mathlib.Core.Path.{_≡_, refl, sym, ap, _∙_}
-use mathlib.Core.Bool.{true}
+use mathlib.Core.Path.{_≡_, sym, ap, _∙_}
 use mathlib.Core.List.{List, [], _∷_, _++_}
-use lib.ListN.{length, getD}
+use lib.ListN.{getD}
 use borrow.Author.Tests.{le-leb, lt-leb}
 use Rattle.types.specs.Refusals.{refusal}
 use Rattle.chain.specs.Chain.{Visit}
 use Rattle.header.specs.Tlm.{Entry, Accepted, entryCount, entriesOn, unindexed}
 use Rattle.header.specs.Walk.{WalkEnd, firstSot, refused}
-use Rattle.header.specs.Strip.{isTlm}
 use Rattle.header.specs.Numbering.{nextNumber, entriesBy, endedBy}
 use Rattle.header.specs.declared.numbering.Numbering.the-variants.{CarriedOn}
 use Rattle.header.proofs.NumberingLaws.{numbers-few}

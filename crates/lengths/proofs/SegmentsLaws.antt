@@ -2,22 +2,23 @@
 -- once; in file order it is the header's own where Ztlm does not fall. 32 is given exactly where a Ztlm is used twice, at the first segment that repeats one.
 use Prim.Native.Nat.{ℕ, _+_, _≤_, _<_}
 use native.Mathlib.Omega.{arith}
-use mathlib.Core.Path.{_≡_, refl, sym, ap, ap₂, _∙_}
-use mathlib.Core.Bool.{Bool, true, false, cond, _||_}
+use mathlib.Core.Path.{_≡_, refl, sym, ap, _∙_}
+use mathlib.Core.Bool.{true, false, cond}
 use mathlib.Core.List.{List, [], _∷_, _++_}
 use lib.ListN.{length}
 use lib.Dec.{leb, eqb}
-use borrow.Author.Tests.{le-leb, leb-true, leb-false, eq-eqb, ne-eqb, eqb-true, eqb-false}
+use borrow.Author.Tests.{le-leb, leb-true, leb-false, eq-eqb, eqb-true}
 use Rattle.numbers.proofs.Choice.{by-bool}
 use Rattle.types.specs.Refusals.{refusal}
 use Rattle.types.specs.declared.Refusal.{Refusal}
-use Rattle.chain.specs.Chain.{Visit}
+use Rattle.chain.specs.Chain.{Visit, Run, stay, step}
 use Rattle.header.specs.Tlm.{Entry, ztlm, entryCount, entriesOn}
-use Rattle.header.specs.Walk.{firstSot, refused}
+use Rattle.header.specs.Walk.{firstSot, refused, walkAt}
 use Rattle.header.specs.Strip.{isTlm}
 use Rattle.header.specs.Numbering.{nextNumber, entriesBy}
 use Rattle.header.specs.declared.numbering.Numbering.{Numbering}
-use Rattle.lengths.specs.Segments.{tlmsIn, isIn, once, insert, ordered, times, numbersOf, Rising, NotFalling}
+use Rattle.header.proofs.WalkLaws.{walk-run}
+use Rattle.lengths.specs.Segments.{tlmsIn, tlmsOf, isIn, once, insert, ordered, times, numbersOf, Rising, NotFalling}
 
 -- ---- a permutation
 
@@ -47,6 +48,22 @@ module _ (h : List ℕ) where
   unfolding ordered
   ordered-length [] = refl
   ordered-length (v ∷ vs) = let more = ordered-length vs in insert-length v (ordered h vs) ∙ omega arith
+
+  -- a segment stands in the header once: the walk never goes back
+  segments-rise : (p : ℕ) {at stop : ℕ} {visits : List Visit} → Run (walkAt h) at visits stop → (p < at → times p (tlmsIn h visits) ≡ 0) × (times p (tlmsIn h visits) ≤ 1)
+  unfolding tlmsIn times
+  segments-rise p stay = (λ _. refl, omega arith)
+  segments-rise p (step {at = at} {next = next} {rest = rest} found past more) =
+      let later = segments-rise p more in
+      by-bool (isTlm h (record { at = at; next = next }))
+      (λ e. rw e (by-bool (eqb at p)
+      (λ q. let same = eqb-true at p q in let none = later .0 (omega arith) in rw q (λ low. absurd (omega arith), omega arith))
+      (λ q. rw q (λ low. let none = later .0 (omega arith) in omega arith, let few = later .1 in omega arith))))
+      (λ e. rw e (λ low. later .0 (omega arith), later .1))
+
+  -- so it stands in the order once, and nothing else does
+  pub each-once : (p : ℕ) → (times p (ordered h (tlmsOf h)) ≡ times p (tlmsOf h)) × (times p (tlmsOf h) ≤ 1)
+  each-once p = (ordered-times p (tlmsOf h), segments-rise p (walk-run h 2) .1)
 
   -- ---- in file order
 

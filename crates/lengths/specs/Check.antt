@@ -9,7 +9,7 @@ use lib.Dec.{eqb}
 use Rattle.types.specs.declared.Refusal.{Refusal}
 use Rattle.types.specs.declared.TilePartEntry.{TilePartEntry}
 use Rattle.header.specs.Tlm.{Entry, total}
-use Rattle.header.specs.Walk.{WalkEnd, firstSot, refused, walkFrom}
+use Rattle.header.specs.Walk.{WalkEnd, firstSot, refused}
 use Rattle.header.specs.Numbering.{entriesBy}
 use Rattle.header.specs.Parse.{judged}
 use Rattle.header.specs.declared.numbering.Numbering.the-variants.{CarriedOn}

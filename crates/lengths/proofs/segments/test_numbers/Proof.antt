@@ -1,9 +1,8 @@
 -- How the numbers of the segments ahead end is how all of them do.
 use Prim.Native.Nat.{_-_}
 use native.Mathlib.Omega.{arith}
-use mathlib.Core.Path.{sym, ap, _∙_}
+use mathlib.Core.Path.{sym, ap}
 use mathlib.Core.Logic.{⊎-elim}
-use borrow.Author.Needs.{needs}
 use Rattle.lengths.specs.Places.{foundAs}
 use Rattle.lengths.proofs.PlacesNumbered.{Numbering, numbering-start, numbering-none, numbering-one, numbering-26, numbering-end, noted-accepted}
 use Rattle.lengths.proofs.segments.test_numbers.Statement.{statement}
