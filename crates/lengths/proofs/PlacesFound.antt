@@ -64,12 +64,26 @@ data Ahead (h : List ℕ) (place : ℕ) (all rest : List Visit) : Type 0 where
   later : place ≡ 0 → all ≡ rest → Ahead h place all rest
   met : (v : Visit) → place ≡ v .at → 0 < v .at → all ≡ v ∷ rest → isTlm h v ≡ true → Accepted h (v .at) → Ahead h place all rest
 
-pub record Finding (h : List ℕ) (places : List ℕ) (at again : ℕ) : Type 0 where
-  pub begun : 2 ≤ at
+-- where the walk stands, from which it ends as from its start
+pub record Walking (h : List ℕ) (at : ℕ) : Type 0 where
+  begun : 2 ≤ at
   pub inside : at ≤ length h
-  pub sized : length places ≡ 256
   stops : walkFrom h 2 .stopped ≡ walkFrom h at .stopped
   ends : walkFrom h 2 .ended ≡ walkFrom h at .ended
+
+walking-on : (h : List ℕ) (at : ℕ) → Walking h at → (p : Passing) → walkStepAt h at ≡ step.Passed p → Walking h (p .next)
+walking-on h at w p passed =
+    let told = passed-is h at p passed in
+    record {
+      begun = omega (arith, w .begun, told .past);
+      inside = told .inside;
+      stops = w .stops ∙ stopped-on h at p passed;
+      ends = w .ends ∙ ended-on h at p passed;
+    }
+
+pub record Finding (h : List ℕ) (places : List ℕ) (at again : ℕ) : Type 0 where
+  pub walking : Walking h at
+  sized : length places ≡ 256
   used : List ℕ
   marks : (z : ℕ) → z < 256 → isIn z used ≡ not (eqb (getD places z 0) 0)
   repeats : once h [] (ahead h 2) ≡ cond (eqb again 0) (once h used (ahead h at)) (refused (refusal 32 again))
@@ -82,11 +96,8 @@ pub finding-start : (h places : List ℕ) → 2 ≤ length h → Blank places �
 unfolding isIn
 finding-start h places inside blank =
     record {
-      begun = omega arith;
-      inside = inside;
+      walking = record { begun = omega arith; inside = inside; stops = refl; ends = refl };
       sized = blank .sized;
-      stops = refl;
-      ends = refl;
       used = [];
       marks = λ z small. rw (blank .empty z small);
       repeats = refl;
@@ -106,14 +117,10 @@ module _ (h places : List ℕ) (at again : ℕ) (f : Finding h places at again) 
   -- another marker
   pub finding-plain : p .«is_tlm» ≡ false → Finding h places (p .next) again
   finding-plain plain =
-      let told = passed-is h at p passed in
       let same = ahead-plain h at p passed plain in
       record {
-        begun = omega (arith, f .begun, told .past);
-        inside = told .inside;
+        walking = walking-on h at (f .walking) p passed;
         sized = f .sized;
-        stops = f .stops ∙ stopped-on h at p passed;
-        ends = f .ends ∙ ended-on h at p passed;
         used = f .used;
         marks = f .marks;
         repeats = f .repeats ∙ ap (λ (l : List Visit). cond (eqb again 0) (once h (f .used) l) (refused (refusal 32 again))) same;
@@ -132,7 +139,7 @@ module _ (h places : List ℕ) (at again : ℕ) (f : Finding h places at again) 
     pub finding-first : getD places z₀ 0 ≡ 0 → Finding h (set places z₀ at) (p .next) again
     unfolding here
     finding-first empty =
-        let told = passed-is h at p passed in
+        let told = passed-is h at p passed .tlm is in
         let long = f .sized in
         let unused : isIn z₀ (f .used) ≡ false = f .marks z₀ small₀ ∙ ap not (eq-eqb (getD places z₀ 0) 0 empty) in
         let new : once h (f .used) (ahead h at) ≡ once h (z₀ ∷ f .used) (ahead h (p .next)) =
@@ -141,16 +148,13 @@ module _ (h places : List ℕ) (at again : ℕ) (f : Finding h places at again) 
         ∙ ap (λ (z : ℕ). once h (z ∷ f .used) (ahead h (p .next))) (sym number) in
         let noted : getD (set places z₀ at) z₀ 0 ≡ at = getD-set-same places z₀ at 0 (omega arith) in
         record {
-          begun = omega (arith, f .begun, told .past);
-          inside = told .inside;
+          walking = walking-on h at (f .walking) p passed;
           sized = length-set places z₀ at ∙ f .sized;
-          stops = f .stops ∙ stopped-on h at p passed;
-          ends = f .ends ∙ ended-on h at p passed;
           used = z₀ ∷ f .used;
           marks = λ z small.
               by-bool (eqb z z₀)
               (λ e. let same = eqb-true z z₀ e in
-              let begun = f .begun in
+              let begun = f .walking .begun in
               ap (λ (y : ℕ). isIn y (z₀ ∷ f .used)) same ∙ isIn-first z₀ (f .used)
               ∙ sym (ap (λ (y : ℕ). not (eqb (getD (set places z₀ at) y 0) 0)) same ∙ ap not (ne-eqb (getD (set places z₀ at) z₀ 0) 0 (λ e. omega arith))))
               (λ e. let other = eqb-false z z₀ e in
@@ -159,10 +163,10 @@ module _ (h places : List ℕ) (at again : ℕ) (f : Finding h places at again) 
           notes = λ zero z small.
               by-bool (eqb z z₀)
               (λ e. let same = eqb-true z z₀ e in
-              let begun = f .begun in
+              let begun = f .walking .begun in
               met here (ap (λ (y : ℕ). getD (set places z₀ at) y 0) same ∙ noted) (omega arith)
               (all-ahead (ap (λ (y : ℕ). getD places y 0) same ∙ empty) (f .notes zero z small) ∙ ap (having h z) more ∙ having-here h z here (ahead h (p .next)) (sym number ∙ sym same))
-              (eq-eqb (be 2 h at) TLM (told .tlm is .marker)) (told .tlm is .accepted))
+              (eq-eqb (be 2 h at) TLM (told .marker)) (told .accepted))
               (λ e. let other = eqb-false z z₀ e in
               rw (getD-set-other places z₀ z at 0 other)
               (with-rest (ap (having h z) more ∙ having-other h z here (ahead h (p .next)) (λ e. other (sym e ∙ sym number))) (f .notes zero z small)));
@@ -173,16 +177,12 @@ module _ (h places : List ℕ) (at again : ℕ) (f : Finding h places at again) 
       pub finding-again : again ≡ 0 → Finding h places (p .next) at
       unfolding here
       finding-again zero =
-          let told = passed-is h at p passed in
-          let begun = f .begun in
+          let begun = f .walking .begun in
           let old : isIn (ztlm h at) (f .used) ≡ true =
           ap (λ (z : ℕ). isIn z (f .used)) (sym number) ∙ f .marks z₀ small₀ ∙ ap not (ne-eqb (getD places z₀ 0) 0 noted) in
           record {
-            begun = omega (arith, told .past);
-            inside = told .inside;
+            walking = walking-on h at (f .walking) p passed;
             sized = f .sized;
-            stops = f .stops ∙ stopped-on h at p passed;
-            ends = f .ends ∙ ended-on h at p passed;
             used = f .used;
             marks = f .marks;
             repeats =
@@ -196,13 +196,9 @@ module _ (h places : List ℕ) (at again : ℕ) (f : Finding h places at again) 
       -- one was before it too
       pub finding-later : (again ≡ 0 → ⊥) → Finding h places (p .next) again
       finding-later some =
-          let told = passed-is h at p passed in
           record {
-            begun = omega (arith, f .begun, told .past);
-            inside = told .inside;
+            walking = walking-on h at (f .walking) p passed;
             sized = f .sized;
-            stops = f .stops ∙ stopped-on h at p passed;
-            ends = f .ends ∙ ended-on h at p passed;
             used = f .used;
             marks = f .marks;
             repeats =
@@ -220,11 +216,11 @@ not-found h r places o e = let z : _≡_ {A = ℕ} 0 1 = cc in absurd (omega ari
 module _ (h places : List ℕ) (at again : ℕ) (f : Finding h places at again) where
   pub end-refused : (r : Refusal) → walkStepAt h at ≡ step.Refused r → Refused r ≡ found h
   unfolding found foundAs before
-  end-refused r e = sym (rw (f .ends ∙ ap (λ (c : Chain WalkEnd). c .ended) (walk-refused h at r e)))
+  end-refused r e = sym (rw (f .walking .ends ∙ ap (λ (c : Chain WalkEnd). c .ended) (walk-refused h at r e)))
 
   module _ (stood : walkStepAt h at ≡ step.FirstSot) where
     ended-there : walkFrom h 2 .ended ≡ firstSot
-    ended-there = f .ends ∙ ap (λ (c : Chain WalkEnd). c .ended) (walk-found h at stood)
+    ended-there = f .walking .ends ∙ ap (λ (c : Chain WalkEnd). c .ended) (walk-found h at stood)
 
     none-ahead : ahead h at ≡ []
     unfolding tlmsIn
@@ -240,7 +236,7 @@ module _ (h places : List ℕ) (at again : ℕ) (f : Finding h places at again) 
       unfolding found foundAs before once
       end-found =
           sym (rw (ended-there, f .repeats ∙ ap (λ (b : Bool). cond b (once h (f .used) (ahead h at)) (refused (refusal 32 again))) (eq-eqb again 0 zero) ∙ ap (once h (f .used)) none-ahead)
-          (ap (λ (n : ℕ). FirstSot (record { 0 = n })) (f .stops ∙ ap (λ (c : Chain WalkEnd). c .stopped) (walk-found h at stood))))
+          (ap (λ (n : ℕ). FirstSot (record { 0 = n })) (f .walking .stops ∙ ap (λ (c : Chain WalkEnd). c .stopped) (walk-found h at stood))))
 
       noted-whole : (z : ℕ) {place : ℕ} {all : List Visit} → Ahead h place all (having h z (ahead h at)) → Notes h place all
       unfolding having
