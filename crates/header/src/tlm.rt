@@ -3,12 +3,12 @@
 ghost use mathlib.Core.Path.{_≡_};
 ghost use mathlib.Core.Bool.{cond};
 ghost use mathlib.Core.Logic.{_⊎_};
-ghost use Prim.Native.Nat.{_+_, _*_, _≤_, _<_, _^_};
+ghost use Prim.Native.Nat.{_+_, _-_, _*_, _/_, _≤_, _<_, _^_};
 ghost use lib.ListN.{length};
 ghost use lib.Dec.{eqb};
 ghost use Rattle.numbers.specs.Bytes.{be, put};
 ghost use Rattle.types.specs.Row.{rowBytes, rowsOf};
-ghost use Rattle.header.specs.Tlm.{ztlm, indexSize, lengthSize, Within, tlmAt, Accepted, entryCount};
+ghost use Rattle.header.specs.Tlm.{ztlm, indexSize, lengthSize, entrySize, Within, tlmAt, Accepted, entryCount};
 ghost use Rattle.header.specs.Tlm.{recordOf, unindexed, entryOn, entriesOn, placed, total};
 use types::CodestreamOffset;
 use types::PartNumbers;
@@ -36,14 +36,23 @@ fn length_size(stlm: u8) -> usize
     2 + (stlm / 64 % 2) as usize * 2
 }
 
-// How many whole entries a segment that is not refused holds.
+// The whole entries of a segment of this length and form.
+fn whole_entries(ltlm: usize, stlm: u8) -> usize
+    requires { ⌜ 4 ≤ ltlm ⌝ }
+    ensures { λ r. ⌜ r ≡ (ltlm - 4) / entrySize stlm ⌝ }
+{
+    (ltlm - 4) / (index_size(stlm) + length_size(stlm))
+}
+
+// How many entries a segment that is not refused holds.
 pub fn entry_count(codestream: &[u8], at: usize) -> usize
     requires { ⌜ Accepted (now codestream) at ⌝ }
     ensures { λ r. ⌜ r ≡ entryCount (now (codestream .entry)) at ⌝ }
 {
-    let ltlm = numbers::read_u16(codestream, at + 2) as usize;
-    let stlm = codestream[at + 5]; // behind Ztlm
-    (ltlm - 4) / (index_size(stlm) + length_size(stlm))
+    whole_entries(
+        numbers::read_u16(codestream, at + 2) as usize,
+        codestream[at + 5],
+    )
 }
 
 // A segment's number among the segments, which the walk does not look at.
@@ -59,13 +68,15 @@ pub fn tlm_at(codestream: &[u8], at: usize) -> Tlm
     ensures { λ r. ⌜ r ≡ tlmAt (now (codestream .entry)) at ⌝ }
 {
     let place = at as u64;
-    if numbers::read_u16(codestream, at + 2) < 4 {
+    let ltlm = numbers::read_u16(codestream, at + 2) as usize;
+    if ltlm < 4 {
         return Tlm::Refused(Refusal { number: 4, place });
     }
-    if index_size(codestream[at + 5]) == 3 {
+    let stlm = codestream[at + 5]; // behind Ztlm, which is not read
+    if index_size(stlm) == 3 {
         return Tlm::Refused(Refusal { number: 5, place });
     }
-    Tlm::Entries(entry_count(codestream, at))
+    Tlm::Entries(whole_entries(ltlm, stlm))
 }
 
 // An entry's index, of 0, 1 or 2 bytes; with none it is its number.

@@ -1,6 +1,7 @@
--- An entry's size is at least 2, so it divides.
+-- A segment that is accepted has both fields.
 use native.Mathlib.Omega.{arith}
-use mathlib.Core.Path.{refl}
+use mathlib.Core.Path.{_∙_}
+use Prim.Native.Nat.{_-_}
 use borrow.Author.Needs.{needs}
 use Rattle.header.specs.Tlm.{entryCount}
 use Rattle.header.specs.Step.{segmentEnd}
@@ -15,36 +16,23 @@ read-u16-requires : tie.Need-read-u16-requires
 unfolding segmentEnd
 read-u16-requires c κs = omega arith
 
-cast-ltlm : tie.Need-cast-ltlm
-cast-ltlm c = search needs
+cast-whole-entries : tie.Need-cast-whole-entries
+cast-whole-entries c = search needs
 
-add-stlm : tie.Need-add-stlm
+add-whole-entries : tie.Need-add-whole-entries
 unfolding segmentEnd
-add-stlm c = omega arith
+add-whole-entries c = omega arith
 
-shared-slice-read-stlm : tie.Need-shared-slice-read-stlm
+shared-slice-read-whole-entries : tie.Need-shared-slice-read-whole-entries
 unfolding segmentEnd
-shared-slice-read-stlm c = omega arith
+shared-slice-read-whole-entries c = omega arith
 
-sub-result : tie.Need-sub-result
-sub-result c = search needs
-
-index-size-requires : tie.Need-index-size-requires
-index-size-requires c κs = search needs
-
-length-size-requires : tie.Need-length-size-requires
-length-size-requires c κs = search needs
-
-add-result : tie.Need-add-result
-add-result c = search needs
-
-div-result : tie.Need-div-result
-div-result c = search needs
+whole-entries-requires : tie.Need-whole-entries-requires
+whole-entries-requires c κs = search needs
 
 returns : tie.Need-returns
 unfolding entryCount
-returns c =
-    rw (c .before .before .before .read-u16 .ensures, c .before .index-size .ensures, c .length-size .ensures) refl
+returns c = c .whole-entries .ensures ∙ rw (c .before .before .read-u16 .ensures)
 
 pub entry-count-spec : {M : Type 1} → statement M
 entry-count-spec =
@@ -52,12 +40,8 @@ entry-count-spec =
     (tie.spec
     add-read-u16
     read-u16-requires
-    cast-ltlm
-    add-stlm
-    shared-slice-read-stlm
-    sub-result
-    index-size-requires
-    length-size-requires
-    add-result
-    div-result
+    cast-whole-entries
+    add-whole-entries
+    shared-slice-read-whole-entries
+    whole-entries-requires
     returns)
