@@ -3,25 +3,27 @@
 use Prim.Native.Nat.{ℕ, _<_}
 use native.Mathlib.Omega.{arith}
 use mathlib.Core.Path.{_≡_, refl, sym, _∙_}
-use mathlib.Core.List.{List, [], _∷_, _++_}
-use lib.ListN.{length, length-take}
+use mathlib.Core.List.{List, [], _∷_, _++_, map}
+use lib.ListN.{length, take, length-take}
 use lib.Seq.{take-length}
 use Rattle.types.specs.Refusals.{refusal}
 use Rattle.header.specs.Tlm.{Entry}
 use Rattle.header.specs.Walk.{firstSot, walkFrom}
 use Rattle.header.specs.Numbering.{entriesBy}
+use Rattle.header.specs.Parse.{tableBy}
 use Rattle.header.specs.declared.numbering.Numbering.the-variants.{CarriedOn}
 use Rattle.header.specs.IsoMain.{tlm, mainHeader, tables}
 use Rattle.header.proofs.ParseLaws.{judged-long}
+use Rattle.parts.specs.Scan.{entriesFrom}
 use Rattle.lengths.specs.Segments.{tlmsOf, once, ordered, Rising, NotFalling}
-use Rattle.lengths.specs.Check.{listed, behindHeader, checked}
+use Rattle.lengths.specs.Check.{listed, behindHeader, checked, Compares, unnumbered}
 use Rattle.lengths.specs.Iso.{Apart, Distinct, partEntries, codestream}
 use Rattle.lengths.specs.declared.check.Check.the-variants.{Passes, Refused}
-use Rattle.lengths.proofs.CheckVerdict.{listed-in-file-order}
+use Rattle.lengths.proofs.CheckFileOrder.{listed-in-file-order, passes-table}
 use Rattle.lengths.proofs.IsoCheck.{pass-standard}
 use Rattle.laws.specs.Sample.{tlmOf, sot, A, lean}
 use Rattle.laws.proofs.SampleComputing.{length-tables}
-use Rattle.laws.proofs.SampleEdges.{check-58, check-59}
+use Rattle.laws.proofs.SampleEdges.{check-A, check-58, check-59}
 use Rattle.laws.proofs.SampleStandard.{siz, lengths, first, second, parts, standards, A-main, A-parts, A-lengths}
 
 abbrev of : ℕ → ℕ → Entry
@@ -33,6 +35,15 @@ of index bytes = record { index = index; bytes = bytes }
 pub A-in-file-order : listed A ≡ entriesBy CarriedOn A 0 (walkFrom A 2 .visits)
 unfolding length-tables NotFalling
 A-in-file-order = listed-in-file-order A tt
+
+-- and its records are the scan's
+pub A-table-is-the-scan : tableBy CarriedOn A ≡ map unnumbered (entriesFrom A 57)
+unfolding length-tables
+A-table-is-the-scan = refl
+
+pub A-passes-table : (p : ℕ) × Compares A 89 p × (tableBy CarriedOn (take 89 A) ≡ map unnumbered (entriesFrom A p))
+unfolding length-tables NotFalling
+A-passes-table = passes-table A 89 check-A tt
 
 -- where it falls, it is another
 abbrev falling : List ℕ

@@ -18,9 +18,7 @@ use Rattle.types.specs.declared.TilePartEntry.{TilePartEntry}
 use Rattle.chain.specs.Chain.{end, Chain}
 use Rattle.header.specs.Tlm.{Entry, total}
 use Rattle.header.specs.Walk.{WalkEnd, firstSot, refused, walkFrom}
-use Rattle.header.specs.Numbering.{entriesBy}
 use Rattle.header.specs.Parse.{judged}
-use Rattle.header.specs.declared.numbering.Numbering.the-variants.{CarriedOn}
 use Rattle.header.specs.declared.parse.MainHeaderInfo.{MainHeaderInfo}
 use Rattle.header.specs.declared.parse.MainHeader.{MainHeader}
 use Rattle.header.specs.declared.parse.MainHeader.the-variants as main
@@ -33,14 +31,13 @@ use Rattle.parts.specs.Scan as scan
 use Rattle.parts.specs.declared.scan.ScanStep.{ScanStep}
 use Rattle.parts.specs.declared.scan.ScanStep.the-variants as step
 use Rattle.parts.proofs.ScanLaws.{step-short, step-sot, sot-no-eoc, scan-refused}
-use Rattle.lengths.specs.Segments.{tlmsOf, tableEnd, NotFalling}
+use Rattle.lengths.specs.Segments.{tlmsOf, tableEnd}
 use Rattle.lengths.specs.Check.{pairOf, listed, standing, same, said, differing, compared, behindScan, behindTable, behindHeader, checked, saidAt, Compares, Refuses, byHeader, byTable, byScan, DiffersFirst}
 use Rattle.lengths.specs.declared.check.Said.{Said}
 use Rattle.lengths.specs.declared.check.Said.the-variants.{Part, Nothing}
 use Rattle.lengths.specs.declared.check.Difference.{Difference}
 use Rattle.lengths.specs.declared.check.Check.{Check}
 use Rattle.lengths.specs.declared.check.Check.the-variants.{Passes, DiffersAt, Refused}
-use Rattle.lengths.proofs.SegmentsLaws.{ordered-same, entries-of-tlms}
 use Rattle.lengths.proofs.AgreeLaws.{same-both, same-is, same-self, standing-part}
 
 -- ---- two lists
@@ -279,10 +276,3 @@ module _ (s : List ℕ) (region p : ℕ) (c : Compares s region p) where
   none-differs none =
       let t = some-standing in
       (t .0, checked-compares s region c ∙ rw (none, t .2))
-
--- ---- in file order
-
--- where Ztlm does not fall from a segment to the next in the file, the table is the main header's, numbered on
-pub listed-in-file-order : (h : List ℕ) → NotFalling h (tlmsOf h) → listed h ≡ entriesBy CarriedOn h 0 (walkFrom h 2 .visits)
-unfolding listed
-listed-in-file-order h order = ap (entriesBy CarriedOn h 0) (ordered-same h (tlmsOf h) order) ∙ entries-of-tlms CarriedOn h 0 (walkFrom h 2 .visits)

@@ -6,6 +6,7 @@ pub mod CheckCompared
 pub mod CheckLaws
 pub mod SegmentsLaws
 pub mod CheckVerdict
+pub mod CheckFileOrder
 pub mod CheckPrefix
 pub mod IsoListed
 pub mod IsoCheck

@@ -7,6 +7,7 @@ use mathlib.Core.List.{List, [], _∷_, map}
 use lib.ListN.{take}
 use lib.Dec.{eqb}
 use Rattle.types.specs.declared.Refusal.{Refusal}
+use Rattle.types.specs.declared.PartNumbers.the-variants.{NotKnown}
 use Rattle.types.specs.declared.TilePartEntry.{TilePartEntry}
 use Rattle.header.specs.Tlm.{Entry, total}
 use Rattle.header.specs.Walk.{WalkEnd, firstSot, refused}
@@ -97,6 +98,10 @@ pub data Refuses (s : List ℕ) (region : ℕ) (r : Refusal) : Type 0 where
   byTable : (info : MainHeaderInfo) → judged (take region s) ≡ main.Header info → tableEnd (take region s) (tlmsOf (take region s)) ≡ refused r → Refuses s region r
   byScan : (info : MainHeaderInfo) → judged (take region s) ≡ main.Header info → tableEnd (take region s) (tlmsOf (take region s)) ≡ firstSot
       → scanFrom s (info .«first_sot_offset» .0) .ended ≡ scan.refused r → Refuses s region r
+
+-- a scan's record as a TLM entry has it: without its numbers
+abbrev pub unnumbered : TilePartEntry → TilePartEntry
+unnumbered e = record { «tile_index» = e .«tile_index»; numbers = NotKnown; offset = e .offset; length = e .length }
 
 -- the first n entries of two lists are the same, and the n-th are not; where they stand if the first stands at a place
 pub record DiffersFirst (n at : ℕ) (xs ys : List Entry) (d : Difference) : Type 0 where
