@@ -10,3 +10,4 @@ pub mod CheckFileOrder
 pub mod CheckPrefix
 pub mod IsoListed
 pub mod IsoCheck
+pub mod IsoOpen

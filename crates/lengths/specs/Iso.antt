@@ -9,7 +9,7 @@ use Rattle.header.specs.Tlm.{Entry}
 use Rattle.header.specs.Iso.{Segment}
 use Rattle.header.specs.IsoTlm.{TlmSegment}
 use Rattle.header.specs.IsoMain.{Piece, mainHeader}
-use Rattle.parts.specs.Iso.{TilePart, lengthOf, partsBytes}
+use Rattle.parts.specs.Iso.{TilePart, partBytes, lengthOf, partsBytes}
 
 -- none of these has this Ztlm
 unfoldable pub Apart : ℕ → List TlmSegment → Type 0
@@ -30,3 +30,7 @@ partEntries (t ∷ more) = record { index = t .Isot; bytes = lengthOf t } ∷ pa
 -- the main header, tile-parts each with its own Psot, EOC, and what stands behind it
 abbrev pub codestream : Segment → List Piece → List TilePart → List ℕ → List ℕ
 codestream siz pieces parts behind = mainHeader siz pieces ++ (partsBytes parts ++ (bytesOf 2 EOC ++ behind))
+
+-- the same where the last tile-part's Psot is 0: it reaches to EOC, which ends the codestream
+abbrev pub openEnded : Segment → List Piece → List TilePart → TilePart → List ℕ
+openEnded siz pieces parts last = mainHeader siz pieces ++ (partsBytes parts ++ (partBytes 0 last ++ bytesOf 2 EOC))

@@ -51,9 +51,9 @@ enum Agreed {
 }
 
 // The entry with which the comparison stopped.
-pub struct Stop {
-    pub number: u64,
-    pub listed: Said,
+struct Stop {
+    number: u64,
+    listed: Said,
 }
 
 fn agree(codestream: &[u8], at: usize, entry: TilePartEntry) -> Agreed
