@@ -40,15 +40,17 @@ position-requires c κs = search needs
 returns-2 : tie.Need-returns-2
 returns-2 c =
     let t = c .before .before in
-    let f = found (t .before .before .before .before .before .before) in
-    sym (ap (agreedBy _) f ∙ agreed-part _ _ (same-both _ _ (t .before .before .before .if1 .taken) (eqb-true _ _ (t .if2 .taken)))
+    let k = t .before .before .before .before .before .before in
+    sym (ap (agreedBy _) (found k)
+    ∙ agreed-part _ (k .before .step .given .0 .0) (same-both _ _ (t .before .before .before .if1 .taken) (eqb-true _ _ (t .if2 .taken)))
     ∙ ap To (sym (c .position .ensures ∙ c .before .end-of .ensures)))
 
 returns-3 : tie.Need-returns-3
 returns-3 c =
-    let f = found (c .before .before .before) in
-    sym (ap (agreedBy _) f
-    ∙ agreed-other _ _ (⊎-elim (λ w. other-bytes _ _ (eqb-false _ _ (w .3 .left))) (λ w. other-index _ _ (w .left)) (c .if1 .came)))
+    let k = c .before .before .before in
+    sym (ap (agreedBy _) (found k)
+    ∙ agreed-other _ (k .before .step .given .0 .0)
+    (⊎-elim (λ w. other-bytes _ _ (eqb-false _ _ (w .3 .left))) (λ w. other-index _ _ (w .left)) (c .if1 .came)))
 
 pub agree-spec : {M : Type 1} → statement M
 agree-spec =
