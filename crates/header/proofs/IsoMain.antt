@@ -53,7 +53,7 @@ passed-part : (front xs rest : List ℕ) → take (length front + length xs - le
 passed-part front xs rest = rw (drop-at front (xs ++ rest) (length front) refl) (take-at xs rest (length front + length xs - length front) (omega arith))
 
 -- a marker is read behind any bytes
-marker-read : (front : List ℕ) (m : ℕ) (rest : List ℕ) → m < 2 ^ 16 → be 2 (front ++ (bytesOf 2 m ++ rest)) (length front) ≡ m
+pub marker-read : (front : List ℕ) (m : ℕ) (rest : List ℕ) → m < 2 ^ 16 → be 2 (front ++ (bytesOf 2 m ++ rest)) (length front) ≡ m
 marker-read front m rest h = be-behind 2 front _ ∙ be-front 2 (bytesOf 2 m) rest 0 (omega (arith, length-bytes 2 m)) ∙ be-bytesOf 2 m h
 
 -- the walk ends at an SOT

@@ -41,7 +41,7 @@ use Rattle.header.proofs.NumberingLaws.{refused-first, endFrom, by-soun
 
 module _ (s : List ℕ) where
   -- the numbers of all that was visited are few: nothing is refused
-  none-past : (k : ℕ) (vs : List Visit) (ended : WalkEnd) → k + unindexedIn s vs ≤ 65_535 → endedBy CarriedOn s k vs ended ≡ ended
+  pub none-past : (k : ℕ) (vs : List Visit) (ended : WalkEnd) → k + unindexedIn s vs ≤ 65_535 → endedBy CarriedOn s k vs ended ≡ ended
   unfolding endedBy nextNumber unindexedIn
   none-past k [] ended h = refl
   none-past k (v ∷ rest) ended h =

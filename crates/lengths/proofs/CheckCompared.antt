@@ -22,7 +22,7 @@ use Rattle.parts.proofs.ScanAnswers.{judged-table}
 use Rattle.numbers.proofs.Choice.{by-bool}
 use lib.Dec.{leb}
 use borrow.Author.Tests.{leb-true, leb-false}
-use Rattle.lengths.specs.Segments.{tlmsOf, ordered}
+use Rattle.lengths.specs.Segments.{tlmsOf, numbersEnd}
 use Rattle.lengths.specs.Places.{having, Notes}
 use Rattle.lengths.specs.Check.{pairOf, listed, standing, said, compared, behindScan}
 use Rattle.lengths.specs.Agree.{agreedBy, settledAs, settled}
@@ -119,7 +119,7 @@ pub record Comparing (h s : List ℕ) (start at number first z : ℕ) : Type 0 w
   pub ends : scanFrom s start .ended ≡ scanFrom s at .ended
   pub same : compared 0 start (listed h) (standing s start) ≡ compared number at (listedFrom h first z) (standing s at)
 
-pub comparing-start : (h s : List ℕ) (start : ℕ) → ((i : ℕ) → getD h i 0 < 256) → endedBy CarriedOn h 0 (ordered h (tlmsOf h)) firstSot ≡ firstSot
+pub comparing-start : (h s : List ℕ) (start : ℕ) → ((i : ℕ) → getD h i 0 < 256) → numbersEnd h ≡ firstSot
     → Comparing h s start start 0 0 0
 unfolding listed
 comparing-start h s start bytes numbered =

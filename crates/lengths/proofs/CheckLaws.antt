@@ -11,13 +11,11 @@ use Rattle.numbers.proofs.Choice.{by-bool}
 use Rattle.types.specs.declared.Refusal.{Refusal}
 use Rattle.types.specs.declared.CodestreamOffset.{CodestreamOffset}
 use Rattle.header.specs.Walk.{WalkEnd, firstSot, refused, walkFrom}
-use Rattle.header.specs.Numbering.{endedBy}
 use Rattle.header.specs.Parse.{readAs, frontOf, judged}
-use Rattle.header.specs.declared.numbering.Numbering.the-variants.{CarriedOn}
 use Rattle.header.specs.declared.parse.Front.the-variants as front
 use Rattle.header.proofs.ParseLaws.{judged-refused, judged-sound}
 use Rattle.parts.specs.Scan.{scanFrom}
-use Rattle.lengths.specs.Segments.{tlmsOf, once, ordered, before, tableEnd}
+use Rattle.lengths.specs.Segments.{tlmsOf, once, before, numbersEnd, tableEnd}
 use Rattle.lengths.specs.Places.{foundAs, found}
 use Rattle.lengths.specs.Check.{listed, standing, compared, behindScan, behindTable, behindHeader, checked}
 use Rattle.lengths.specs.declared.segments.Found.{Found}
@@ -28,10 +26,6 @@ use Rattle.lengths.specs.declared.check.Check.the-variants.{Refused}
 -- behind a front that is sound
 abbrev pub behindSound : List ℕ → List ℕ → Check
 behindSound h s = behindHeader h s (readAs h (walkFrom h 2) (walkFrom h 2 .ended))
-
--- how the numbers end, in the order of Ztlm
-abbrev pub numbersEnd : List ℕ → WalkEnd
-numbersEnd h = endedBy CarriedOn h 0 (ordered h (tlmsOf h)) firstSot
 
 first-refused : {o : CodestreamOffset} {r : Refusal} → _≡_ {A = Found} (seen.FirstSot o) (seen.Refused r) → ⊥
 first-refused e = let z : _≡_ {A = ℕ} 0 1 = cc in omega arith
@@ -60,7 +54,7 @@ module _ (h s : List ℕ) where
   unfolding readAs behindHeader
   walk-refuses r e = rw e
 
-  pub walk-accepts : walkFrom h 2 .ended ≡ firstSot → behindSound h s ≡ behindTable h s (walkFrom h 2 .stopped) (tableEnd h (tlmsOf h))
+  pub walk-accepts : walkFrom h 2 .ended ≡ firstSot → behindSound h s ≡ behindTable h s (walkFrom h 2 .stopped) (tableEnd h)
   unfolding readAs behindHeader
   walk-accepts e = rw e
 

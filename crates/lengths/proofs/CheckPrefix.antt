@@ -121,7 +121,7 @@ module _ (q t : List ℕ) where
     in-order : ordered (q ++ t) (tlmsOf (q ++ t)) ≡ ordered q (tlmsOf q)
     in-order = ap (ordered (q ++ t)) tlms-same ∙ ordered-same (tlmsOf q) all
 
-    table-same : tableEnd (q ++ t) (tlmsOf (q ++ t)) ≡ tableEnd q (tlmsOf q)
+    table-same : tableEnd (q ++ t) ≡ tableEnd q
     unfolding tableEnd
     table-same =
         ap₂ before (ap (once (q ++ t) []) tlms-same ∙ once-same [] (tlmsOf q) all)
@@ -140,7 +140,7 @@ module _ (q t : List ℕ) where
     unfolding behindHeader
     behind-same s (main.Header h) =
         let at = h .«first_sot_offset» .0 in
-        ap (behindTable (q ++ t) s at) table-same ∙ after-table s at (tableEnd q (tlmsOf q))
+        ap (behindTable (q ++ t) s at) table-same ∙ after-table s at (tableEnd q)
     behind-same s (main.Refused x) = refl
 
     pub check-prefix : (s : List ℕ) → length (q ++ t) ≤ 0xffff_ffff → behindHeader (q ++ t) s (judged (q ++ t)) ≡ behindHeader q s (judged q)

@@ -31,7 +31,7 @@ use Rattle.parts.specs.Scan as scan
 use Rattle.parts.specs.declared.scan.ScanStep.{ScanStep}
 use Rattle.parts.specs.declared.scan.ScanStep.the-variants as step
 use Rattle.parts.proofs.ScanLaws.{step-short, step-sot, sot-no-eoc, scan-refused}
-use Rattle.lengths.specs.Segments.{tlmsOf, tableEnd}
+use Rattle.lengths.specs.Segments.{tableEnd}
 use Rattle.lengths.specs.Check.{pairOf, listed, standing, same, said, differing, compared, behindScan, behindTable, behindHeader, checked, saidAt, Compares, Refuses, byHeader, byTable, byScan, DiffersFirst}
 use Rattle.lengths.specs.declared.check.Said.{Said}
 use Rattle.lengths.specs.declared.check.Said.the-variants.{Part, Nothing}
@@ -168,17 +168,17 @@ module _ (s : List ℕ) (region : ℕ) where
     compares : (p : ℕ) → Compares s region p → Stage
     refuses : (r : Refusal) → Refuses s region r → Stage
 
-  by-scan : (info : MainHeaderInfo) → judged head ≡ main.Header info → tableEnd head (tlmsOf head) ≡ firstSot → (end : ScanEnd)
+  by-scan : (info : MainHeaderInfo) → judged head ≡ main.Header info → tableEnd head ≡ firstSot → (end : ScanEnd)
       → scanFrom s (info .«first_sot_offset» .0) .ended ≡ end → Stage
   by-scan info e t ended c = compares (info .«first_sot_offset» .0) (record { info = info; header = e; first = refl; table = t; scan = c })
   by-scan info e t (scan.refused r) c = refuses r (byScan info e t c)
 
-  by-table : (info : MainHeaderInfo) → judged head ≡ main.Header info → (end : WalkEnd) → tableEnd head (tlmsOf head) ≡ end → Stage
+  by-table : (info : MainHeaderInfo) → judged head ≡ main.Header info → (end : WalkEnd) → tableEnd head ≡ end → Stage
   by-table info e firstSot t = by-scan info e t (scanFrom s (info .«first_sot_offset» .0) .ended) refl
   by-table info e (refused r) t = refuses r (byTable info e t)
 
   by-header : (answer : MainHeader) → judged head ≡ answer → Stage
-  by-header (main.Header info) e = by-table info e (tableEnd head (tlmsOf head)) refl
+  by-header (main.Header info) e = by-table info e (tableEnd head) refl
   by-header (main.Refused r) e = refuses r (byHeader e)
 
   stage : Stage

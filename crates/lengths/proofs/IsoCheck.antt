@@ -25,11 +25,11 @@ use Rattle.header.proofs.IsoMain.{front-main, upToSot, stopped-main, ended-main
 use Rattle.parts.specs.Scan.{scanFrom}
 use Rattle.parts.specs.Iso.{TilePart, sotRows, partBytes, lengthOf, AllRanges, partsBytes, listedFrom}
 use Rattle.parts.proofs.Iso.{scan-standard}
-use Rattle.lengths.specs.Segments.{tlmsOf, once, ordered}
+use Rattle.lengths.specs.Segments.{tlmsOf, once, ordered, numbersEnd}
 use Rattle.lengths.specs.Check.{pairOf, standing, compared, behindScan, behindTable, behindHeader, checked}
 use Rattle.lengths.specs.Iso.{Distinct, partEntries, codestream}
 use Rattle.lengths.specs.declared.check.Check.the-variants.{Passes}
-use Rattle.lengths.proofs.CheckLaws.{behindSound, numbersEnd, repeat-refuses, order-accepts}
+use Rattle.lengths.proofs.CheckLaws.{behindSound, repeat-refuses, order-accepts}
 use Rattle.lengths.proofs.CheckVerdict.{refused-passes, equal-passes, passes-equal}
 use Rattle.lengths.proofs.IsoListed.{listed-standard, once-standard, distinct-standard, numbers-standard, few-standard, count-ordered}
 

@@ -8,18 +8,18 @@ use mathlib.Core.Bool.{Bool, true, false, cond}
 use mathlib.Core.List.{List, [], _∷_, _++_, append-assoc, map}
 use lib.ListN.{length, take, length-append}
 use lib.Dec.{leb, eqb}
-use borrow.Author.Tests.{eq-eqb, eqb-true, le-leb}
-use Rattle.numbers.specs.Bytes.{be, bytesOf}
+use borrow.Author.Tests.{eq-eqb, eqb-true}
+use Rattle.numbers.specs.Bytes.{bytesOf}
 use Rattle.numbers.specs.Rows.{bytesOfRows, widths}
-use Rattle.numbers.proofs.BytesLaws.{length-bytes, be-rest, be-front, be-bytesOf}
-use Rattle.numbers.proofs.Rows.{be-row, be-behind, be-one}
+use Rattle.numbers.proofs.BytesLaws.{length-bytes, be-rest}
+use Rattle.numbers.proofs.Rows.{be-row, be-one}
 use Rattle.numbers.proofs.Choice.{by-bool}
 use Rattle.types.specs.Markers.{SOC, SOT}
 use Rattle.chain.specs.Chain.{Visit, Chain}
 use Rattle.header.specs.Tlm.{ztlm, entryCount, entriesOn, unindexed}
 use Rattle.header.specs.Walk.{WalkEnd, firstSot}
 use Rattle.header.specs.Strip.{isTlm}
-use Rattle.header.specs.Numbering.{nextNumber, entriesBy, endedBy, unindexedIn}
+use Rattle.header.specs.Numbering.{nextNumber, entriesBy, unindexedIn}
 use Rattle.header.specs.Iso.{Segment, segmentBytes}
 use Rattle.header.specs.IsoTlm.{TlmSegment, tlmRows, TlmRanges, numbered, numberedOn, isoTable, withoutIndex}
 use Rattle.header.specs.IsoTlm as iso
@@ -28,14 +28,13 @@ use Rattle.header.specs.declared.numbering.Numbering.the-variants.{CarriedOn}
 use Rattle.header.proofs.StepLaws.{step-sot}
 use Rattle.header.proofs.WalkLaws.{not-true-false, walk-sot, walk-found}
 use Rattle.header.proofs.NumberingLaws.{refused-first}
-use Rattle.header.proofs.Numberings.{few-before}
+use Rattle.header.proofs.Numberings.{none-past, few-before}
 use Rattle.header.proofs.IsoTlm.{tlm-marker, tlm-count, tlm-numbered, tlm-unindexed}
-use Rattle.header.proofs.IsoMain.{passingOf, piece-passed, siz-main, split-main, upToSot}
-use Rattle.lengths.specs.Segments.{tlmsIn, tlmsOf, isIn, once, insert, ordered}
+use Rattle.header.proofs.IsoMain.{marker-read, passingOf, piece-passed, siz-main, split-main, upToSot}
+use Rattle.lengths.specs.Segments.{tlmsIn, tlmsOf, isIn, once, insert, ordered, numbersEnd}
 use Rattle.lengths.specs.Check.{listed, same}
 use Rattle.lengths.specs.Iso.{Apart, Distinct}
 use Rattle.lengths.proofs.PlacesFound.{ahead, ahead-plain, ahead-tlm}
-use Rattle.lengths.proofs.CheckLaws.{numbersEnd}
 
 -- ---- visits and segments, one for one
 
@@ -79,14 +78,6 @@ met-listed k (next {t = t} {ts = ts} first more) =
     rw (first .is)
     (ap₂ _++_ (first .entries k)
     (met-listed _ more ∙ ap (λ (n : ℕ). numberedOn n ts) (ap (λ (n : ℕ). k + n) (first .many) ∙ carries k (eqb (t .ST) 0) (length (t .pointers)))))
-
--- no number passes where few entries have no index
-met-few : {s : List ℕ} {vs : List Visit} {ts : List TlmSegment} (k : ℕ) → Met s vs ts → k + withoutIndex ts ≤ 65_535 → endedBy CarriedOn s k vs firstSot ≡ firstSot
-unfolding endedBy nextNumber withoutIndex
-met-few k none few = refl
-met-few k (next {t = t} first more) few =
-    let count : ℕ = cond (eqb (t .ST) 0) (length (t .pointers)) 0 in
-    rw (first .is, first .many, le-leb (k + count) 65_535 (omega arith)) (met-few (k + count) more (omega arith))
 
 -- so many have none, in any order
 met-count : {s : List ℕ} {vs : List Visit} {ts : List TlmSegment} → Met s vs ts → unindexedIn s vs ≡ withoutIndex ts
@@ -165,9 +156,7 @@ at-sot front rest =
     let s : List ℕ = front ++ (bytesOf 2 SOT ++ rest) in
     let at : ℕ = length front in
     let long : at + 2 ≤ length s = simp (length-append, length-bytes) (omega arith) in
-    let marker : be 2 s at ≡ SOT =
-    be-behind 2 front _ ∙ be-front 2 (bytesOf 2 SOT) rest 0 (omega (arith, length-bytes 2 SOT)) ∙ be-bytesOf 2 SOT (omega arith) in
-    ap (λ (c : Chain WalkEnd). tlmsIn s (c .visits)) (walk-found s at (walk-sot s at (step-sot s at long marker)))
+    ap (λ (c : Chain WalkEnd). tlmsIn s (c .visits)) (walk-found s at (walk-sot s at (step-sot s at long (marker-read front SOT rest (omega arith)))))
 
 -- a piece is passed, and what holds from its end on holds from its start on
 past : (front : List ℕ) (p : Piece) (ps : List Piece) (rest : List ℕ) → Sound p
@@ -244,7 +233,7 @@ module _ (g : Segment) (ps : List Piece) (rest : List ℕ) (m : IsMain g ps) whe
 
   -- No number passes exactly where no more than 65,535 entries have no index.
   pub numbers-standard : withoutIndex (tables ps) ≤ 65_535 → numbersEnd (upToSot g ps rest) ≡ firstSot
-  numbers-standard few = met-few 0 (met-ordered main-met) (omega (arith, count-ordered (tables ps)))
+  numbers-standard few = none-past _ 0 _ firstSot (omega (arith, met-count (met-ordered main-met), count-ordered (tables ps)))
 
   pub few-standard : numbersEnd (upToSot g ps rest) ≡ firstSot → withoutIndex (tables ps) ≤ 65_535
   few-standard e = omega (arith, few-before (upToSot g ps rest) _ e, met-count (met-ordered main-met), count-ordered (tables ps))

@@ -12,7 +12,7 @@ use Rattle.header.specs.Walk.{WalkEnd, firstSot, refused}
 use Rattle.header.specs.Numbering.{nextNumber, entriesBy, endedBy}
 use Rattle.header.specs.declared.numbering.Numbering.the-variants.{CarriedOn}
 use Rattle.header.proofs.NumberingLaws.{numbers-few}
-use Rattle.lengths.specs.Segments.{tlmsOf, ordered}
+use Rattle.lengths.specs.Segments.{tlmsOf, ordered, numbersEnd}
 use Rattle.lengths.specs.Places.{having, Notes, none, one}
 use Rattle.lengths.proofs.SegmentsOrder.{grouped, grouped-next, grouped-end, ordered-grouped}
 
@@ -99,7 +99,7 @@ module _ (h : List ℕ) (first z : ℕ) (small : z < 256) where
 pub record Numbering (h : List ℕ) (first z : ℕ) : Type 0 where
   pub inside : z ≤ 256
   pub small : first ≤ 65_535
-  pub same : endedBy CarriedOn h 0 (ordered h (tlmsOf h)) firstSot ≡ endFrom h first z
+  pub same : numbersEnd h ≡ endFrom h first z
 
 pub numbering-start : (h : List ℕ) → ((i : ℕ) → getD h i 0 < 256) → Numbering h 0 0
 numbering-start h bytes =
@@ -114,10 +114,10 @@ module _ (h : List ℕ) (first z : ℕ) (small : z < 256) (n : Numbering h first
     numbering-one fits =
         record { inside = omega arith; small = fits; same = n .same ∙ end-fits h first z small noted some (omega arith) ∙ ap (λ (k : ℕ). endFrom h k (z + 1)) (sym is) }
 
-    pub numbering-26 : 65_535 < then → endedBy CarriedOn h 0 (ordered h (tlmsOf h)) firstSot ≡ refused (refusal 26 place)
+    pub numbering-26 : 65_535 < then → numbersEnd h ≡ refused (refusal 26 place)
     numbering-26 past = n .same ∙ end-past h first z small noted some (omega arith)
 
-pub numbering-end : (h : List ℕ) (first z : ℕ) → 256 ≤ z → Numbering h first z → endedBy CarriedOn h 0 (ordered h (tlmsOf h)) firstSot ≡ firstSot
+pub numbering-end : (h : List ℕ) (first z : ℕ) → 256 ≤ z → Numbering h first z → numbersEnd h ≡ firstSot
 unfolding endedBy
 numbering-end h first z done n = n .same ∙ ap (λ (vs : List Visit). endedBy CarriedOn h first vs firstSot) (grouped-end h z (tlmsOf h) done)
 

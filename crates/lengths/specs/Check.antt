@@ -69,7 +69,7 @@ behindTable h s at (refused r) = Refused r
 -- 19, 1 to 6, then the table
 unfoldable pub behindHeader : List ℕ → List ℕ → MainHeader → Check
 unfolding behindTable
-behindHeader h s (main.Header i) = behindTable h s (i .«first_sot_offset» .0) (tableEnd h (tlmsOf h))
+behindHeader h s (main.Header i) = behindTable h s (i .«first_sot_offset» .0) (tableEnd h)
 behindHeader h s (main.Refused r) = Refused r
 
 -- the check of a codestream whose header is read of its first bytes, as many as the region says
@@ -89,14 +89,14 @@ pub record Compares (s : List ℕ) (region p : ℕ) : Type 0 where
   pub info : MainHeaderInfo
   pub header : judged (take region s) ≡ main.Header info
   pub first : info .«first_sot_offset» .0 ≡ p
-  pub table : tableEnd (take region s) (tlmsOf (take region s)) ≡ firstSot
+  pub table : tableEnd (take region s) ≡ firstSot
   pub scan : scanFrom s p .ended ≡ ended
 
 -- something is, at one of these stages and at none before it
 pub data Refuses (s : List ℕ) (region : ℕ) (r : Refusal) : Type 0 where
   byHeader : judged (take region s) ≡ main.Refused r → Refuses s region r
-  byTable : (info : MainHeaderInfo) → judged (take region s) ≡ main.Header info → tableEnd (take region s) (tlmsOf (take region s)) ≡ refused r → Refuses s region r
-  byScan : (info : MainHeaderInfo) → judged (take region s) ≡ main.Header info → tableEnd (take region s) (tlmsOf (take region s)) ≡ firstSot
+  byTable : (info : MainHeaderInfo) → judged (take region s) ≡ main.Header info → tableEnd (take region s) ≡ refused r → Refuses s region r
+  byScan : (info : MainHeaderInfo) → judged (take region s) ≡ main.Header info → tableEnd (take region s) ≡ firstSot
       → scanFrom s (info .«first_sot_offset» .0) .ended ≡ scan.refused r → Refuses s region r
 
 -- a scan's record as a TLM entry has it: without its numbers

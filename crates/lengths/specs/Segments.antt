@@ -46,10 +46,14 @@ unfoldable pub before : WalkEnd → WalkEnd → WalkEnd
 before firstSot that = that
 before (refused r) that = refused r
 
--- what is refused of the table: 32, then 26 in the order of Ztlm
-unfoldable pub tableEnd : List ℕ → List Visit → WalkEnd
+-- how the numbers end, in the order of Ztlm: 26 where one passes
+abbrev pub numbersEnd : List ℕ → WalkEnd
+numbersEnd h = endedBy CarriedOn h 0 (ordered h (tlmsOf h)) firstSot
+
+-- what is refused of the table: 32, then 26
+unfoldable pub tableEnd : List ℕ → WalkEnd
 unfolding before
-tableEnd h tlms = before (once h [] tlms) (endedBy CarriedOn h 0 (ordered h tlms) firstSot)
+tableEnd h = before (once h [] (tlmsOf h)) (numbersEnd h)
 
 -- ---- of which the laws speak
 

@@ -3,11 +3,9 @@ ghost use mathlib.Core.Path.{_≡_};
 ghost use Prim.Native.Nat.{_≤_};
 ghost use lib.ListN.{length};
 ghost use Rattle.header.specs.Walk.{firstSot, walkFrom};
-ghost use Rattle.header.specs.Numbering.{endedBy};
 ghost use Rattle.header.specs.Parse.{readAs};
-ghost use Rattle.header.specs.declared.numbering.Numbering.the-variants.{CarriedOn};
 ghost use Rattle.parts.specs.Scan.{scanStepAt, scanFrom, entriesFrom};
-ghost use Rattle.lengths.specs.Segments.{tlmsOf, ordered};
+ghost use Rattle.lengths.specs.Segments.{numbersEnd};
 ghost use Rattle.lengths.specs.Places.{Noted};
 ghost use Rattle.lengths.specs.Check.{pairOf, listed, standing, compared, behindScan, behindHeader, checked};
 ghost use Rattle.lengths.specs.Agree.{agreedBy, stopAt, settled};
@@ -122,7 +120,7 @@ fn compare(
     first_sot: CodestreamOffset,
 ) -> Check
     requires { ⌜ Noted (now header) (now places) ⌝ }
-    requires { ⌜ endedBy CarriedOn (now header) 0 (ordered (now header) (tlmsOf (now header))) firstSot ≡ firstSot ⌝ }
+    requires { ⌜ numbersEnd (now header) ≡ firstSot ⌝ }
     ensures { λ r. ⌜ r ≡ behindScan (scanFrom (now (codestream .entry)) («first_sot» .0) .ended) (compared 0 («first_sot» .0) (listed (now (header .entry))) (standing (now (codestream .entry)) («first_sot» .0))) ⌝ }
 {
     let mut at = first_sot.position();

@@ -2,10 +2,7 @@
 ghost use mathlib.Core.Path.{_≡_};
 ghost use Prim.Native.Nat.{_≤_};
 ghost use lib.ListN.{length};
-ghost use Rattle.header.specs.Walk.{firstSot};
-ghost use Rattle.header.specs.Numbering.{endedBy};
-ghost use Rattle.header.specs.declared.numbering.Numbering.the-variants.{CarriedOn};
-ghost use Rattle.lengths.specs.Segments.{tlmsOf, ordered};
+ghost use Rattle.lengths.specs.Segments.{numbersEnd};
 ghost use Rattle.lengths.specs.Places.{Blank, Noted, NotedIf, foundAs, found};
 use header::numbering::Numbering;
 use header::walk::WalkStep;
@@ -57,7 +54,7 @@ pub fn find_segments(header: &[u8], places: &mut [usize; 256]) -> Found
 // 26 at the first segment, in the order of Ztlm, whose entries would get a number past 65,534.
 pub fn test_numbers(header: &[u8], places: &[usize; 256], first_sot: CodestreamOffset) -> Found
     requires { ⌜ Noted (now header) (now places) ⌝ }
-    ensures { λ r. ⌜ r ≡ foundAs «first_sot» (endedBy CarriedOn (now (header .entry)) 0 (ordered (now (header .entry)) (tlmsOf (now (header .entry)))) firstSot) ⌝ }
+    ensures { λ r. ⌜ r ≡ foundAs «first_sot» (numbersEnd (now (header .entry))) ⌝ }
 {
     let mut first: usize = 0; // the number of the next segment's first entry
     let mut z: usize = 0;
