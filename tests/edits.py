@@ -13,9 +13,9 @@ A file of crates/*/must-fail has several wrong programs, which are tried togethe
 WHERE is a function, as header::parse::tell, whose proof no longer closes, or a law, as proofs/IsoTlm.antt tlm-entries. This
 reads what the prover said of each file, in target/must-fail after `rt ci` or `rt must-fail`, and holds it to these lines: what
 fails, by a fact of its own and not since something that it cites has failed, is what the programs of the file name, no more and
-no less. An error of form, of a name that is not there, is no fact. Nor is it one that the search for an equation (`cc`) met a bound
-of its own: a program of which the log says nothing else has a line `# at a bound`, and is named at the end. Status 1 if anything
-differs.
+no less. An error of form, of a name that is not there or of a place that the proof file does not have, is no fact. Nor is it one
+that the search for an equation (`cc`) met a bound of its own: a program of which the log says nothing else has a line `# at a
+bound`, and is named at the end. Status 1 if anything differs.
 """
 
 import re
@@ -31,7 +31,12 @@ ERROR = re.compile(r"^(\S+\.antt):\d+:\d+: error: (.*(?:\n  has no .*)?)$", re.M
 UNPROVED = re.compile(r"^fn (\S+): no proof: .*does not close", re.M)
 # What fails since something that it cites has failed.
 FOLLOWS = re.compile(r"was not admitted|were not admitted")
-FORM = re.compile(r"expected type `tie\.Need-|not in scope|has no field|module `[^`]+` has no|that can be named|no such|not a function|unknown name|cannot be named|is not defined")
+FORM = re.compile(r"not in scope|has no field|module `[^`]+` has no|that can be named|no such|not a function|unknown name|cannot be named|is not defined")
+# A place of the program, or what is needed there, beside another: said on any line of an error.
+PLACE = re.compile(
+    r"expected type `tie\.Need-|(?:one|other) has `(?:[^`\s]+\.)?(?:After|At|In|Start|Then\d+|Else\d+|Joined\d+)(?:-[^`\s]+)?`"
+)
+LINES = re.compile(r"(?:\n  .*)*")
 BOUND = "\n  `cc` met a bound of its own"
 PROOF = re.compile(r"proofs/(.+)/Proof\.antt")
 
@@ -67,7 +72,7 @@ def failed(crate, log, folder):
         where.add(place)
         if not log.startswith(BOUND, error.end()):
             facts.add(place)
-        if FORM.search(message):
+        if FORM.search(message) or PLACE.search(message + LINES.match(log, error.end())[0]):
             form.append(f"{file}: {message}")
     return where, facts, form
 
@@ -92,6 +97,10 @@ def faults(crate, name, text, log, folder):
 
 def main():
     said, files, count, at_bound = [], 0, 0, []
+    # a place beside another is seen, whatever line says it
+    for line in "expected type `tie.Need-a`, but this has type `tie.Need-b`", "(expected) and the other has `a.Lts.After-b` (found)":
+        if not failed("a", f"/a/proofs/A.antt:1:1: error: `a`: the two types differ\n  {line}\n", "/a")[2]:
+            said.append(f"this check does not see {line}")
     for edit in sorted(ROOT.glob("crates/*/must-fail/*.edit")):
         crate, name = edit.parts[-3], edit.stem
         if sys.argv[1:] and crate not in sys.argv[1:]:
