@@ -7,10 +7,10 @@ use native.Mathlib.Omega.{arith}
 use mathlib.Core.Path.{_≡_, refl, sym, ap, ap₂, _∙_}
 use mathlib.Core.List.{List, [], _∷_, _++_, append-assoc, append-nil}
 use lib.ListN.{take-append-drop, length, getD, set, take, drop, length-append, length-take, length-drop, List·getD-append, drop-of-length-le}
-use lib.Seq.{take-length, take-all, length-take-le, getD-append-add, getD-append-seam, getD-take, getD-drop, set-split, sets, sets-eq, take-at, drop-at, drop-drop, take-append-le, drop-append-le, take-append-add, drop-append-add, take-suc, take-add}
+use lib.Seq.{take-length, take-all, length-take-le, getD-append-add, getD-append-seam, getD-take, getD-drop, set-split, sets, sets-eq, take-at, drop-at, drop-drop, take-append-le, drop-append-le, take-append-add, drop-append-add, take-suc, take-take, take-add}
 use lib.Arith.{mod-mul, digits-div, digits-mod, digits-lt}
 use lib.Dec.{lit<}
-use Rattle.numbers.specs.Bytes.{be, bytesOf, span, turned, put}
+use Rattle.numbers.specs.Bytes.{be, bytesOf, bytesOfFour, span, turned, put}
 use Rattle.numbers.specs.Ceiling.{ceilDiv}
 
 256^-pos : (k : ℕ) → 0 < 256 ^ k
@@ -43,6 +43,10 @@ pub length-bytes : (k v : ℕ) → length (bytesOf k v) ≡ k
 unfolding bytesOf
 length-bytes zero v = refl
 length-bytes (suc k) v = rw (length-append, length-bytes k (v / 256)) (add-one k)
+
+pub length-four : (a b c d : ℕ) → length (bytesOfFour a b c d) ≡ 32
+unfolding bytesOfFour
+length-four a b c d = rw (length-append, length-append, length-append, length-bytes 8 a, length-bytes 8 b, length-bytes 8 c, length-bytes 8 d)
 
 -- ---- items replaced
 
@@ -80,6 +84,42 @@ put-put {A} s at xs ys n e h =
     let cut : drop (length ys) tail ≡ drop (at + (n + length ys)) s = drop-drop (length ys) (at + n) s ∙ rw add-assoc in
     rw (e, ← append-assoc (take at s) xs tail, take-at (take at s ++ xs) tail (at + n) front)
     (rw (← front) (rw drop-append-add (rw (front, cut, length-append, e) (simp append-assoc))))
+
+-- two replacements apart from each other, the second m behind the first: in either order what was there stands around them
+apart : {A : Type 0} (s : List A) (at : ℕ) (xs : List A) (m : ℕ) (ys : List A) → at + length xs + m + length ys ≤ length s
+    → put (put s at xs) (at + length xs + m) ys ≡ put (put s (at + length xs + m) ys) at xs
+unfolding put
+apart {A} s at xs m ys h =
+    let c : ℕ = at + length xs in
+    let front : List A = take at s ++ xs in
+    let tail : List A = drop c s in
+    let between : List A = take m tail in
+    let behind : List A = drop (c + m + length ys) s in
+    let wide : length front ≡ c = simp (length-append, length-take) (omega arith) in
+    let stays : length (take c s) ≡ c = length-take-le c s (omega arith) in
+    let taken : take (c + m) (front ++ tail) ≡ front ++ between = ap (λ (n : ℕ). take (n + m) (front ++ tail)) (sym wide) ∙ take-append-add front tail m in
+    let last : drop (c + m + length ys) (front ++ tail) ≡ behind =
+    ap (λ (n : ℕ). drop n (front ++ tail)) (add-assoc c m (length ys) ∙ ap (λ (n : ℕ). n + (m + length ys)) (sym wide))
+    ∙ drop-append-add front tail (m + length ys)
+    ∙ drop-drop (m + length ys) c s
+    ∙ ap (λ (n : ℕ). drop n s) (sym (add-assoc c m (length ys))) in
+    let first : put (put s at xs) (c + m) ys ≡ (front ++ between) ++ (ys ++ behind) =
+    ap (λ (l : List A). take (c + m) l ++ (ys ++ drop (c + m + length ys) l)) (sym (append-assoc (take at s) xs tail))
+    ∙ ap₂ (λ (l r : List A). l ++ (ys ++ r)) taken last in
+    let parted : take (c + m) s ++ (ys ++ behind) ≡ take c s ++ (between ++ (ys ++ behind)) =
+    ap (λ (l : List A). l ++ (ys ++ behind)) (take-add c m s) ∙ append-assoc (take c s) between (ys ++ behind) in
+    let second : put (put s (c + m) ys) at xs ≡ take at s ++ (xs ++ (between ++ (ys ++ behind))) =
+    ap (λ (l : List A). take at l ++ (xs ++ drop c l)) parted
+    ∙ ap₂ (λ (l r : List A). l ++ (xs ++ r)) (take-append-le at (take c s) (between ++ (ys ++ behind)) (omega (arith, stays)) ∙ take-take at c s (omega arith))
+    (drop-at (take c s) (between ++ (ys ++ behind)) c stays) in
+    let same : (front ++ between) ++ (ys ++ behind) ≡ take at s ++ (xs ++ (between ++ (ys ++ behind))) = simp append-assoc in
+    first ∙ same ∙ sym second
+
+pub put-apart : {A : Type 0} (s : List A) (at : ℕ) (xs : List A) (to : ℕ) (ys : List A) → at + length xs ≤ to → to + length ys ≤ length s
+    → put (put s at xs) to ys ≡ put (put s to ys) at xs
+put-apart s at xs to ys before room =
+    let there : to ≡ at + length xs + (to - (at + length xs)) = omega arith in
+    ap (λ (n : ℕ). put (put s at xs) n ys) there ∙ apart s at xs (to - (at + length xs)) ys (omega arith) ∙ ap (λ (n : ℕ). put (put s n ys) at xs) (sym there)
 
 -- a copy onto all that stands from at on, whose end is as it was
 pub put-copy : (s : List ℕ) (at : ℕ) (bs : List ℕ) → at + length bs ≤ length s
@@ -161,12 +201,64 @@ put-inside {A} s at xs i ys within room =
     ∙ inside (take at s) xs rest i ys within
     ∙ ap (λ (n : ℕ). take at s ++ (put xs i ys ++ drop (at + n) s)) (sym (length-put xs i ys within))
 
+-- a replacement over one that is no longer
+put-over : {A : Type 0} (s : List A) (at : ℕ) (xs ys : List A) → length xs ≤ length ys → at + length ys ≤ length s → put (put s at xs) at ys ≡ put s at ys
+unfolding put
+put-over {A} s at xs ys h room =
+    let more : ℕ = length ys - length xs in
+    let end : at + length ys ≡ at + length xs + more = omega arith in
+    let behind : drop (at + length ys) (put s at xs) ≡ drop (at + length ys) s =
+    rw (end, ← drop-drop more (at + length xs) (put s at xs), ← drop-drop more (at + length xs) s) (ap (drop more) (drop-put s at xs (length xs) refl (omega arith))) in
+    ap₂ (λ (l r : List A). l ++ (ys ++ r)) (take-put s at xs (omega arith)) behind
+
 -- what was written, written again
 pub put-again : {A : Type 0} (s : List A) (at : ℕ) (bs : List A) → at + length bs ≤ length s → put (put s at bs) at bs ≡ put s at bs
-put-again s at bs room =
-    ap (λ (n : ℕ). put (put s at bs) n bs) (sym (add-zero at))
-    ∙ put-inside s at bs 0 bs (omega arith) room
-    ∙ ap (put s at) (put-start bs bs ∙ rw (drop-of-length-le bs (le-refl (length bs)), append-nil))
+put-again s at bs room = put-over s at bs bs (le-refl (length bs)) room
+
+-- ---- a copy in pieces
+
+-- n items from at on, and those behind them
+take-behind : {A : Type 0} (n m at : ℕ) (s : List A) → take (n + m) (drop at s) ≡ take n (drop at s) ++ take m (drop (at + n) s)
+take-behind n m at s = rw (← drop-drop n at s) (take-add n m (drop at s))
+
+-- four pieces of n items
+pub take-four : {A : Type 0} (n at : ℕ) (s : List A)
+    → take (n + n + n + n) (drop at s) ≡ take n (drop at s) ++ (take n (drop (at + n) s) ++ (take n (drop (at + (n + n)) s) ++ take n (drop (at + (n + n + n)) s)))
+take-four n at s = rw (take-behind (n + n + n) n at s, take-behind (n + n) n at s, take-behind n n at s) (simp append-assoc)
+
+-- four adjoining replacements of n items, one after another
+pub put-four : {A : Type 0} (s : List A) (at n : ℕ) (a b c d : List A) {s₁ s₂ s₃ s₄ : List A}
+    → length a ≡ n → length b ≡ n → length c ≡ n → length d ≡ n → at + (n + n + n + n) ≤ length s
+    → s₁ ≡ put s at a → s₂ ≡ put s₁ (at + n) b → s₃ ≡ put s₂ (at + (n + n)) c → s₄ ≡ put s₃ (at + (n + n + n)) d
+    → s₄ ≡ put s at (a ++ (b ++ (c ++ d)))
+put-four s at n a b c d ea eb ec ed room e₁ e₂ e₃ e₄ =
+    let two : length (a ++ b) ≡ n + n = simp length-append (omega arith) in
+    let three : length ((a ++ b) ++ c) ≡ n + n + n = simp length-append (omega arith) in
+    rw (e₄, e₃, e₂, e₁, put-put s at a b n ea (omega arith), put-put s at (a ++ b) c (n + n) two (omega arith), put-put s at ((a ++ b) ++ c) d (n + n + n) three (omega arith))
+    (ap (put s at) (simp append-assoc))
+
+-- one piece more of what is copied
+pub put-more : {A : Type 0} (s : List A) (at : ℕ) (bs : List A) (i n : ℕ) → i + n ≤ length bs → at + length bs ≤ length s
+    → put (put s at (take i bs)) (at + i) (take n (drop i bs)) ≡ put s at (take (i + n) bs)
+put-more s at bs i n h room =
+    put-put s at (take i bs) (take n (drop i bs)) i (length-take-le i bs (omega arith)) (simp (length-take, length-drop) (omega arith))
+    ∙ ap (put s at) (sym (take-add i n bs))
+
+-- the last n items of what is copied, over what is there of them already
+pub put-last : {A : Type 0} (s : List A) (at : ℕ) (bs : List A) (i n : ℕ) → n ≤ length bs → i ≤ length bs → length bs ≤ i + n → at + length bs ≤ length s
+    → put (put s at (take i bs)) (at + length bs - n) (take n (drop (length bs - n) bs)) ≡ put s at bs
+put-last {A} s at bs i n within so-far rest room =
+    let k : ℕ = length bs - n in
+    let last : List A = drop k bs in
+    let there : at + length bs - n ≡ at + k = omega arith in
+    let upto : k + (i - k) ≡ i = omega arith in
+    let long : length last ≡ n = simp length-drop (omega arith) in
+    let first : length (take k bs) ≡ k = length-take-le k bs (omega arith) in
+    let some : List A = take (i - k) last in
+    rw (there, take-all n last (omega arith), ← upto, ← put-more s at bs k (i - k) (omega arith) room)
+    (put-over (put s at (take k bs)) (at + k) some last (simp length-take (omega arith)) (omega (arith, length-put s at (take k bs) (omega arith)))
+    ∙ put-put s at (take k bs) last k first (omega arith)
+    ∙ ap (put s at) (take-append-drop k bs))
 
 -- ---- what is read
 
@@ -245,7 +337,15 @@ bytes-be (suc k) s at h room =
 -- a number's bytes, and those behind it
 pub bytes-next : (k n : ℕ) (s : List ℕ) (at : ℕ) → ((i : ℕ) → getD s i 0 < 256) → at + k ≤ length s
     → take (k + n) (drop at s) ≡ bytesOf k (be k s at) ++ take n (drop (at + k) s)
-bytes-next k n s at h room = rw (bytes-be k s at h room, ← drop-drop k at s) (take-add k n (drop at s))
+bytes-next k n s at h room = rw (bytes-be k s at h room) (take-behind k n at s)
+
+-- 32 bytes are those of the four numbers that they hold
+pub bytes-four : (s : List ℕ) (at : ℕ) → ((i : ℕ) → getD s i 0 < 256) → at + 32 ≤ length s
+    → bytesOfFour (be 8 s at) (be 8 s (at + 8)) (be 8 s (at + 16)) (be 8 s (at + 24)) ≡ take 32 (drop at s)
+unfolding bytesOfFour
+bytes-four s at h room =
+    rw (bytes-be 8 s at h (omega arith), bytes-be 8 s (at + 8) h (omega arith), bytes-be 8 s (at + 16) h (omega arith), bytes-be 8 s (at + 24) h (omega arith))
+    (sym (take-four 8 at s))
 
 -- ---- division rounded up
 

@@ -13,6 +13,10 @@ unfoldable pub bytesOf : ℕ → ℕ → List ℕ
 bytesOf zero v = []
 bytesOf (suc k) v = bytesOf k (v / 256) ++ (v % 256 ∷ [])
 
+-- the 32 bytes that hold four numbers of 8
+unfoldable pub bytesOfFour : ℕ → ℕ → ℕ → ℕ → List ℕ
+bytesOfFour a b c d = bytesOf 8 a ++ (bytesOf 8 b ++ (bytesOf 8 c ++ bytesOf 8 d))
+
 -- how many numbers 2^k bytes hold
 unfoldable pub span : ℕ → ℕ
 span zero = 256

@@ -97,7 +97,7 @@ fn write_part(part: &[u8], out: &mut [u8], at: usize)
     requires { ⌜ at + length (now part) ≤ length (now out) ⌝ }
     ensures { λ _. ⌜ now (out .exit) ≡ put (now (out .entry)) at (patched (now (part .entry))) ⌝ }
 {
-    numbers::copy_at(part, out, at);
+    numbers::copy_wide_at(part, out, at);
     if is_sot(part) {
         numbers::write_u16(out, at + ISOT, 0);
     }

@@ -1,42 +1,26 @@
--- Two stores are one replacement, and a number below 65,536 has its high byte as its quotient.
-use Prim.Native.Nat.{_/_, _%_}
-use native.Mathlib.Numerals.{add-one}
-use native.Mathlib.Nat.{mod-eq-of-lt}
+-- A number that is turned twice is itself.
 use native.Mathlib.Omega.{arith}
-use mathlib.Core.List.{[], _∷_}
-use lib.ListN.{length-set}
 use borrow.Author.Needs.{needs}
-use Rattle.numbers.proofs.BytesLaws.{put-sets}
-use Rattle.numbers.specs.Bytes.{bytesOf}
+use Rattle.numbers.specs.Bytes.{span}
+use Rattle.numbers.proofs.BytesLaws.{turned-twice}
 use Rattle.numbers.proofs.write_u16.Statement.{statement}
 use Rattle.numbers.proofs.write_u16.Tie as tie
 
-cast-out : tie.Need-cast-out
-cast-out c = search needs
+turned-u16-requires : tie.Need-turned-u16-requires
+turned-u16-requires c κs = search needs
 
-slice-write-out : tie.Need-slice-write-out
-slice-write-out c = search needs
-
-cast-out-2 : tie.Need-cast-out-2
-cast-out-2 c = search needs
-
-add-out : tie.Need-add-out
-add-out c = search needs
-
-slice-write-out-2 : tie.Need-slice-write-out-2
-slice-write-out-2 c = simp length-set (omega arith)
+write-low-u16-requires : tie.Need-write-low-u16-requires
+write-low-u16-requires c κs = search needs
 
 same-length : tie.Need-same-length
 same-length c = search needs
 
 returns : tie.Need-returns
-unfolding bytesOf
+unfolding span
 returns c =
-    let a = c .args in
-    rw (mod-eq-of-lt {n = a .value / 256} {m = 256} (omega arith), add-one)
-    (put-sets (a .value / 256 ∷ a .value % 256 ∷ []) (a .out .now) (a .at) (omega arith))
+    let a = c .before .before .before .before .before .before .args in
+    cc (turned-twice 1 (a .value) (omega arith))
 
 pub write-u16-spec : {M : Type 1} → statement M
 write-u16-spec =
-    tie.close
-    (tie.spec cast-out slice-write-out cast-out-2 add-out slice-write-out-2 same-length returns)
+    tie.close (tie.spec turned-u16-requires write-low-u16-requires same-length returns)

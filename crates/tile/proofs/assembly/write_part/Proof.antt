@@ -10,8 +10,8 @@ use Rattle.numbers.proofs.BytesLaws.{length-bytes, put-inside}
 use Rattle.tile.proofs.assembly.write_part.Statement.{statement}
 use Rattle.tile.proofs.assembly.write_part.Tie as tie
 
-copy-at-requires : tie.Need-copy-at-requires
-copy-at-requires c κs = search needs
+copy-wide-at-requires : tie.Need-copy-wide-at-requires
+copy-wide-at-requires c κs = search needs
 
 is-sot-requires : tie.Need-is-sot-requires
 is-sot-requires c κs = search needs
@@ -34,7 +34,7 @@ returns c =
     let k = t .before .before .before .before in
     let a = k .before .before .before .before .args in
     let sot = sym (t .before .is-sot .ensures) ∙ t .if1 .taken in
-    w .write-u16 .ensures ∙ ap (λ (s : List ℕ). put s (a .at + 4) (bytesOf 2 0)) (k .copy-at .ensures .1)
+    w .write-u16 .ensures ∙ ap (λ (s : List ℕ). put s (a .at + 4) (bytesOf 2 0)) (k .copy-wide-at .ensures .1)
     ∙ put-inside (a .out .now) (a .at) (a .part .now) 4 (bytesOf 2 0) (omega (arith, length-bytes 2 0, sot-long _ sot)) (search needs)
     ∙ ap (put (a .out .now) (a .at)) (sym (patched-sot _ sot))
 
@@ -45,13 +45,13 @@ returns-2 : tie.Need-returns-2
 returns-2 c =
     let k = c .before .before .before .before in
     let a = k .before .before .before .before .args in
-    k .copy-at .ensures .1 ∙ ap (put (a .out .now) (a .at)) (sym (patched-other _ (sym (c .before .is-sot .ensures) ∙ c .if1 .left)))
+    k .copy-wide-at .ensures .1 ∙ ap (put (a .out .now) (a .at)) (sym (patched-other _ (sym (c .before .is-sot .ensures) ∙ c .if1 .left)))
 
 pub write-part-spec : {M : Type 1} → statement M
 write-part-spec =
     tie.close
     (tie.spec
-    copy-at-requires
+    copy-wide-at-requires
     is-sot-requires
     add-write-u16
     write-u16-requires
