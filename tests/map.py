@@ -33,6 +33,7 @@ SHOWN = {
     "header/walk": ("2, 10, 18 to 21", ["header"]),
     "header/parse": ("2, 18, 20", ["header", "enough"]),
     "parts/scan": ("3", ["scan"]),
+    "parts/walk": ("3", ["scan"]),
     "parts/order": ("22", ["order"]),
     "parts/split": ("4", ["split"]),
     "lengths/check": ("26", ["check"]),

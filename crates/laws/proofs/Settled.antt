@@ -23,7 +23,7 @@ use Rattle.reader.proofs as reader
 use Rattle.host.proofs as host
 use Rattle.probe.proofs as probe
 use Rattle.laws.specs.Settles.{Settles, SettlesAs}
-use Rattle.laws.proofs.Settling.{last, before, settles, by-one, by-first}
+use Rattle.laws.proofs.Settling.{last, beside, before, settles, by-one, by-first}
 
 -- ---- numbers
 
@@ -89,11 +89,11 @@ parse-main-header m κs a g =
 pub scan-step : {M : Type 1} → Settles M parts.scan.scan_step.ended parts.scan.scan_step.clauses
 scan-step m κs a g = settles m (last m) λ x y e i. (e i, x .1)
 
-pub scan-judge : {M : Type 1} → Settles M parts.scan.judge.ended parts.scan.judge.clauses
+pub scan-judge : {M : Type 1} → Settles M parts.walk.judge.ended parts.walk.judge.clauses
 scan-judge m κs a g = settles m (last m) λ x y e i. (e i, x .1)
 
-pub parts-decide : {M : Type 1} → Settles M parts.scan.decide.ended parts.scan.decide.clauses
-parts-decide m κs a g = settles m (last m) λ x y e i. (e i, x .1)
+pub parts-decide : {M : Type 1} → Settles M parts.walk.decide.ended parts.walk.decide.clauses
+parts-decide m κs a g = settles m (beside m) λ x y e i. (e i, x .1)
 
 pub scan-tell : {M : Type 1} → Settles M parts.scan.tell.ended parts.scan.tell.clauses
 scan-tell m κs a g = settles m (before m (last m)) λ x y e i. (e .0 i, (tt, (e .1 i, tt)))

@@ -47,6 +47,10 @@ module _ {M : Type 1} (m : Model M) where
     pub before : {A : Type 0} {a : O → A} {k : A} {G : O → O → Type 0} {P : O → Pr} → Fixes G P → Fixes (λ (x y : O). (a x ≡ a y) × G x y) (λ x. ⌜ a x ≡ k ⌝ ∗ P x)
     before {a = a} {k = k} f = (λ x. (a x ≡ k) × f .0 x, λ x. and (f .1 x), λ x y p q. (settled (p .0) (q .0), f .2 x y (p .1) (q .1)))
 
+    -- what else is said of it fixes nothing more
+    pub beside : {A : Type 0} {a : O → A} {k : A} {B : O → Type 0} → Fixes (λ (x y : O). a x ≡ a y) (λ x. ⌜ a x ≡ k ⌝ ∗ ⌜ B x ⌝)
+    beside {a = a} {k = k} {B = B} = (λ x. a x ≡ k, λ x. fact∗ (m .𝓤) (a x ≡ k) ⌜ B x ⌝, λ x y p q. settled p q)
+
   module _ {O : Type 0} {E : O → O → Type 0} where
     row : {P : O → Pr} {A : O → Type 0} → ((x : O) → P x ⊢ ⌜ A x ⌝) → ((x y : O) → A x → A y → E x y) → Shows E P
     row s h = (id⊢ (m .𝓤) (emp (m .𝓤)), λ x y. both (s x) (s y) (h x y))

@@ -164,7 +164,7 @@ fn compare(
         }
         z += 1;
     };
-    match parts::scan::judge(codestream, at) {
+    match parts::walk::judge(codestream, at) {
         Scanned::Table(left) => settle(codestream, at, stop, left),
         Scanned::Refused(refusal) => Check::Refused(refusal),
     }

@@ -2,7 +2,9 @@ pub mod OrderLaws
 pub mod OrderAnswers
 pub mod ScanLaws
 pub mod ScanFill
+pub mod ScanRuns
 pub mod ScanAnswers
+pub mod WalkLaws
 pub mod SplitLaws
 pub mod TilesAdjoin
 pub mod TilesJoined

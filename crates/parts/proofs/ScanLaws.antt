@@ -2,11 +2,12 @@
 -- the codestream, and the laws of a chain hold of it.
 use Prim.Native.Nat.{ℕ, _+_, _-_, _≤_, _<_}
 use native.Mathlib.Omega.{arith}
-use mathlib.Core.Path.{_≡_, refl, sym, ap, _∙_}
+use mathlib.Core.Path.{_≡_, refl, sym, ap, ap₂, _∙_}
 use mathlib.Core.Logic.{_⊎_, inl, inr, ⊎-elim}
 use mathlib.Core.Bool.{Bool, true, false, _&&_}
 use mathlib.Core.List.{List, [], _∷_, map}
-use lib.ListN.{length}
+use lib.ListN.{length, drop, length-drop}
+use lib.Seq.{drop-drop}
 use lib.Dec.{leb, eqb}
 use borrow.Author.Tests.{le-leb, lt-leb, eq-eqb, ne-eqb, leb-true, eqb-true, eqb-false}
 use Rattle.numbers.specs.Bytes.{be}
@@ -67,6 +68,14 @@ module _ (s : List ℕ) (at : ℕ) where
         pub step-sot : be 2 s at ≡ SOT → scanStepAt s at ≡ sotStepAt s at
         unfolding scanStepAt
         step-sot e = rw (lt-leb _ _ inside, more, le-leb _ _ room, eq-eqb _ _ e)
+
+-- another marker than SOT ends it, EOC among them
+pub step-ends : (s : List ℕ) (at : ℕ) → at < length s → at + 12 ≤ length s → (be 2 s at ≡ SOT → ⊥) → scanStepAt s at ≡ Ended
+step-ends s at inside room n = ends (eocAt s at) refl
+  where
+    ends : (b : Bool) → eocAt s at ≡ b → scanStepAt s at ≡ Ended
+    ends true e = step-eoc s at inside e
+    ends false e = step-other s at inside e room n
 
 and-false : (b : Bool) → b && false ≡ false
 and-false true = refl
@@ -240,6 +249,32 @@ pub leads-on : (s : List ℕ) (at : ℕ) → Next s at → 0 < length (entriesFr
 leads-on s at n h =
     ⊎-elim (λ l. ap (λ (k : ℕ). entriesFrom s (at + k)) (sym l))
     (λ l. absurd (omega (arith, l .1, entries-next s (at + partAt s at .length) h .room))) (n .long)
+
+-- a record that another follows has Psot bytes; es are the records from some start on, and the k-th of them stands here
+pub record Followed (s : List ℕ) (es : List TilePartEntry) (at k : ℕ) : Type 0 where
+  pub room : at + 12 ≤ length s
+  pub inside : at + psot s at ≤ length s
+  pub first : drop k es ≡ entryOf s at (psot s at) ∷ drop (k + 1) es
+  pub part : partAt s at ≡ entryOf s at (psot s at)
+  pub on : entriesFrom s (at + psot s at) ≡ drop (k + 1) es
+
+pub follows : (s : List ℕ) (es : List TilePartEntry) (at k : ℕ) → entriesFrom s at ≡ drop k es → k + 1 < length es → Followed s es at k
+follows s es at k here more =
+    let n = entries-next s at (omega (arith, ap lib.ListN.length here, length-drop k es)) in
+    let e : TilePartEntry = partAt s at in
+    let rest : List TilePartEntry = entriesFrom s (at + e .length) in
+    let split : drop k es ≡ e ∷ rest = sym here ∙ n .entries in
+    let after : drop (k + 1) es ≡ rest = sym (drop-drop 1 k es) ∙ ap (drop 1) split in
+    let some : 0 < length rest = omega (arith, ap lib.ListN.length after, length-drop (k + 1) es) in
+    let psots : e ≡ entryOf s at (psot s at) =
+    ⊎-elim (λ l. ap (entryOf s at) (sym l)) (λ l. absurd (omega (arith, l .1, entries-next s (at + e .length) some .room))) (n .long) in
+    record {
+      room = n .room;
+      inside = leads-inside s at n;
+      part = psots;
+      first = split ∙ ap₂ (λ (x : TilePartEntry) (l : List TilePartEntry). x ∷ l) psots (sym after);
+      on = sym (leads-on s at n some) ∙ sym after;
+    }
 
 -- records, field by field
 pub same-entry : {i j at n m : ℕ} {p q : PartNumbers} → i ≡ j → p ≡ q → n ≡ m

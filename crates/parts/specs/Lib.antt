@@ -1,5 +1,6 @@
 pub mod Sot
 pub mod Scan
+pub mod Walk
 pub mod Split
 pub mod Tiles
 pub mod Iso

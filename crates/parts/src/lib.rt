@@ -2,3 +2,4 @@
 pub mod order;
 pub mod scan;
 pub mod split;
+pub mod walk;

@@ -1,11 +1,14 @@
 // The tile-parts of a codestream, one record each, in a table lent by the caller (docs/RULES.md, "SOT scan").
 ghost use mathlib.Core.Path.{_≡_};
 ghost use Prim.Native.Nat.{_+_, _*_, _/_, _≤_};
-ghost use lib.ListN.{length};
+ghost use lib.ListN.{length, take, drop};
 ghost use Rattle.numbers.specs.Bytes.{put};
-ghost use Rattle.types.specs.Row.{rowBytes, rowsOf};
+ghost use Rattle.types.specs.Row.{rowBytes, rowOf, rowsOf};
 ghost use Rattle.parts.specs.Sot.{psot};
-ghost use Rattle.parts.specs.Scan.{entryOf, eocAt, partAt, sotStepAt, scanStepAt, scanFrom, judged, entriesFrom, scanned, scanNumber, scanValue, scannedTable};
+ghost use Rattle.parts.specs.Scan.{entryOf, eocAt, partAt, sotStepAt, scanStepAt, entriesFrom, scanned, scanNumber, scanValue, scannedTable};
+ghost use Rattle.parts.specs.Walk.{Quartered};
+use crate::walk::Quarters;
+use crate::walk::Walked;
 use types::CodestreamOffset;
 use types::PartNumbers;
 use types::ROW;
@@ -101,16 +104,17 @@ fn sot_step(codestream: &[u8], at: usize) -> ScanStep
     ScanStep::Part(entry_at(codestream, at, psot as u64))
 }
 
+// EOC is asked for only where no tile-part fits, as any other marker ends the scan too: so a walk asks least where there are many.
 pub fn scan_step(codestream: &[u8], at: usize) -> ScanStep
     ensures { λ r. ⌜ r ≡ scanStepAt (now (codestream .entry)) at ⌝ }
 {
     if codestream.len() <= at {
         return ScanStep::Ended;
     }
-    if at_eoc(codestream, at) {
-        return ScanStep::Ended;
-    }
     if codestream.len() - at < SOT_SEGMENT {
+        if at_eoc(codestream, at) {
+            return ScanStep::Ended;
+        }
         return ScanStep::Refused(Refusal {
             number: 7,
             place: at as u64,
@@ -120,42 +124,6 @@ pub fn scan_step(codestream: &[u8], at: usize) -> ScanStep
         return ScanStep::Ended;
     }
     sot_step(codestream, at)
-}
-
-// Counts the records, and writes none.
-pub fn judge(codestream: &[u8], start: usize) -> Scanned
-    ensures { λ r. ⌜ r ≡ judged (scanFrom (now (codestream .entry)) start) ⌝ }
-{
-    let mut at = start;
-    let mut count: u64 = 0;
-    loop {
-        let step = scan_step(codestream, at);
-        match step {
-            ScanStep::Part(entry) => {
-                count += 1;
-                at = types::end_of(entry).position();
-            }
-            ScanStep::Ended => return Scanned::Table(count),
-            ScanStep::Refused(refusal) => return Scanned::Refused(refusal),
-        }
-    }
-}
-
-// What a scan into a table of so many rows answers; a start at or past the end gives no record.
-pub fn decide(codestream: &[u8], first_sot_offset: CodestreamOffset, rows: u64) -> Scanned
-    ensures { λ r. ⌜ r ≡ scanned (now (codestream .entry)) («first_sot_offset» .0) rows ⌝ }
-{
-    let judgement = judge(codestream, first_sot_offset.position());
-    let Scanned::Table(count) = judgement else {
-        return judgement;
-    };
-    if rows < count {
-        return Scanned::Refused(Refusal {
-            number: 18,
-            place: count,
-        });
-    }
-    judgement
 }
 
 // An answer for C: its number, and in `value` the entries or the refusal's place.
@@ -175,14 +143,52 @@ pub fn tell(answer: Scanned, value: &mut u64) -> u32
     }
 }
 
-// Writes the records, one row after the other. The next position comes after the row: before it, LLVM reads Psot byte by byte.
-fn fill(codestream: &[u8], start: usize, count: usize, table: &mut [u8])
+// Writes the record of a tile-part that others follow, and tells where the next one stands.
+fn write_part(codestream: &[u8], at: usize, table: &mut [u8], row: usize) -> usize
+    requires { ⌜ at + 12 ≤ length (now codestream) ⌝ }
+    requires { ⌜ at + psot (now codestream) at ≤ length (now codestream) ⌝ }
+    requires { ⌜ row + rowBytes ≤ length (now table) ⌝ }
+    ensures { λ r. ⌜ r ≡ at + psot (now (codestream .entry)) at ⌝ }
+    ensures { λ _. ⌜ now (table .exit) ≡ put (now (table .entry)) row (rowOf (entryOf (now (codestream .entry)) at (psot (now (codestream .entry)) at))) ⌝ }
+{
+    let psot = numbers::read_u32(codestream, at + PSOT);
+    let entry = entry_at(codestream, at, psot as u64);
+    types::write_row(table, row, entry);
+    at + psot as usize
+}
+
+// Writes the records of the four runs, a row of each in turn: so a run's loads do not wait for another's. Tells where they end.
+fn fill_runs(codestream: &[u8], start: usize, runs: Quarters, table: &mut [u8]) -> usize
+    requires { ⌜ Quartered (now codestream) start runs ⌝ }
+    requires { ⌜ rowBytes * runs .parts ≤ length (now table) ⌝ }
+    ensures { λ r. ⌜ entriesFrom (now (codestream .entry)) r ≡ drop (4 * runs .turns) (entriesFrom (now (codestream .entry)) start) ⌝ }
+    ensures { λ _. ⌜ now (table .exit) ≡ put (now (table .entry)) 0 (rowsOf (take (4 * runs .turns) (entriesFrom (now (codestream .entry)) start))) ⌝ }
+{
+    let wide = runs.turns * ROW;
+    let mut first = start;
+    let mut second = runs.second;
+    let mut third = runs.third;
+    let mut fourth = runs.fourth;
+    let mut row: usize = 0;
+    while row < wide {
+        first = write_part(codestream, first, table, row);
+        second = write_part(codestream, second, table, wide + row);
+        third = write_part(codestream, third, table, 2 * wide + row);
+        fourth = write_part(codestream, fourth, table, 3 * wide + row);
+        row += ROW;
+    }
+    fourth
+}
+
+// Writes the records from a position on to the last, one row after the other. The next position comes after the row: before it, LLVM
+// reads Psot byte by byte.
+fn fill_rest(codestream: &[u8], start: usize, count: usize, table: &mut [u8], first_row: usize)
     requires { ⌜ count ≡ length (entriesFrom (now codestream) start) ⌝ }
-    requires { ⌜ rowBytes * count ≤ length (now table) ⌝ }
-    ensures { λ _. ⌜ now (table .exit) ≡ put (now (table .entry)) 0 (rowsOf (entriesFrom (now (codestream .entry)) start)) ⌝ }
+    requires { ⌜ «first_row» + rowBytes * count ≤ length (now table) ⌝ }
+    ensures { λ _. ⌜ now (table .exit) ≡ put (now (table .entry)) «first_row» (rowsOf (entriesFrom (now (codestream .entry)) start)) ⌝ }
 {
     let mut at = start;
-    let mut row: usize = 0;
+    let mut row = first_row;
     let mut i: usize = 0;
     while i < count {
         let entry = part_at(codestream, at);
@@ -191,6 +197,22 @@ fn fill(codestream: &[u8], start: usize, count: usize, table: &mut [u8])
         at = next_at(codestream, at);
         i += 1;
     }
+}
+
+fn fill(codestream: &[u8], start: usize, runs: Quarters, table: &mut [u8])
+    requires { ⌜ Quartered (now codestream) start runs ⌝ }
+    requires { ⌜ rowBytes * runs .parts ≤ length (now table) ⌝ }
+    ensures { λ _. ⌜ now (table .exit) ≡ put (now (table .entry)) 0 (rowsOf (entriesFrom (now (codestream .entry)) start)) ⌝ }
+{
+    let done = 4 * runs.turns;
+    let end = fill_runs(codestream, start, runs, table);
+    fill_rest(
+        codestream,
+        end,
+        runs.parts as usize - done,
+        table,
+        done * ROW,
+    );
 }
 
 // The table has as many rows as it has room for.
@@ -202,15 +224,11 @@ pub fn scan_sot_markers(
     ensures { λ r. ⌜ r ≡ scanned (now (codestream .entry)) («first_sot_offset» .0) (length (now (table .entry)) / rowBytes) ⌝ }
     ensures { λ _. ⌜ now (table .exit) ≡ scannedTable (now (codestream .entry)) («first_sot_offset» .0) (now (table .entry)) ⌝ }
 {
-    let answer = decide(codestream, first_sot_offset, (table.len() / ROW) as u64);
-    let Scanned::Table(count) = answer else {
-        return answer;
-    };
-    fill(
-        codestream,
-        first_sot_offset.position(),
-        count as usize,
-        table,
-    );
-    answer
+    match crate::walk::decide(codestream, first_sot_offset, (table.len() / ROW) as u64) {
+        Walked::Table(runs) => {
+            fill(codestream, first_sot_offset.position(), runs, table);
+            Scanned::Table(runs.parts)
+        }
+        Walked::Refused(refusal) => Scanned::Refused(refusal),
+    }
 }

@@ -8,7 +8,7 @@ use mathlib.Core.List.{List, [], _∷_, _++_, append-assoc}
 use lib.ListN.{length, drop, length-append}
 use lib.Seq.{drop-nil, drop-append-add}
 use Rattle.numbers.specs.Bytes.{put}
-use Rattle.numbers.proofs.BytesLaws.{put-put, put-none, length-put}
+use Rattle.numbers.proofs.BytesLaws.{put-put, put-none, put-apart, length-put}
 use Rattle.types.specs.declared.TilePartEntry.{TilePartEntry}
 use Rattle.types.specs.Row.{rowBytes, rowOf, rowsOf}
 use Rattle.types.proofs.RowLaws.{length-row}
@@ -75,3 +75,34 @@ module _ {B : Type 0} (L : Layout B) where
             ∙ put-put t at (L .one e) (L .all es) (L .width) (L .wide e) (omega arith)
             ∙ ap (put t at) (sym (L .more e es));
       }
+
+-- ---- several places at once: pieces, each put where it goes, and none before where the one before it ends
+
+pub record Piece (B : Type 0) : Type 0 where
+  pub place : ℕ
+  pub items : List B
+
+module _ {B : Type 0} where
+  abbrev pub laid : List (Piece B) → List B → List B
+  laid [] t = t
+  laid (p ∷ ps) t = laid ps (put t (p .place) (p .items))
+
+  abbrev pub Before : List (Piece B) → ℕ → Type 0
+  Before [] at = Unit {0}
+  Before (p ∷ ps) at = (p .place + length (p .items) ≤ at) × Before ps at
+
+  -- what is put behind them may be put before they are
+  behind : (ps : List (Piece B)) (t : List B) (at : ℕ) (xs : List B) → Before ps at → at + length xs ≤ length t
+      → (laid ps (put t at xs) ≡ put (laid ps t) at xs) × (length (laid ps t) ≡ length t)
+  behind [] t at xs before room = (refl, refl)
+  behind (p ∷ ps) t at xs before room =
+      let long = length-put t (p .place) (p .items) (omega (arith, before .0, room)) in
+      let rest = behind ps (put t (p .place) (p .items)) at xs (before .1) (omega (arith, long, room)) in
+      (ap (laid ps) (sym (put-apart t (p .place) (p .items) at xs (before .0) room)) ∙ rest .0, rest .1 ∙ long)
+
+  -- one more stands behind them
+  pub stored-behind : (L : Layout B) (ps : List (Piece B)) (t : List B) {next : List B} (at : ℕ) (e : TilePartEntry) (es : List TilePartEntry) → Before ps at → next ≡ put t at (L .one e)
+      → at + length (L .all (e ∷ es)) ≤ length t → put (laid ps next) (at + L .width) (L .all es) ≡ put (laid ps t) at (L .all (e ∷ es))
+  stored-behind L ps t at e es before new room =
+      let b = behind ps t at (L .one e) before (omega (arith, L .wide e, length-more L e es, room)) in
+      stored L es (ap (laid ps) new ∙ b .0) (omega (arith, b .1, room)) .whole

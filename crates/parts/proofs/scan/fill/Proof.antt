@@ -1,72 +1,61 @@
--- The rows that are left, put where the next row goes, make the table that all rows make of the one lent; a turn puts one.
-use Prim.Native.Nat.{_-_}
+-- The rows of the runs, and behind them those of all that follow.
+use Prim.Native.Nat.{ℕ, _*_}
+use native.Mathlib.Nat.{mul-comm}
 use native.Mathlib.Omega.{arith}
-use Rattle.types.proofs.RowLaws.{length-rows}
+use mathlib.Core.Path.{ap, ap₂, _∙_}
+use mathlib.Core.List.{List}
+use lib.ListN.{length, length-drop}
+use borrow.Author.Needs.{needs}
+use Rattle.numbers.specs.Bytes.{put}
+use Rattle.types.specs.Row.{rowsOf}
+use Rattle.types.specs.declared.TilePartEntry.{TilePartEntry}
 use Rattle.types.proofs.RowStanding.{rows}
 use Rattle.parts.specs.Scan.{entriesFrom}
-use Rattle.parts.proofs.ScanLaws.{leads-inside}
-use Rattle.parts.proofs.ScanFill.{Filled, none-filled, stands, one-room, turn, all-filled}
+use Rattle.parts.proofs.ScanRuns.{completed}
 use Rattle.parts.proofs.scan.fill.Statement.{statement}
 use Rattle.parts.proofs.scan.fill.Tie as tie
 
-abbrev Inv-loop : tie.InvT-loop
-Inv-loop codestream start count table₀ at₀ row₀ i₀ table at row i = Filled rows codestream start count table₀ table at row i
+mul-done : tie.Need-mul-done
+mul-done c = search needs
 
-abbrev μ-loop : tie.MeasureT-loop
-μ-loop codestream start count table₀ at₀ row₀ i₀ table at row i = count - i
+fill-runs-requires : tie.Need-fill-runs-requires
+fill-runs-requires c κs = search needs
 
-loop-holds : tie.Need-loop-holds Inv-loop μ-loop
-loop-holds c =
-    let a = c .before .before in
-    none-filled rows (a .pre .0) (omega (arith, length-rows (entriesFrom (a .args .codestream .now) (a .args .start)), a .pre .0, a .pre .1))
+sub-fill-rest : tie.Need-sub-fill-rest
+sub-fill-rest c = search needs
 
-part-at-requires : tie.Need-part-at-requires Inv-loop μ-loop
-part-at-requires c κs = stands rows (c .loop-test .taken) (c .before .loop .inv) .room
+mul-fill-rest : tie.Need-mul-fill-rest
+mul-fill-rest c = search needs
 
-write-row-requires : tie.Need-write-row-requires Inv-loop μ-loop
-write-row-requires c κs = one-room rows (c .before .before .loop-test .taken) (c .before .before .before .loop .inv)
+fill-rest-requires : tie.Need-fill-rest-requires
+fill-rest-requires c κs =
+    let a = c .before .before .before .before .before .before .before .before in
+    let q = a .pre .0 in
+    let e = c .before .before .before .fill-runs .ensures .0 in
+    (omega (arith, q .parts, q .followed, ap length e, length-drop (4 * a .args .runs .turns) (entriesFrom (a .args .codestream .now) (a .args .start))), omega (arith, q .followed, a .pre .1))
 
-add-row : tie.Need-add-row Inv-loop μ-loop
-add-row c =
-    let l = c .before .before .before .before .before in
-    omega (arith, one-room rows (l .loop-test .taken) (l .before .loop .inv), l .before .loop .inv .same)
+same-length : tie.Need-same-length
+same-length c = search needs
 
-next-at-requires : tie.Need-next-at-requires Inv-loop μ-loop
-next-at-requires c κs =
-    let p = c .before .before .before .before .before in
-    let h = stands rows (p .loop-test .taken) (p .before .loop .inv) in
-    (h .room, leads-inside _ _ h)
-
-add-i : tie.Need-add-i Inv-loop μ-loop
-add-i c = omega arith
-
-loop-less : tie.Need-loop-less Inv-loop μ-loop
-loop-less c = omega arith
-
-loop-again : tie.Need-loop-again Inv-loop μ-loop
-loop-again c =
-    let p = c .before .before .before .before .before in
-    turn rows (p .before .loop-test .taken) (p .part-at .ensures) (c .before .before .before .write-row .ensures) (c .next-at .ensures) (p .before .before .loop .inv)
-
-same-length : tie.Need-same-length Inv-loop μ-loop
-same-length c = c .before .loop .inv .same
-
-returns : tie.Need-returns Inv-loop μ-loop
-returns c = all-filled rows (c .loop-test .left) (c .before .loop .inv)
+returns : tie.Need-returns
+returns c =
+    let a = c .before .before .before .before .before .before .before .before .before .before .before in
+    let q = a .pre .0 in
+    let done = 4 * a .args .runs .turns in
+    let es : List TilePartEntry = entriesFrom (a .args .codestream .now) (a .args .start) in
+    let r = c .before .before .before .before .before .before .fill-runs in
+    c .before .before .fill-rest .ensures
+    ∙ ap₂ (λ (t : List ℕ) (l : List TilePartEntry). put t (done * 21) (rowsOf l)) (r .ensures .1) (r .ensures .0)
+    ∙ completed rows (a .args .table .now) (done * 21) es done (mul-comm done 21) (omega (arith, q .parts, q .followed)) (omega (arith, q .parts, a .pre .1))
 
 pub fill-spec : {M : Type 1} → statement M
 fill-spec =
     tie.close
     (tie.spec
-    Inv-loop
-    μ-loop
-    loop-holds
-    part-at-requires
-    write-row-requires
-    add-row
-    next-at-requires
-    add-i
-    loop-less
-    loop-again
+    mul-done
+    fill-runs-requires
+    sub-fill-rest
+    mul-fill-rest
+    fill-rest-requires
     same-length
     returns)

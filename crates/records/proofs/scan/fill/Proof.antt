@@ -1,71 +1,52 @@
--- The records that are left, put where the next record goes, make the table that all records make of the one lent; a turn stores one.
+-- The records of the runs, and behind them all that follow.
 mod Lts
 mod Tie
-use Prim.Native.Nat.{_-_}
+use Prim.Native.Nat.{_*_}
+use native.Mathlib.Nat.{one-mul}
 use native.Mathlib.Omega.{arith}
+use mathlib.Core.List.{List}
+use mathlib.Core.Path.{sym, ap, ap₂, _∙_}
+use lib.ListN.{length, length-drop}
 use borrow.Author.Needs.{needs}
-use Rattle.numbers.proofs.BytesLaws.{put-one}
+use Rattle.numbers.specs.Bytes.{put}
+use Rattle.types.specs.declared.TilePartEntry.{TilePartEntry}
 use Rattle.types.proofs.RowStanding.{records}
-use Rattle.parts.proofs.ScanLaws.{leads-inside}
-use Rattle.parts.proofs.ScanFill.{Filled, none-filled, stands, one-room, turn, all-filled}
+use Rattle.parts.specs.Scan.{entriesFrom}
+use Rattle.parts.proofs.ScanRuns.{completed}
 use Rattle.records.proofs.scan.fill.Statement.{statement}
 use Rattle.records.proofs.scan.fill.Proof.Tie as tie
 
-abbrev Inv-loop : tie.InvT-loop
-Inv-loop codestream start count table₀ at₀ i₀ table at i = Filled records codestream start count table₀ table at i i
+mul-done : tie.Need-mul-done
+mul-done c = search needs
 
-abbrev μ-loop : tie.MeasureT-loop
-μ-loop codestream start count table₀ at₀ i₀ table at i = count - i
+fill-runs-requires : tie.Need-fill-runs-requires
+fill-runs-requires c κs = search needs
 
-loop-holds : tie.Need-loop-holds Inv-loop μ-loop
-loop-holds c = none-filled records (c .before .pre .0) (omega (arith, c .before .pre .0, c .before .pre .1))
+sub-fill-rest : tie.Need-sub-fill-rest
+sub-fill-rest c = search needs
 
-part-at-requires : tie.Need-part-at-requires Inv-loop μ-loop
-part-at-requires c κs = stands records (c .loop-test .taken) (c .before .loop .inv) .room
+fill-rest-requires : tie.Need-fill-rest-requires
+fill-rest-requires c κs =
+    let a = c .before .before .before .before .before .before in
+    let q = a .pre .0 in
+    let e = c .before .before .fill-runs .ensures .0 in
+    (omega (arith, q .parts, q .followed, ap length e, length-drop (4 * a .args .runs .turns) (entriesFrom (a .args .codestream .now) (a .args .start))), omega (arith, q .followed, a .pre .1))
 
-mul-entry : tie.Need-mul-entry Inv-loop μ-loop
-mul-entry c = search needs
+same-length : tie.Need-same-length
+same-length c = search needs
 
-slice-set-from-entry : tie.Need-slice-set-from-entry Inv-loop μ-loop
-slice-set-from-entry c = omega (arith, one-room records (c .before .loop-test .taken) (c .before .before .loop .inv))
-
-next-at-requires : tie.Need-next-at-requires Inv-loop μ-loop
-next-at-requires c κs =
-    let h = stands records (c .before .loop-test .taken) (c .before .before .loop .inv) in
-    (h .room, leads-inside _ _ h)
-
-add-i : tie.Need-add-i Inv-loop μ-loop
-add-i c = omega arith
-
-loop-less : tie.Need-loop-less Inv-loop μ-loop
-loop-less c = omega arith
-
-loop-again : tie.Need-loop-again Inv-loop μ-loop
-loop-again c =
-    let p = c .before in
-    let l = p .before .before .loop in
-    let fits = one-room records (p .before .loop-test .taken) (l .inv) in
-    turn records (p .before .loop-test .taken) (p .part-at .ensures) (put-one (l .table) (l .i) (p .part-at .result) (omega arith)) (c .next-at .ensures) (l .inv)
-
-same-length : tie.Need-same-length Inv-loop μ-loop
-same-length c = c .before .loop .inv .same
-
-returns : tie.Need-returns Inv-loop μ-loop
-returns c = all-filled records (c .loop-test .left) (c .before .loop .inv)
+returns : tie.Need-returns
+returns c =
+    let a = c .before .before .before .before .before .before .before .before in
+    let q = a .pre .0 in
+    let done = 4 * a .args .runs .turns in
+    let es : List TilePartEntry = entriesFrom (a .args .codestream .now) (a .args .start) in
+    let r = c .before .before .before .before .fill-runs in
+    c .before .fill-rest .ensures
+    ∙ ap₂ (λ (t l : List TilePartEntry). put t done l) (r .ensures .1) (r .ensures .0)
+    ∙ completed records (a .args .table .now) done es done (sym (one-mul done)) (omega (arith, q .parts, q .followed)) (omega (arith, q .parts, a .pre .1))
 
 pub fill-spec : {M : Type 1} → statement M
 fill-spec =
     tie.close
-    (tie.spec
-    Inv-loop
-    μ-loop
-    loop-holds
-    part-at-requires
-    mul-entry
-    slice-set-from-entry
-    next-at-requires
-    add-i
-    loop-less
-    loop-again
-    same-length
-    returns)
+    (tie.spec mul-done fill-runs-requires sub-fill-rest fill-rest-requires same-length returns)

@@ -1,61 +1,64 @@
 -- The answer stands before a record is written: a refusal leaves the table, and a table's count is that of the records, which fit.
 mod Lts
 mod Tie
-use mathlib.Core.Path.{_≡_, sym, _∙_}
+use mathlib.Core.Path.{_≡_, sym, ap, _∙_}
 use lib.ListN.{length}
 use borrow.Author.Needs.{needs}
 use Rattle.parts.specs.declared.scan.Scanned.the-variants.{Table}
 use Rattle.parts.specs.Scan.{scanned}
 use Rattle.parts.proofs.ScanAnswers.{answer-counts}
+use Rattle.parts.proofs.WalkLaws.{told, told-as}
 use Rattle.records.proofs.Answers.{table-kept, table-filled}
 use Rattle.records.proofs.scan.scan_sot_markers.Statement.{statement}
 use Rattle.records.proofs.scan.scan_sot_markers.Proof.Tie as tie
 
 -- past the answer, a table of so many records
-answered : (c : tie.After-answer)
-    → scanned (c .before .before .before .before .args .codestream .now) (c .before .before .before .before .args .first-sot-offset .0) (length (c .before .before .before .before .args .table .now))
-    ≡ Table (c .answer .given .0 .0)
-answered c = sym (c .before .before .decide .ensures) ∙ c .answer .given .1
+answered : (c : tie.After-runs) → let a = c .before .before .before .before .args in
+    scanned (a .codestream .now) (a .first-sot-offset .0) (length (a .table .now)) ≡ Table (c .runs .given .0 .0 .parts)
+unfolding told
+answered c = sym (ap told (c .before .before .decide .ensures .0) ∙ told-as _ _ _) ∙ ap told (c .runs .given .1)
 
 decide-requires : tie.Need-decide-requires
 decide-requires c κs = search needs
 
-enum-known-answer : tie.Need-enum-known-answer
-enum-known-answer c = search needs
-
-enum-told : tie.Need-enum-told
-enum-told c = search needs
-
-returns : tie.Need-returns
-returns c =
-    let a = c .before .before .decide .ensures in
-    (a, sym (table-kept _ _ _ _ (sym a ∙ c .enum-told .given .1)))
+enum-known-runs : tie.Need-enum-known-runs
+enum-known-runs c = search needs
 
 position-requires : tie.Need-position-requires
 position-requires c κs = search needs
 
 fill-requires : tie.Need-fill-requires
 fill-requires c κs =
-    let n = answer-counts _ _ _ _ (answered (c .before .before .before)) in
-    (rw (c .before .position .ensures) (n .0), n .1)
+    let r = c .before .before .before in
+    let n = answer-counts _ _ _ _ (answered r) in
+    (rw (r .runs .given .1, sym (c .before .position .ensures)) at (r .before .before .decide .ensures .1), n .1)
+
+enum-known-refusal : tie.Need-enum-known-refusal
+enum-known-refusal c = search needs
 
 same-length : tie.Need-same-length
 same-length c = search needs
 
-returns-2 : tie.Need-returns-2
-returns-2 c =
+returns : tie.Need-returns
+returns c =
     let a = answered (c .before .before .before .before .before) in
     (sym a, rw (c .before .before .before .position .ensures) at (c .before .fill .ensures) ∙ sym (table-filled _ _ _ _ a))
+
+returns-2 : tie.Need-returns-2
+unfolding told
+returns-2 c =
+    let a = sym (ap told (c .before .before .before .decide .ensures .0) ∙ told-as _ _ _) ∙ ap told (c .before .refusal .given .1) in
+    (sym a, sym (table-kept _ _ _ _ a))
 
 pub scan-sot-markers-spec : {M : Type 1} → statement M
 scan-sot-markers-spec =
     tie.close
     (tie.spec
     decide-requires
-    enum-known-answer
-    enum-told
-    returns
+    enum-known-runs
     position-requires
     fill-requires
+    enum-known-refusal
     same-length
+    returns
     returns-2)
