@@ -19,7 +19,24 @@ pub struct Lent {
 pub fn lend<const N: usize>(
     call: impl Fn(&mut Lent, &mut [u64; N]) -> u32,
 ) -> Result<(Lent, [u64; N]), Refusal> {
+    lend_more(Lent::default(), call)
+}
+
+/// The same with a table of so many rows lent at first, which is likely to do. Where there is no such
+/// memory it is nothing.
+pub fn lend_rows<const N: usize>(
+    rows: usize,
+    call: impl Fn(&mut Lent, &mut [u64; N]) -> u32,
+) -> Result<(Lent, [u64; N]), Refusal> {
     let mut lent = Lent::default();
+    let _ = lent.grow(Refusal::new(TABLE_TOO_SMALL, rows as u64));
+    lend_more(lent, call)
+}
+
+fn lend_more<const N: usize>(
+    mut lent: Lent,
+    call: impl Fn(&mut Lent, &mut [u64; N]) -> u32,
+) -> Result<(Lent, [u64; N]), Refusal> {
     loop {
         let mut numbers = [0; N];
         match call(&mut lent, &mut numbers) {
@@ -71,7 +88,9 @@ impl Lent {
 
 #[cfg(test)]
 mod tests {
-    use super::{found, lend, Lent, OUTPUT_TOO_SMALL, TABLE_TOO_SMALL};
+    use std::cell::Cell;
+
+    use super::{found, lend, lend_rows, Lent, OUTPUT_TOO_SMALL, TABLE_TOO_SMALL};
     use crate::refusal::Refusal;
 
     #[test]
@@ -88,6 +107,25 @@ mod tests {
         });
         let (lent, [value]) = answered.expect("there is memory");
         assert_eq!((lent.table.len(), lent.out.len(), value), (63, 3, 3));
+    }
+
+    #[test]
+    fn lends_rows_at_first() {
+        for (lent_first, calls) in [(0, 2), (2, 2), (3, 1), (4, 1), (usize::MAX, 2)] {
+            let called = Cell::new(0);
+            let answered = lend_rows(lent_first, |lent: &mut Lent, [value]: &mut [u64; 1]| {
+                called.set(called.get() + 1);
+                *value = 3;
+                if lent.table.len() < 63 {
+                    TABLE_TOO_SMALL
+                } else {
+                    0
+                }
+            });
+            let (lent, [value]) = answered.expect("there is memory");
+            assert!(lent.table.len() >= 63 && value == 3);
+            assert_eq!(called.get(), calls);
+        }
     }
 
     #[test]

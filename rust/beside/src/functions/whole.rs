@@ -43,11 +43,13 @@ impl File {
         }
         let [start, length] = found.map(|number| number as usize);
         let codestream = &self.bytes[start..start + length];
-        let [first_sot, _, entries, _] = lent(|table, out, numbers| {
+        let [first_sot, _, entries, _] = lent(0, |table, out, numbers| {
             host::parse_main_header_by_reading(codestream, readings::ORIGINAL, table, out, numbers)
         })?;
-        let [parts] =
-            lent(|table, _, [value]| host::scan_sot_markers(codestream, first_sot, table, value))?;
+        let rows = likely_rows(length as u64 - first_sot);
+        let [parts] = lent(rows, |table, _, [value]| {
+            host::scan_sot_markers(codestream, first_sot, table, value)
+        })?;
         Some([entries, parts])
     }
 
@@ -61,11 +63,17 @@ impl File {
     }
 }
 
-/// Calls with nothing lent, and again with what was asked for, as the safe crate does.
+/// As many rows as the safe crate lends for a scan at first.
+fn likely_rows(rest: u64) -> usize {
+    (64 + rest / 64).min(4096).min(rest / 12 + 1) as usize
+}
+
+/// Calls with so many rows lent, and again with what was asked for, as the safe crate does.
 fn lent<const N: usize>(
+    rows: usize,
     call: impl Fn(&mut [u8], &mut [u8], &mut [u64; N]) -> u32,
 ) -> Option<[u64; N]> {
-    let (mut table, mut out) = (Vec::new(), Vec::new());
+    let (mut table, mut out) = (vec![0; ROW * rows], Vec::new());
     loop {
         let mut numbers = [0; N];
         match call(&mut table, &mut out, &mut numbers) {

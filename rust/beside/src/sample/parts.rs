@@ -71,6 +71,33 @@ pub fn many(count: usize, size: usize) -> Vec<u8> {
     built.bytes
 }
 
+/// `count` parts of `least` bytes and fewer than `more` more, each with an index and numbers of its own.
+pub fn varied(random: &mut Random, count: usize, least: usize, more: usize) -> Vec<u8> {
+    let mut built = Codestream::default();
+    for number in 0..count {
+        let size = least + random.below(more);
+        built
+            .sot(number as u16, size as u32, random.byte(), random.byte())
+            .raw(&vec![0x5A; size - SOT_BYTES]);
+    }
+    built.bytes
+}
+
+/// What may stand behind sound parts: nothing, EOC, a last part with Psot 0, and each of the refusals.
+pub fn endings() -> Vec<Vec<u8>> {
+    let mut lsot_9 = Codestream::default();
+    lsot_9.segment_saying(SOT, 9, &[0; 8]);
+    vec![
+        vec![],
+        EOC.to_be_bytes().to_vec(),
+        sot(7, 0),
+        [sot(7, 0), vec![0; 5]].concat(),
+        SOT.to_be_bytes().to_vec(),
+        lsot_9.bytes,
+        sot(7, 13),
+    ]
+}
+
 /// A SOT with these fields.
 pub fn sot(isot: u16, psot: u32) -> Vec<u8> {
     let mut built = Codestream::default();

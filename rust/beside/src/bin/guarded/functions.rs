@@ -187,9 +187,17 @@ fn find_marker(calls: &mut Calls) {
     });
 }
 
+/// So many tile-parts that they are read from several places at once, and what may follow them.
+fn many_parts(random: &mut Random) -> Vec<u8> {
+    let count = random.below(1_200);
+    let built = parts::varied(random, count, 12, 12);
+    let endings = parts::endings();
+    [built.as_slice(), &endings[random.below(endings.len())]].concat()
+}
+
 /// A codestream, a start, and room for its entries, or about that.
 fn scan_input(random: &mut Random) -> (Vec<u8>, u64, usize) {
-    let (codestream, start) = match random.below(3) {
+    let (codestream, start) = match random.below(4) {
         0 => {
             let whole = codestream(random);
             let first_sot = model::header::main_header_extent(&whole);
@@ -197,6 +205,7 @@ fn scan_input(random: &mut Random) -> (Vec<u8>, u64, usize) {
             (whole, first_sot.unwrap_or(anywhere))
         }
         1 => (codestream(random), random.spread()),
+        2 => (many_parts(random), 0),
         _ => (tile_parts(random), 0),
     };
     let entries = model::parts::needed(&codestream, start);

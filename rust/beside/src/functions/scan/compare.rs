@@ -34,6 +34,7 @@ fn fixed(run: &mut Run) {
     past_4_gigabytes(run);
     every_input(run);
     short_strings(run);
+    runs(run);
     many(run);
 }
 
@@ -138,6 +139,24 @@ fn short_strings(run: &mut Run) {
     });
 }
 
+/// Around as many parts as make four runs, and as many marks as there is room for: whole, cut and damaged,
+/// with each way to end.
+fn runs(run: &mut Run) {
+    let near = |middle: usize| middle - 3..=middle + 3;
+    let doubled = (7..14).flat_map(|power| near(1 << power));
+    for count in (0..=100).chain(doubled).chain(near(48)) {
+        let built = parts::varied(&mut run.random, count, 12, 20);
+        for ending in parts::endings() {
+            every_room(run, &[built.as_slice(), &ending].concat(), 0);
+        }
+        for _ in 0..4 {
+            let end = run.random.below(built.len() + 1);
+            check(run, &built[..end], 0);
+        }
+        run.damaged(6, &built, |run, damaged| check(run, damaged, 0));
+    }
+}
+
 fn many(run: &mut Run) {
     let most = MOST;
     for (count, size) in [
@@ -147,6 +166,7 @@ fn many(run: &mut Run) {
         (most - 1, 12),
         (most, 12),
         (most + 1, 12),
+        (1_000_000, 12),
     ] {
         every_room(run, &parts::many(count, size), 0);
     }

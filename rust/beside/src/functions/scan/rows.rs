@@ -1,6 +1,7 @@
-//! The benchmark: few and many tile-parts, side by side and spread over a gigabyte. A table that is lent
-//! is not cleared between calls; the original allocates its own and lets it grow, so ours is timed with a
-//! table allocated for each call too.
+//! The benchmark: few and many tile-parts, side by side and spread over a gigabyte, of one size and of
+//! several. Of one size the processor guesses where the next one stands, and has it at hand before it is
+//! asked for. A table that is lent is not cleared between calls; the original allocates its own and lets it
+//! grow, so ours is timed with a table allocated for each call too.
 
 use std::cell::RefCell;
 
@@ -9,6 +10,7 @@ use probe::host;
 
 use crate::bench::{row, Benchmark, ORIGINAL};
 use crate::model::ROW;
+use crate::random::{Random, SEED};
 use crate::sample::parts;
 use crate::sample::zeros::zeros;
 use crate::wanted;
@@ -18,6 +20,8 @@ pub const BENCHMARK: Benchmark = Benchmark {
     beside: ORIGINAL,
     rows,
 };
+
+const GIGABYTE: usize = 1 << 30;
 
 struct Input {
     codestream: Vec<u8>,
@@ -50,12 +54,24 @@ fn theirs(input: &Input) -> Option<u64> {
 }
 
 fn rows() {
-    for count in [100, 65_535, 1_000_000] {
+    for count in [1, 10, 100, 1_000, 65_535, 1_000_000] {
         measure(count, "of 14 bytes", parts::many(count, 14));
     }
+    for count in [10, 100, 1_000, 65_535] {
+        let codestream = parts::varied(&mut Random::new(SEED), count, 14, 100);
+        measure(count, "of 14 to 113 bytes", codestream);
+    }
     for count in [100, 65_535, 1_000_000] {
-        if let Some(codestream) = spread(count, 1 << 30) {
+        let size = GIGABYTE / count;
+        if let Some(codestream) = spread(count, |_| size) {
             measure(count, "over 1 GB", codestream);
+        }
+    }
+    for count in [100, 65_535, 1_000_000] {
+        let mean = GIGABYTE / count;
+        let mut random = Random::new(SEED);
+        if let Some(codestream) = spread(count, |_| mean / 2 + random.below(mean)) {
+            measure(count, "of several sizes over 1 GB", codestream);
         }
     }
 }
@@ -76,13 +92,16 @@ fn measure(parts: usize, how: &str, codestream: Vec<u8>) {
     }
 }
 
-/// `count` parts of the same size in `length` bytes.
-fn spread(count: usize, length: usize) -> Option<Vec<u8>> {
-    let size = length / count;
-    let mut codestream = zeros(size * count)?;
-    for (isot, part) in codestream.chunks_mut(size).enumerate() {
+/// `count` parts, of which this tells the size by the number.
+fn spread(count: usize, mut size: impl FnMut(usize) -> usize) -> Option<Vec<u8>> {
+    let sizes: Vec<_> = (0..count).map(&mut size).collect();
+    let mut codestream = zeros(sizes.iter().sum())?;
+    let mut rest = codestream.as_mut_slice();
+    for (isot, size) in sizes.into_iter().enumerate() {
+        let (part, others) = rest.split_at_mut(size);
         let sot = parts::sot(isot as u16, size as u32);
         part[..sot.len()].copy_from_slice(&sot);
+        rest = others;
     }
     Some(codestream)
 }
