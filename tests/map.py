@@ -90,7 +90,7 @@ ALSO = {
     "header/tlm": ["IsoTlm"],
     "header/numbering": ["IsoTlm"],
     "header/walk": ["Base"],
-    "parts/scan": ["Sot", "Iso", "Tiles"],
+    "parts/scan": ["Sot", "Iso", "Tiles", "Begin"],
     "parts/order": ["Iso", "Tiles"],
     "lengths/check": ["Agree", "Iso"],
     "lengths/segments": ["Places", "Iso"],

@@ -5,6 +5,8 @@ pub mod ScanFill
 pub mod ScanRuns
 pub mod ScanAnswers
 pub mod WalkLaws
+pub mod BeginLaws
+pub mod BeginAnswers
 pub mod SplitLaws
 pub mod TilesAdjoin
 pub mod TilesJoined

@@ -22,7 +22,7 @@ use Rattle.parts.specs.Order.{numbersOf, numberedAs, runFrom, runs, inOr
 
 -- ---- yes exactly where the numbers are counted
 
-both : (a b : Bool) → a && b ≡ true → (a ≡ true) × (b ≡ true)
+pub both : (a b : Bool) → a && b ≡ true → (a ≡ true) × (b ≡ true)
 both true b e = (refl, e)
 both false b e = absurd (false≢true e)
 

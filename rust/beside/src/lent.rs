@@ -14,12 +14,13 @@ pub struct Lent<const V: usize, const M: usize, T = u8> {
 }
 
 impl<const V: usize, const M: usize> Lent<V, M> {
-    /// Numbers and bytes at random, so that one left alone shows.
+    /// Numbers and bytes at random, so that one left alone shows; now and then zeros, as memory is that was
+    /// just allocated, or zeros but for one byte.
     pub fn preset(random: &mut Random, sizes: [usize; M]) -> Self {
         Lent {
             status: u32::MAX,
             values: [(); V].map(|()| random.number()),
-            memory: sizes.map(|size| random.fill(size)),
+            memory: sizes.map(|size| bytes(random, size)),
         }
     }
 }
@@ -78,6 +79,18 @@ impl<const V: usize, const M: usize, T: UpperHex> fmt::Debug for Lent<V, M, T> {
         }
         Ok(())
     }
+}
+
+fn bytes(random: &mut Random, size: usize) -> Vec<u8> {
+    let zeros = random.below(8);
+    if zeros > 2 {
+        return random.fill(size);
+    }
+    let mut bytes = vec![0; size];
+    if zeros == 0 && size > 0 {
+        bytes[random.below(size)] = 1 + random.below(255) as u8;
+    }
+    bytes
 }
 
 /// Bytes of a table of so many `entries`, and of a part of a row behind them, which is none.
