@@ -247,7 +247,8 @@ uint32_t winterhasp_component_within(const uint8_t *codestream, size_t codestrea
 
 /* "SOT scan". The tile-parts from `first_sot_offset` on go to the rows of `table`, their number to `value`.
    The table is looked at before it is written: of one that is zeros, as calloc gives it, the codestream is read once, and of any
-   other twice. What it holds changes nothing else; memory that was never written is best not lent.
+   other twice; who lends one table again clears it first. What it holds changes nothing else; memory that was never written is
+   best not lent.
    Refusals: 7, 8, 9, 18. */
 uint32_t winterhasp_scan_sot_markers(const uint8_t *codestream, size_t codestream_len, uint64_t first_sot_offset,
                                      uint8_t *table, size_t table_len, uint64_t *value);

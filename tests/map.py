@@ -34,6 +34,7 @@ SHOWN = {
     "header/parse": ("2, 18, 20", ["header", "enough"]),
     "parts/scan": ("3", ["scan"]),
     "parts/walk": ("3", ["scan"]),
+    "parts/fill": ("3", ["scan"]),
     "parts/order": ("22", ["order"]),
     "parts/split": ("4", ["split"]),
     "lengths/check": ("26", ["check"]),
@@ -91,6 +92,7 @@ ALSO = {
     "header/numbering": ["IsoTlm"],
     "header/walk": ["Base"],
     "parts/scan": ["Sot", "Iso", "Tiles", "Begin"],
+    "parts/fill": ["Walk"],
     "parts/order": ["Iso", "Tiles"],
     "lengths/check": ["Agree", "Iso"],
     "lengths/segments": ["Places", "Iso"],
@@ -152,14 +154,14 @@ def row(crate, module):
     others = {named(file.stem) for file in (home / "src").glob("*.rt")}
     own = {named(module), *ALSO.get(f"{crate}/{module}", [])} & names if module else names - others
     laws = {file.stem for file in (home / "proofs").glob("*.antt")} - {"Lib", "lent", "readings"}
-    # a law file goes with the definition whose name it has in front, the longest where several do; the standard's, and one
-    # without such a name, with each definition that it cites; and one that cites none with all
+    # a law file goes with the definition or the module whose name it has in front, the longest where several do; the standard's,
+    # and one without such a name, with each definition that it cites; and one that cites none with all
     mine = set()
     for law in laws:
-        front = max((name for name in names if law.startswith(name)), key=len, default="")
+        front = max((name for name in names | others if law.startswith(name)), key=len, default="")
         text = (home / "proofs" / f"{law}.antt").read_text()
         cited = {name for name in names if f"·specs.specs.{name}." in text}
-        if front in own or ((not front or front.startswith("Iso")) and (cited & own or not cited)):
+        if front in {named(module), *own} or ((not front or front.startswith("Iso")) and (cited & own or not cited)):
             mine.add(law)
     code = f"src/{module or 'lib'}.rt"
     touched = {code, *(f"specs/{name}.antt" for name in own)}

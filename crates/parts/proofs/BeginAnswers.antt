@@ -24,6 +24,7 @@ use Rattle.chain.specs.Chain.{end}
 use Rattle.chain.proofs.ChainLaws.{chain-stops, end-on}
 use Rattle.parts.specs.Sot.{lsot, psot}
 use Rattle.parts.specs.Scan.{eocAt, sotStepAt, scanStepAt, ScanEnd, ended, refused, moveOf, moveAt, scanFrom, recorded, entriesFrom, endedAs, judged, withRoom, scanned, scannedTable}
+use Rattle.parts.specs.Walk.{Reached}
 use Rattle.parts.specs.Begin.{Begins, refusedBehind}
 use Rattle.parts.specs.declared.scan.ScanStep.{ScanStep}
 use Rattle.parts.specs.declared.scan.Scanned.{Scanned}
@@ -31,12 +32,9 @@ use Rattle.parts.specs.declared.walk.Passed.{Passed}
 use Rattle.parts.specs.declared.scan.ScanStep.the-variants as found
 use Rattle.parts.specs.declared.scan.Scanned.the-variants.{Table, Refused}
 use Rattle.parts.proofs.ScanLaws.{rises}
-use Rattle.parts.proofs.ScanRuns.{completed}
+use Rattle.parts.proofs.FillRuns.{completed}
 use Rattle.parts.proofs.ScanAnswers.{answer-refused, answer-no-room, answer-table, answer-accepts, answer-counts, table-filled, table-kept, judged-table}
-use Rattle.parts.proofs.WalkLaws.{entries-few, Reached, reached-few, reached-all, reached-ended, reached-refused}
-
-begins-reached : {s : List ℕ} {start : ℕ} {t : List ℕ} {p : Passed} → Begins s start t p → Reached s start (p .at) (p .count)
-begins-reached b = record { counted = b .counted; rest = b .rest; ends = b .ends }
+use Rattle.parts.proofs.WalkLaws.{entries-few, reached-few, reached-all, reached-ended, reached-refused}
 
 -- ---- a scan is refused inside the codestream, and not for room
 
@@ -183,13 +181,10 @@ put-part u a bs =
     rw (take-all (length u - a) (drop a u) rest, drop-of-length-le (drop a u) rest, zero-add (length bs), drop-drop (length bs) a u, append-nil)
 
 module _ {s : List ℕ} {start : ℕ} {t : List ℕ} {p : Passed} (b : Begins s start t p) {u : List ℕ} (begun : u ≡ put t 0 (rowsOf (take (p .count) (entriesFrom s start)))) where
-  i : Reached s start (p .at) (p .count)
-  i = begins-reached b
-
   wide : length (rowsOf (take (p .count) (entriesFrom s start))) ≡ rowBytes * p .count
   wide =
       length-rows (take (p .count) (entriesFrom s start))
-      ∙ ap (λ (n : ℕ). rowBytes * n) (length-take-le (p .count) (entriesFrom s start) (omega (arith, b .counted)))
+      ∙ ap (λ (n : ℕ). rowBytes * n) (length-take-le (p .count) (entriesFrom s start) (omega (arith, b .reached .counted)))
 
   begun-length : length u ≡ length t
   begun-length = ap length begun ∙ length-put t 0 (rowsOf (take (p .count) (entriesFrom s start))) (omega (arith, wide, b .room))
@@ -202,8 +197,8 @@ module _ {s : List ℕ} {start : ℕ} {t : List ℕ} {p : Passed} (b : Begins s 
   -- the scan ended while rows were written
   pub ended-answers : scanStepAt s (p .at) ≡ found.Ended → (Table (p .count) ≡ scanned s start (length t / rowBytes)) × (u ≡ scannedTable s start t)
   ended-answers e =
-      let all : p .count ≡ length (entriesFrom s start) = reached-all e i in
-      let a = answer-table s start (length t / rowBytes) (p .count) (sym (reached-ended e i)) (omega (arith, b .room)) in
+      let all : p .count ≡ length (entriesFrom s start) = reached-all e (b .reached) in
+      let a = answer-table s start (length t / rowBytes) (p .count) (sym (reached-ended e (b .reached))) (omega (arith, b .room)) in
       let whole : take (p .count) (entriesFrom s start) ≡ entriesFrom s start = take-all (p .count) (entriesFrom s start) (omega (arith, all)) in
       (sym a, begun ∙ ap (λ (es : List TilePartEntry). put t 0 (rowsOf es)) whole ∙ sym (table-filled s start t (p .count) a (sym all)))
 
@@ -211,7 +206,7 @@ module _ {s : List ℕ} {start : ℕ} {t : List ℕ} {p : Passed} (b : Begins s 
   pub refused-answers : (r : Refusal) → scanStepAt s (p .at) ≡ found.Refused r
       → (Refused r ≡ scanned s start (length t / rowBytes)) × (put u 0 (replicate (p .count * 21) 0) ≡ scannedTable s start t)
   refused-answers r e =
-      let a = answer-refused s start (length t / rowBytes) r (sym (reached-refused e i)) in
+      let a = answer-refused s start (length t / rowBytes) r (sym (reached-refused e (b .reached))) in
       (sym a, begun-cleared ∙ sym (table-kept s start t r a))
 
   -- or went on in the rows behind
@@ -228,10 +223,10 @@ module _ {s : List ℕ} {start : ℕ} {t : List ℕ} {p : Passed} (b : Begins s 
     scanned-behind = ap₂ (scanned s) there rows-behind
 
     pub rest-fits : (more : ℕ) → Table more ≡ scanned s to (length (midOf a (length u - a) u) / rowBytes) → p .count + more ≤ length s
-    rest-fits more e = omega (arith, entries-few s start, begun-table i (length t / rowBytes) more few (sym scanned-behind ∙ sym e) .1)
+    rest-fits more e = omega (arith, entries-few s start, begun-table (b .reached) (length t / rowBytes) more few (sym scanned-behind ∙ sym e) .1)
 
     pub rest-place : (r : Refusal) → Refused r ≡ scanned s to (length (midOf a (length u - a) u) / rowBytes) → p .count + r .place ≤ length s + length s
-    rest-place r e = begun-place i (length t / rowBytes - p .count) r (sym scanned-behind ∙ sym e)
+    rest-place r e = begun-place (b .reached) (length t / rowBytes - p .count) r (sym scanned-behind ∙ sym e)
 
     pub rest-table : (more : ℕ) {ys : List ℕ} → Table more ≡ scanned s to (length (midOf a (length u - a) u) / rowBytes)
         → ys ≡ scannedTable s to (midOf a (length u - a) u)
@@ -239,9 +234,9 @@ module _ {s : List ℕ} {start : ℕ} {t : List ℕ} {p : Passed} (b : Begins s 
     rest-table more {ys} e filled =
         let n : ℕ = p .count in
         let es : List TilePartEntry = entriesFrom s start in
-        let whole = begun-table i (length t / rowBytes) more few (sym scanned-behind ∙ sym e) in
+        let whole = begun-table (b .reached) (length t / rowBytes) more few (sym scanned-behind ∙ sym e) in
         let within = answer-counts s to (length (midOf a (length u - a) u) / rowBytes) more (sym e) in
-        let records : entriesFrom s to ≡ drop n es = ap (entriesFrom s) there ∙ b .rest in
+        let records : entriesFrom s to ≡ drop n es = ap (entriesFrom s) there ∙ b .reached .rest in
         let part : ys ≡ put (midOf a (length u - a) u) 0 (rowsOf (drop n es)) =
         filled ∙ table-filled s to (midOf a (length u - a) u) more (sym e) (sym (within .0))
         ∙ ap (λ (l : List TilePartEntry). put (midOf a (length u - a) u) 0 (rowsOf l)) records in
@@ -250,7 +245,7 @@ module _ {s : List ℕ} {start : ℕ} {t : List ℕ} {p : Passed} (b : Begins s 
           ap (putMid a (length u - a) u) part
               ∙ put-part u a (rowsOf (drop n es))
               ∙ ap (λ (l : List ℕ). put l a (rowsOf (drop n es))) begun
-              ∙ completed rows t a es n (omega (arith, done)) (omega (arith, b .counted)) room
+              ∙ completed rows t a es n (omega (arith, done)) (omega (arith, b .reached .counted)) room
               ∙ sym (table-filled s start t (n + more) (whole .0) (whole .1)),
         )
 
@@ -258,7 +253,7 @@ module _ {s : List ℕ} {start : ℕ} {t : List ℕ} {p : Passed} (b : Begins s 
         → ys ≡ scannedTable s to (midOf a (length u - a) u)
         → (Refused (refusedBehind (p .count) r) ≡ scanned s start (length t / rowBytes)) × (put (putMid a (length u - a) u ys) 0 (replicate a 0) ≡ scannedTable s start t)
     rest-refused r {ys} e kept =
-        let whole = begun-refused i (length t / rowBytes) r few (sym scanned-behind ∙ sym e) in
+        let whole = begun-refused (b .reached) (length t / rowBytes) r few (sym scanned-behind ∙ sym e) in
         let same : putMid a (length u - a) u ys ≡ u =
         ap (putMid a (length u - a) u) (kept ∙ table-kept s to (midOf a (length u - a) u) r (sym e)) ∙ put-same a (length u - a) u in (
           sym whole,

@@ -3,12 +3,12 @@ use Prim.Native.Nat.{ℕ, zero, suc, _+_, _*_, _≤_, _<_}
 use native.Mathlib.Numerals.{add-one}
 use native.Mathlib.Omega.{arith}
 use mathlib.Core.Path.{_≡_, refl, sym, ap, ap₂, _∙_}
-use mathlib.Core.Bool.{true, _&&_}
+use mathlib.Core.Bool.{true, false, _&&_}
 use mathlib.Core.List.{List, [], _∷_, _++_, append-nil}
 use lib.ListN.{length, getD, take, drop, set, replicate, length-drop, length-replicate, replicate-append-replicate}
 use lib.Seq.{length-take-le, take-suc, take-take, drop-drop, take-add, getD-drop}
-use lib.Dec.{eqb}
-use borrow.Author.Tests.{eqb-true}
+use lib.Dec.{leb, eqb}
+use borrow.Author.Tests.{lt-leb, eqb-true}
 use Rattle.numbers.specs.Bytes.{be, put}
 use Rattle.numbers.proofs.BytesLaws.{put-none, put-one, put-put, length-put, be-put-after}
 use Rattle.types.specs.declared.TilePartEntry.{TilePartEntry}
@@ -16,13 +16,14 @@ use Rattle.types.specs.Row.{rowBytes, rowOf, rowsOf}
 use Rattle.types.proofs.RowLaws.{length-row}
 use Rattle.types.proofs.RowStanding.{rows, rows-none, rows-more, length-all}
 use Rattle.parts.specs.Scan.{scanStepAt, entriesFrom}
-use Rattle.parts.specs.Begin.{blankAt, BegunBy, Begins}
+use Rattle.parts.specs.Begin.{blankAt, freeAt, BegunBy, Begins}
 use Rattle.parts.specs.declared.scan.ScanStep.the-variants.{Part}
 use Rattle.parts.specs.declared.walk.Passed.{Passed}
 use Rattle.parts.proofs.OrderAnswers.{both}
-use Rattle.parts.proofs.ScanLaws.{part-offset, entries-part}
-use Rattle.parts.proofs.ScanRuns.{joined}
-use Rattle.parts.proofs.WalkLaws.{Reached, reached-start, reached-part, reached-on}
+use Rattle.parts.proofs.ScanLaws.{and-false, entries-part}
+use Rattle.parts.proofs.FillRuns.{joined}
+use Rattle.parts.specs.Walk.{Reached}
+use Rattle.parts.proofs.WalkLaws.{reached-start, reached-next}
 
 -- ---- zeros
 
@@ -86,11 +87,9 @@ module _ {s : List ℕ} {start : ℕ} {lent : List ℕ} where
     whole = sym (ap (put lent 0) rows-none ∙ put-none lent 0);
   }
 
-  pub begins : {table : List ℕ} {row : ℕ} {p : Passed} → Begun s start lent table (p .at) (p .count) row → BegunBy (p .stop) s (p .at) → Begins s start lent p
+  pub begins : {table : List ℕ} {row : ℕ} {p : Passed} → Begun s start lent table (p .at) (p .count) row → BegunBy (p .stop) s lent p → Begins s start lent p
   begins i why = record {
-    counted = i .reached .counted;
-    rest = i .reached .rest;
-    ends = i .reached .ends;
+    reached = i .reached;
     room = omega (arith, i .room, i .down);
     blank = rw (i .down) at (i .blank);
     stopped = why;
@@ -111,6 +110,20 @@ module _ {s : List ℕ} {start : ℕ} {lent : List ℕ} where
         ∙ be-put-after k lent 0 bs n (omega arith)
         ∙ ap (be k lent) there
 
+    blank-stays : blankAt table row ≡ blankAt lent row
+    unfolding blankAt
+    blank-stays =
+        let here : row + 0 ≡ row = omega arith in
+        rw (sym (ap (be 8 table) here), sym (ap (be 8 lent) here), stays 8 0, stays 8 8, stays 8 13) refl
+
+    -- the next row is not there
+    pub full-up : length lent < row + 21 → freeAt lent (rowBytes * count) ≡ false
+    full-up past = rw (sym (i .down), lt-leb (row + rowBytes) (length lent) past) refl
+
+    -- or is not zeros
+    pub full-used : blankAt table row ≡ false → freeAt lent (rowBytes * count) ≡ false
+    full-used used = rw (sym (i .down), sym blank-stays, used) (and-false (leb (row + rowBytes) (length lent)))
+
     blank-row : blankAt table row ≡ true → row + 21 ≤ length lent → take 21 (drop row lent) ≡ replicate 21 0
     unfolding blankAt
     blank-row is room =
@@ -128,13 +141,12 @@ module _ {s : List ℕ} {start : ℕ} {lent : List ℕ} where
         → next ≡ put table row (rowOf e) → to ≡ e .offset .0 + e .length → Begun s start lent next to (count + 1) (row + 21)
     begun-more {next} {to} {e} is room found new there =
         let es : List TilePartEntry = entriesFrom s start in
-        let end : to ≡ at + e .length = there ∙ ap (λ (o : ℕ). o + e .length) (part-offset s at e found) in
         let first : drop count es ≡ e ∷ entriesFrom s (at + e .length) = sym (i .reached .rest) ∙ entries-part s at e found in
         let more : take (count + 1) es ≡ take count es ++ (e ∷ []) = take-add count 1 es ∙ ap (λ (l : List TilePartEntry). take count es ++ take 1 l) first in
         let one : rowOf e ≡ rowsOf (e ∷ []) = sym (rows-more e [] ∙ ap (λ (l : List ℕ). rowOf e ++ l) rows-none ∙ append-nil (rowOf e)) in
         record {
           down = omega (arith, i .down);
-          reached = rw end (reached-on (i .reached) (reached-part found));
+          reached = reached-next found there (i .reached);
           same = ap length new ∙ length-put table row (rowOf e) (omega (arith, length-row e, i .same)) ∙ i .same;
           room = room;
           blank =

@@ -1,8 +1,8 @@
 pub mod OrderLaws
 pub mod OrderAnswers
 pub mod ScanLaws
-pub mod ScanFill
-pub mod ScanRuns
+pub mod FillRest
+pub mod FillRuns
 pub mod ScanAnswers
 pub mod WalkLaws
 pub mod BeginLaws

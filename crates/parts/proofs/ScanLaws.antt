@@ -77,7 +77,7 @@ step-ends s at inside room n = ends (eocAt s at) refl
     ends true e = step-eoc s at inside e
     ends false e = step-other s at inside e room n
 
-and-false : (b : Bool) → b && false ≡ false
+pub and-false : (b : Bool) → b && false ≡ false
 and-false true = refl
 and-false false = refl
 

@@ -14,7 +14,7 @@ use Rattle.chain.proofs.ChainLaws.{chain-run}
 use Rattle.types.specs.declared.Refusal.{Refusal}
 use Rattle.types.specs.declared.TilePartEntry.{TilePartEntry}
 use Rattle.parts.specs.Scan.{partAt, scanStepAt, ScanEnd, ended, moveAt, scanFrom, recorded, entriesFrom, endedAs, judged}
-use Rattle.parts.specs.Walk.{Passes, Halved, quartersBy, Quartered, strideUp, strideOf, turnsOf, placeOf, quartersOf, walkedAs}
+use Rattle.parts.specs.Walk.{Reached, Halved, quartersBy, Quartered, strideUp, strideOf, turnsOf, placeOf, quartersOf, walkedAs}
 use Rattle.parts.specs.declared.scan.Scanned.{Scanned}
 use Rattle.parts.specs.declared.walk.Passed.{Passed}
 use Rattle.parts.specs.declared.walk.Quarters.{Quarters}
@@ -22,7 +22,7 @@ use Rattle.parts.specs.declared.walk.Walked.{Walked}
 use Rattle.parts.specs.declared.scan.ScanStep.the-variants as found
 use Rattle.parts.specs.declared.scan.Scanned.the-variants as answer
 use Rattle.parts.specs.declared.walk.Walked.the-variants as walked
-use Rattle.parts.proofs.ScanLaws.{move-passed, rises, stop, scan-ended, scan-refused, scan-part, entries-ended, entries-part, entries-next}
+use Rattle.parts.proofs.ScanLaws.{part-offset, move-passed, rises, stop, scan-ended, scan-refused, scan-part, entries-ended, entries-part, entries-next}
 
 -- ---- a scan has no more records than the codestream has bytes
 
@@ -34,18 +34,13 @@ pub entries-few : (s : List ℕ) (at : ℕ) → length (entriesFrom s at) ≤ le
 unfolding entriesFrom scanFrom
 entries-few s at = rw (length-map (scanFrom s at .visits) (recorded s)) (few-run s (chain-run ended (moveAt s) (length s) (rises s) at))
 
--- ---- so many records lie between two positions, and the scan ends alike from both
-
-pub record Reached (s : List ℕ) (start at count : ℕ) : Type 0 where
-  pub counted : count + length (entriesFrom s at) ≡ length (entriesFrom s start)
-  pub rest : entriesFrom s at ≡ drop count (entriesFrom s start)
-  pub ends : scanFrom s at .ended ≡ scanFrom s start .ended
+-- ---- so many records lie between two positions
 
 module _ {s : List ℕ} {start : ℕ} where
   pub reached-start : Reached s start start 0
   reached-start = record { counted = omega arith; rest = refl; ends = refl }
 
-  pub reached-part : {e : TilePartEntry} → scanStepAt s start ≡ found.Part e → Reached s start (start + e .length) 1
+  reached-part : {e : TilePartEntry} → scanStepAt s start ≡ found.Part e → Reached s start (start + e .length) 1
   unfolding also
   reached-part {e} p =
       let all = entries-part s start e p in
@@ -62,9 +57,6 @@ module _ {s : List ℕ} {start : ℕ} where
         rest = j .rest ∙ ap (drop more) (i .rest) ∙ drop-drop more count (entriesFrom s start);
         ends = j .ends ∙ i .ends;
       }
-
-  pub reached-pass : {most : ℕ} {p : Passed} → Passes s start most p → Reached s start (p .at) (p .count)
-  reached-pass h = record { counted = h .counted; rest = h .rest; ends = h .ends }
 
   -- no more than the codestream has bytes
   pub reached-few : {at count : ℕ} → Reached s start at count → count ≤ length s
@@ -90,6 +82,13 @@ module _ {s : List ℕ} {start : ℕ} where
       → answer.Refused r ≡ judged (scanFrom s start)
   unfolding endedAs
   reached-refused {at} {count} {r} e i = reached-last (scan-refused s at r e) i
+
+-- a tile-part more
+pub reached-next : {s : List ℕ} {start at to count : ℕ} {e : TilePartEntry} → scanStepAt s at ≡ found.Part e → to ≡ e .offset .0 + e .length
+    → Reached s start at count → Reached s start to (count + 1)
+reached-next {s} {start} {at} {to} {count} {e} p there i =
+    let end : to ≡ at + e .length = there ∙ ap (λ (o : ℕ). o + e .length) (part-offset s at e p) in
+    rw end (reached-on i (reached-part p))
 
 -- ---- marks: before each stand as many records as its index times the stride
 

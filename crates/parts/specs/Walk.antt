@@ -18,18 +18,22 @@ use Rattle.parts.specs.declared.walk.Walked.the-variants as walked
 
 -- ---- some tile-parts passed
 
+-- so many records lie between the two: those from there on are the ones behind them, and the scan ends as from the start
+pub record Reached (s : List ℕ) (start at count : ℕ) : Type 0 where
+  pub counted : count + length (entriesFrom s at) ≡ length (entriesFrom s start)
+  pub rest : entriesFrom s at ≡ drop count (entriesFrom s start)
+  pub ends : scanFrom s at .ended ≡ scanFrom s start .ended
+
 -- why it went no further: as many were passed as were asked for, or the scan ends there, after fewer
 abbrev pub StoppedBy : Stop → List ℕ → Passed → ℕ → Type 0
 StoppedBy stop.Full s p most = p .count ≡ most
 StoppedBy stop.Ended s p most = (p .count < most) × (scanStepAt s (p .at) ≡ step.Ended)
 StoppedBy (stop.Refused r) s p most = scanStepAt s (p .at) ≡ step.Refused r
 
--- at most so many were passed, the records from there on are those behind them, and the scan ends as from the start
+-- at most so many were passed
 pub record Passes (s : List ℕ) (start most : ℕ) (p : Passed) : Type 0 where
   pub few : p .count ≤ most
-  pub counted : p .count + length (entriesFrom s (p .at)) ≡ length (entriesFrom s start)
-  pub rest : entriesFrom s (p .at) ≡ drop (p .count) (entriesFrom s start)
-  pub ends : scanFrom s (p .at) .ended ≡ scanFrom s start .ended
+  pub reached : Reached s start (p .at) (p .count)
   pub stopped : StoppedBy (p .stop) s p most
 
 -- ---- marks

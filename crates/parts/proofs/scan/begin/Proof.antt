@@ -4,12 +4,12 @@ use native.Mathlib.Omega.{arith}
 use mathlib.Core.Path.{_≡_, sym, _∙_}
 use lib.ListN.{length}
 use borrow.Author.Needs.{needs}
-use borrow.Author.Tests.{not-false}
+use borrow.Author.Tests.{not-false, not-true}
 use Rattle.parts.specs.declared.scan.ScanStep.the-variants.{Part}
 use Rattle.parts.specs.Scan.{scanStepAt}
 use Rattle.parts.proofs.ScanLaws.{part-stands, part-offset}
 use Rattle.parts.proofs.WalkLaws.{reached-few}
-use Rattle.parts.proofs.BeginLaws.{Begun, none-begun, begins, begun-more}
+use Rattle.parts.proofs.BeginLaws.{Begun, none-begun, begins, full-up, full-used, begun-more}
 use Rattle.parts.proofs.scan.begin.Statement.{statement}
 use Rattle.parts.proofs.scan.begin.Tie as tie
 
@@ -40,7 +40,7 @@ same-length c = c .before .before .before .before .loop .inv .same
 returns : tie.Need-returns Inv-loop μ-loop
 returns c =
     let i = c .before .before .before .before .loop .inv in
-    (begins i tt, i .whole)
+    (begins i (full-used i (sym (c .before .blank-row .ensures) ∙ not-true _ (c .if1 .taken))), i .whole)
 
 scan-step-requires : tie.Need-scan-step-requires Inv-loop μ-loop
 scan-step-requires c κs = search needs
@@ -111,7 +111,7 @@ same-length-4 : tie.Need-same-length-4 Inv-loop μ-loop
 same-length-4 c = c .before .loop .inv .same
 
 returns-4 : tie.Need-returns-4 Inv-loop μ-loop
-returns-4 c = let i = c .before .loop .inv in (begins i tt, i .whole)
+returns-4 c = let i = c .before .loop .inv in (begins i (full-up i (omega (arith, i .same, i .room))), i .whole)
 
 pub begin-spec : {M : Type 1} → statement M
 begin-spec =

@@ -8,9 +8,9 @@ use lib.ListN.{length}
 use denote.Enum.Declared.{tagOf}
 use types.Run.{OneOf}
 use borrow.Author.Needs.{needs}
-use Rattle.parts.proofs.WalkLaws.{Reached, reached-pass, reached-few, reached-ended, reached-refused}
+use Rattle.parts.proofs.WalkLaws.{reached-few, reached-ended, reached-refused}
 use Rattle.parts.specs.Scan.{scanFrom, judged}
-use Rattle.parts.specs.Walk.{StoppedBy}
+use Rattle.parts.specs.Walk.{StoppedBy, Reached}
 use Rattle.parts.specs.declared.scan.Scanned.the-variants.{Table}
 use Rattle.parts.specs.declared.walk.Passed.{Passed}
 use Rattle.parts.specs.declared.walk.Stop.{Stop}
@@ -35,12 +35,12 @@ returns : tie.Need-returns
 returns c =
     let p = c .before .pass .ensures in
     let r = c .before .pass .result in
-    all {most = 18446744073709551615} r (r .stop) (p .stopped) (reached-pass p) (omega arith) (c .match .keys1)
+    all {most = 18446744073709551615} r (r .stop) (p .stopped) (p .reached) (omega arith) (c .match .keys1)
 
 returns-2 : tie.Need-returns-2
 returns-2 c =
     let p = c .before .before .before .pass .ensures in
-    reached-refused (rw (c .before .stop .given .1) at (p .stopped)) (reached-pass p)
+    reached-refused (rw (c .before .stop .given .1) at (p .stopped)) (p .reached)
 
 pub judge-spec : {M : Type 1} → statement M
 judge-spec = tie.close (tie.spec pass-requires enum-known-stop returns returns-2)

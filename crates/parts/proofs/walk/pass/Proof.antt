@@ -5,24 +5,14 @@ use mathlib.Core.List.{List}
 use mathlib.Core.Path.{_≡_, sym, ap, _∙_}
 use borrow.Author.Needs.{needs}
 use Rattle.parts.proofs.ScanLaws.{part-stands, part-offset}
-use Rattle.parts.proofs.WalkLaws.{Reached, reached-start, reached-part, reached-on}
+use Rattle.parts.proofs.WalkLaws.{reached-start, reached-next}
 use Rattle.parts.specs.declared.scan.ScanStep.the-variants.{Part}
 use Rattle.parts.specs.declared.walk.Passed.{Passed}
 use Rattle.parts.specs.Scan.{scanStepAt}
-use Rattle.parts.specs.Walk.{StoppedBy, Passes}
+use Rattle.parts.specs.Walk.{Reached}
 use Rattle.types.specs.declared.TilePartEntry.{TilePartEntry}
 use Rattle.parts.proofs.walk.pass.Statement.{statement}
 use Rattle.parts.proofs.walk.pass.Tie as tie
-
-turn : {s : List ℕ} {start at to count : ℕ} {e : TilePartEntry} → scanStepAt s at ≡ Part e → to ≡ e .offset .0 + e .length
-    → Reached s start at count → Reached s start to (count + 1)
-turn {s} {start} {at} {to} {count} {e} found there i =
-    let end : to ≡ at + e .length = there ∙ ap (λ (o : ℕ). o + e .length) (part-offset s at e found) in
-    rw end (reached-on i (reached-part found))
-
-stops : {s : List ℕ} {start most : ℕ} {p : Passed} → p .count ≤ most → Reached s start (p .at) (p .count) → StoppedBy (p .stop) s p most
-    → Passes s start most p
-stops few i why = record { few = few; counted = i .counted; rest = i .rest; ends = i .ends; stopped = why }
 
 abbrev Inv-loop : tie.InvT-loop
 Inv-loop codestream start most at₀ count₀ at count = (count ≤ most) × Reached codestream start at count
@@ -61,7 +51,7 @@ loop-less c = omega arith
 loop-again : tie.Need-loop-again Inv-loop μ-loop
 loop-again c =
     let f = c .before .before .before in
-    (omega arith, turn (found f) (c .position .ensures ∙ c .before .end-of .ensures) (f .before .before .before .before .loop .inv .1))
+    (omega arith, reached-next (found f) (c .position .ensures ∙ c .before .end-of .ensures) (f .before .before .before .before .loop .inv .1))
 
 enum-told : tie.Need-enum-told Inv-loop μ-loop
 enum-told c = search needs
@@ -69,7 +59,7 @@ enum-told c = search needs
 returns : tie.Need-returns Inv-loop μ-loop
 returns c =
     let i = c .before .before .before .before .loop .inv in
-    stops (i .0) (i .1) (omega arith, sym (c .before .before .scan-step .ensures) ∙ c .enum-told .given .1)
+    record { few = i .0; reached = i .1; stopped = (omega arith, sym (c .before .before .scan-step .ensures) ∙ c .enum-told .given .1) }
 
 enum-known-step-2 : tie.Need-enum-known-step-2 Inv-loop μ-loop
 enum-known-step-2 c = search needs
@@ -77,10 +67,10 @@ enum-known-step-2 c = search needs
 returns-2 : tie.Need-returns-2 Inv-loop μ-loop
 returns-2 c =
     let i = c .before .before .before .before .before .loop .inv in
-    stops (i .0) (i .1) (sym (c .before .before .before .scan-step .ensures) ∙ c .before .step2 .given .1)
+    record { few = i .0; reached = i .1; stopped = sym (c .before .before .before .scan-step .ensures) ∙ c .before .step2 .given .1 }
 
 returns-3 : tie.Need-returns-3 Inv-loop μ-loop
-returns-3 c = let i = c .before .loop .inv in stops (i .0) (i .1) (omega arith)
+returns-3 c = let i = c .before .loop .inv in record { few = i .0; reached = i .1; stopped = omega arith }
 
 pub pass-spec : {M : Type 1} → statement M
 pass-spec =

@@ -9,13 +9,13 @@ use mathlib.Core.Path.{_≡_, refl, ap, _∙_}
 use lib.ListN.{length, getD, set, length-set}
 use lib.Seq.{getD-set-same}
 use borrow.Author.Needs.{needs}
-use Rattle.parts.proofs.WalkLaws.{Reached, reached-start, reached-on, reached-pass, reached-few, reached-all, reached-ended, reached-refused, Marked, marked-none, marked-halved, marked-more, marked-quarters, Doubled, doubled-none, doubled-more, doubled-on, doubled-last, quarters-all}
+use Rattle.parts.proofs.WalkLaws.{reached-start, reached-on, reached-few, reached-all, reached-ended, reached-refused, Marked, marked-none, marked-halved, marked-more, marked-quarters, Doubled, doubled-none, doubled-more, doubled-on, doubled-last, quarters-all}
 use Rattle.parts.specs.declared.scan.ScanStep.the-variants as found
 use Rattle.parts.specs.declared.walk.Passed.{Passed}
 use Rattle.parts.specs.declared.walk.Quarters.{Quarters}
 use Rattle.parts.specs.declared.walk.Walked.the-variants.{Table}
 use Rattle.parts.specs.Scan.{scanStepAt, scanFrom, judged, entriesFrom}
-use Rattle.parts.specs.Walk.{Passes, Halved, quartersBy, Quartered, walkedAs}
+use Rattle.parts.specs.Walk.{Reached, Passes, Halved, quartersBy, Quartered, walkedAs}
 use Rattle.parts.proofs.walk.walk.Statement.{statement}
 use Rattle.parts.proofs.walk.walk.Tie as tie
 
@@ -52,7 +52,7 @@ module _ {s : List ℕ} {start : ℕ} {marks : List ℕ} {stride at count : ℕ}
 
     module _ {p : Passed} (h : Passes s at stride p) where
       on : Reached s start (p .at) (count + p .count)
-      on = reached-on (g .reached) (reached-pass h)
+      on = reached-on (g .reached) (h .reached)
 
       full : p .count ≡ stride → Going s start (set marks used at) (used + 1) stride (p .at) (count + p .count)
       full all =
@@ -137,7 +137,7 @@ filled c = rw (c .enum-told .given .1) at (c .before .before .before .pass .ensu
 loop-less : tie.Need-loop-less Inv-loop μ-loop
 loop-less c =
     let p = c .before .before .before .pass .ensures in
-    omega (arith, p .counted, filled c, halving (c .before .before .before .before .before) .1 .some)
+    omega (arith, p .reached .counted, filled c, halving (c .before .before .before .before .before) .1 .some)
 
 loop-again : tie.Need-loop-again Inv-loop μ-loop
 loop-again c =

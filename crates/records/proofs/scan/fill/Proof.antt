@@ -12,7 +12,7 @@ use Rattle.numbers.specs.Bytes.{put}
 use Rattle.types.specs.declared.TilePartEntry.{TilePartEntry}
 use Rattle.types.proofs.RowStanding.{records}
 use Rattle.parts.specs.Scan.{entriesFrom}
-use Rattle.parts.proofs.ScanRuns.{completed}
+use Rattle.parts.proofs.FillRuns.{completed}
 use Rattle.records.proofs.scan.fill.Statement.{statement}
 use Rattle.records.proofs.scan.fill.Proof.Tie as tie
 

@@ -6,7 +6,7 @@ use native.Mathlib.Omega.{arith}
 use mathlib.Core.Path.{refl}
 use Rattle.types.proofs.RowStanding.{records}
 use Rattle.parts.proofs.ScanLaws.{leads-inside}
-use Rattle.parts.proofs.ScanFill.{Filled, none-filled, stands, one-room, turn, all-filled}
+use Rattle.parts.proofs.FillRest.{Filled, none-filled, stands, one-room, turn, all-filled}
 use Rattle.records.proofs.scan.fill_rest.Statement.{statement}
 use Rattle.records.proofs.scan.fill_rest.Proof.Tie as tie
 

@@ -7,7 +7,7 @@ use native.Mathlib.Omega.{arith}
 use lib.Dec.{lit<}
 use mathlib.Core.Path.{_≡_, sym}
 use Rattle.types.proofs.RowStanding.{records}
-use Rattle.parts.proofs.ScanRuns.{Spread, none-spread, first-stands, second-stands, third-stands, fourth-stands, row-fits, turn, all-spread}
+use Rattle.parts.proofs.FillRuns.{Spread, none-spread, first-stands, second-stands, third-stands, fourth-stands, row-fits, turn, all-spread}
 use Rattle.records.proofs.scan.fill_runs.Statement.{statement}
 use Rattle.records.proofs.scan.fill_runs.Proof.Tie as tie
 

@@ -1,7 +1,8 @@
 //! The benchmark: few and many tile-parts, side by side and spread over a gigabyte, of one size and of
 //! several. Of one size the processor guesses where the next one stands, and has it at hand before it is
-//! asked for. A table that is lent is not cleared between calls; the original allocates its own and lets it
-//! grow, so ours is timed with a table allocated for each call too.
+//! asked for. A table that is lent again holds what the last call wrote, or is cleared before the call, within
+//! the time; the original allocates its own and lets it grow, so ours is timed with a table allocated for
+//! each call too.
 
 use std::cell::RefCell;
 
@@ -39,9 +40,14 @@ impl Input {
 
 type Way = fn(&Input) -> Option<u64>;
 
-const WAYS: [(&str, Way); 2] = [
+const WAYS: [(&str, Way); 3] = [
     ("table lent", |input| {
         input.scanned(&mut input.table.borrow_mut())
+    }),
+    ("table lent and cleared", |input| {
+        let mut table = input.table.borrow_mut();
+        table.fill(0);
+        input.scanned(&mut table)
     }),
     ("table allocated", |input| {
         input.scanned(&mut vec![0; ROW * input.parts])

@@ -11,9 +11,9 @@ use Rattle.types.specs.Row.{rowsOf}
 use Rattle.types.specs.declared.TilePartEntry.{TilePartEntry}
 use Rattle.types.proofs.RowStanding.{rows}
 use Rattle.parts.specs.Scan.{entriesFrom}
-use Rattle.parts.proofs.ScanRuns.{completed}
-use Rattle.parts.proofs.scan.fill.Statement.{statement}
-use Rattle.parts.proofs.scan.fill.Tie as tie
+use Rattle.parts.proofs.FillRuns.{completed}
+use Rattle.parts.proofs.fill.fill.Statement.{statement}
+use Rattle.parts.proofs.fill.fill.Tie as tie
 
 mul-done : tie.Need-mul-done
 mul-done c = search needs

@@ -6,8 +6,8 @@ use Rattle.numbers.specs.Bytes.{put}
 use Rattle.types.specs.Row.{rowOf}
 use Rattle.types.specs.declared.TilePartEntry.{TilePartEntry}
 use Rattle.parts.specs.Scan.{entryOf}
-use Rattle.parts.proofs.scan.write_part.Statement.{statement}
-use Rattle.parts.proofs.scan.write_part.Tie as tie
+use Rattle.parts.proofs.fill.write_part.Statement.{statement}
+use Rattle.parts.proofs.fill.write_part.Tie as tie
 
 add-read-u32 : tie.Need-add-read-u32
 add-read-u32 c = search needs

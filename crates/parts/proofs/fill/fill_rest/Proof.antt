@@ -5,9 +5,9 @@ use Rattle.types.proofs.RowLaws.{length-rows}
 use Rattle.types.proofs.RowStanding.{rows}
 use Rattle.parts.specs.Scan.{entriesFrom}
 use Rattle.parts.proofs.ScanLaws.{leads-inside}
-use Rattle.parts.proofs.ScanFill.{Filled, none-filled, stands, one-room, turn, all-filled}
-use Rattle.parts.proofs.scan.fill_rest.Statement.{statement}
-use Rattle.parts.proofs.scan.fill_rest.Tie as tie
+use Rattle.parts.proofs.FillRest.{Filled, none-filled, stands, one-room, turn, all-filled}
+use Rattle.parts.proofs.fill.fill_rest.Statement.{statement}
+use Rattle.parts.proofs.fill.fill_rest.Tie as tie
 
 abbrev Inv-loop : tie.InvT-loop
 Inv-loop codestream start count table₀ first at₀ row₀ i₀ table at row i = Filled rows codestream start count first table₀ table at row i

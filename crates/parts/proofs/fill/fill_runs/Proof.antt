@@ -6,9 +6,9 @@ use lib.Dec.{lit<}
 use mathlib.Core.Path.{_≡_, refl}
 use Rattle.types.proofs.RowStanding.{rows}
 use Rattle.parts.proofs.ScanLaws.{Followed}
-use Rattle.parts.proofs.ScanRuns.{Spread, none-spread, first-stands, second-stands, third-stands, fourth-stands, row-fits, turn, all-spread}
-use Rattle.parts.proofs.scan.fill_runs.Statement.{statement}
-use Rattle.parts.proofs.scan.fill_runs.Tie as tie
+use Rattle.parts.proofs.FillRuns.{Spread, none-spread, first-stands, second-stands, third-stands, fourth-stands, row-fits, turn, all-spread}
+use Rattle.parts.proofs.fill.fill_runs.Statement.{statement}
+use Rattle.parts.proofs.fill.fill_runs.Tie as tie
 
 abbrev Inv-loop : tie.InvT-loop
 Inv-loop codestream start table₀ wide first₀ second₀ third₀ fourth₀ row₀ table first second third fourth row =
