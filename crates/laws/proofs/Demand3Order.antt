@@ -16,7 +16,7 @@ use Rattle.types.proofs.RowReading.{All}
 use Rattle.types.proofs.RowReading as all
 use Rattle.parts.specs.Sot.{tpsot, tnsot}
 use Rattle.parts.specs.Scan.{scanStepAt, entriesFrom}
-use Rattle.parts.specs.declared.scan.ScanStep.the-variants.{Part}
+use Rattle.parts.specs.declared.step.ScanStep.the-variants.{Part}
 use Rattle.parts.specs.Split.{partsOf}
 use Rattle.parts.specs.Tiles.{ofTile, bytesAt, AllLong}
 use Rattle.parts.specs.Order.{numbersOf, inOrder}

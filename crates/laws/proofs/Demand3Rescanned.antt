@@ -18,7 +18,7 @@ use Rattle.types.specs.declared.TilePartEntry.{TilePartEntry}
 use Rattle.parts.specs.Sot.{lsot, isot, psot, tpsot, tnsot}
 use Rattle.parts.specs.Scan.{sotStepAt, scanStepAt, scanFrom, judged}
 use Rattle.parts.specs.Tiles.{bytesAt, AllLong}
-use Rattle.parts.specs.declared.scan.ScanStep.the-variants.{Part}
+use Rattle.parts.specs.declared.step.ScanStep.the-variants.{Part}
 use Rattle.parts.specs.declared.scan.Scanned.the-variants.{Table}
 use Rattle.parts.proofs.ScanLaws.{step-sot, sot-no-eoc, sot-rest, sot-part, same-part, Scans, scans-end, scans-part}
 use Rattle.parts.proofs.ScanAnswers.{scans-judged}

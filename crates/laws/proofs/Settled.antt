@@ -86,7 +86,7 @@ parse-main-header m κs a g =
 
 -- ---- parts
 
-pub scan-step : {M : Type 1} → Settles M parts.scan.scan_step.ended parts.scan.scan_step.clauses
+pub scan-step : {M : Type 1} → Settles M parts.step.scan_step.ended parts.step.scan_step.clauses
 scan-step m κs a g = settles m (last m) λ x y e i. (e i, x .1)
 
 pub scan-judge : {M : Type 1} → Settles M parts.walk.judge.ended parts.walk.judge.clauses

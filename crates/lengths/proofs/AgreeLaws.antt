@@ -16,10 +16,10 @@ use Rattle.types.specs.declared.CodestreamOffset.{CodestreamOffset}
 use Rattle.types.specs.declared.TilePartEntry.{TilePartEntry}
 use Rattle.header.specs.Tlm.{Entry}
 use Rattle.parts.specs.Scan.{scanStepAt, partAt, entriesFrom}
-use Rattle.parts.specs.declared.scan.ScanStep.{ScanStep}
-use Rattle.parts.specs.declared.scan.ScanStep.the-variants as step
+use Rattle.parts.specs.declared.step.ScanStep.{ScanStep}
+use Rattle.parts.specs.declared.step.ScanStep.the-variants as step
 use Rattle.parts.proofs.ScanLaws.{part-offset, entries-ended, entries-refused, entries-part, entries-next}
-use Rattle.parts.proofs.scan.ScanStep.{the-type}
+use Rattle.parts.proofs.step.ScanStep.{the-type}
 use Rattle.lengths.specs.Check.{pairOf, standing, same, said, differing, compared}
 use Rattle.lengths.specs.Agree.{agreedBy, settledAs}
 use Rattle.lengths.specs.declared.check.Said.{Said}

@@ -28,8 +28,8 @@ use Rattle.header.proofs.ParseLaws.{judged-read}
 use Rattle.parts.specs.Sot.{lsot, psot}
 use Rattle.parts.specs.Scan.{ScanEnd, ended, sotStepAt, scanStepAt, scanFrom}
 use Rattle.parts.specs.Scan as scan
-use Rattle.parts.specs.declared.scan.ScanStep.{ScanStep}
-use Rattle.parts.specs.declared.scan.ScanStep.the-variants as step
+use Rattle.parts.specs.declared.step.ScanStep.{ScanStep}
+use Rattle.parts.specs.declared.step.ScanStep.the-variants as step
 use Rattle.parts.proofs.ScanLaws.{step-short, step-sot, sot-no-eoc, scan-refused}
 use Rattle.lengths.specs.Segments.{tableEnd}
 use Rattle.lengths.specs.Check.{pairOf, listed, standing, same, said, differing, compared, behindScan, behindTable, behindHeader, checked, saidAt, Compares, Refuses, byHeader, byTable, byScan, DiffersFirst}

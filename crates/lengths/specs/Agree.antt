@@ -3,8 +3,8 @@ use Prim.Native.Nat.{ℕ, _+_}
 use mathlib.Core.Bool.{cond}
 use mathlib.Core.List.{List, [], _∷_}
 use Rattle.header.specs.Tlm.{Entry}
-use Rattle.parts.specs.declared.scan.ScanStep.{ScanStep}
-use Rattle.parts.specs.declared.scan.ScanStep.the-variants as step
+use Rattle.parts.specs.declared.step.ScanStep.{ScanStep}
+use Rattle.parts.specs.declared.step.ScanStep.the-variants as step
 use Rattle.lengths.specs.Check.{pairOf, same, said, differing}
 use Rattle.lengths.specs.declared.check.Said.{Said}
 use Rattle.lengths.specs.declared.check.Said.the-variants.{Part, Nothing}

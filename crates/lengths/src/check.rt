@@ -12,8 +12,8 @@ ghost use Rattle.lengths.specs.Agree.{agreedBy, stopAt, settled};
 use crate::segments::Found;
 use header::numbering::Numbering;
 use header::parse::Front;
-use parts::scan::ScanStep;
 use parts::scan::Scanned;
+use parts::step::ScanStep;
 use types::CodestreamOffset;
 use types::Refusal;
 use types::TilePartEntry;
@@ -57,7 +57,7 @@ struct Stop {
 fn agree(codestream: &[u8], at: usize, entry: TilePartEntry) -> Agreed
     ensures { λ r. ⌜ r ≡ agreedBy (pairOf entry) (scanStepAt (now (codestream .entry)) at) ⌝ }
 {
-    let step = parts::scan::scan_step(codestream, at);
+    let step = parts::step::scan_step(codestream, at);
     let ScanStep::Part(part) = step else {
         return Agreed::Not;
     };
@@ -89,7 +89,7 @@ fn settle(codestream: &[u8], at: usize, stop: Stop, left: u64) -> Check
     let listed = stop.listed;
     let offset = CodestreamOffset::at(at);
     if left != 0 {
-        let part = parts::scan::part_at(codestream, at);
+        let part = parts::step::part_at(codestream, at);
         return Check::DiffersAt(Difference {
             number,
             offset,

@@ -26,10 +26,10 @@ use Rattle.parts.specs.Sot.{lsot, psot}
 use Rattle.parts.specs.Scan.{eocAt, sotStepAt, scanStepAt, ScanEnd, ended, refused, moveOf, moveAt, scanFrom, recorded, entriesFrom, endedAs, judged, withRoom, scanned, scannedTable}
 use Rattle.parts.specs.Walk.{Reached}
 use Rattle.parts.specs.Begin.{Begins, refusedBehind}
-use Rattle.parts.specs.declared.scan.ScanStep.{ScanStep}
+use Rattle.parts.specs.declared.step.ScanStep.{ScanStep}
 use Rattle.parts.specs.declared.scan.Scanned.{Scanned}
 use Rattle.parts.specs.declared.walk.Passed.{Passed}
-use Rattle.parts.specs.declared.scan.ScanStep.the-variants as found
+use Rattle.parts.specs.declared.step.ScanStep.the-variants as found
 use Rattle.parts.specs.declared.scan.Scanned.the-variants.{Table, Refused}
 use Rattle.parts.proofs.ScanLaws.{rises}
 use Rattle.parts.proofs.FillRuns.{completed}

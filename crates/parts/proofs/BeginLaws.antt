@@ -17,7 +17,7 @@ use Rattle.types.proofs.RowLaws.{length-row}
 use Rattle.types.proofs.RowStanding.{rows, rows-none, rows-more, length-all}
 use Rattle.parts.specs.Scan.{scanStepAt, entriesFrom}
 use Rattle.parts.specs.Begin.{blankAt, freeAt, BegunBy, Begins}
-use Rattle.parts.specs.declared.scan.ScanStep.the-variants.{Part}
+use Rattle.parts.specs.declared.step.ScanStep.the-variants.{Part}
 use Rattle.parts.specs.declared.walk.Passed.{Passed}
 use Rattle.parts.proofs.OrderAnswers.{both}
 use Rattle.parts.proofs.ScanLaws.{and-false, entries-part}

@@ -16,7 +16,7 @@ use Rattle.types.specs.declared.TilePartEntry.{TilePartEntry}
 use Rattle.parts.specs.Sot.{lsot, isot, psot, tpsot, tnsot}
 use Rattle.parts.specs.Scan.{eocAt, sotStepAt, scanStepAt, scanned}
 use Rattle.parts.specs.Iso.{TilePart, sotRows, partBytes, lengthOf, Ranges, AllRanges, partsBytes, listed, listedFrom}
-use Rattle.parts.specs.declared.scan.ScanStep.the-variants.{Part, Ended}
+use Rattle.parts.specs.declared.step.ScanStep.the-variants.{Part, Ended}
 use Rattle.parts.specs.declared.scan.Scanned.the-variants.{Table}
 use Rattle.parts.proofs.ScanLaws.{sot-rest, sot-part, step-outside, step-eoc, step-sot, sot-no-eoc, same-part, Scans, scans-end, scans-part}
 use Rattle.parts.proofs.ScanAnswers.{scans-accepted}

@@ -20,8 +20,8 @@ use Rattle.chain.specs.Chain.{on, Chain, Rises, also}
 use Rattle.chain.proofs.ChainLaws.{chain-end, chain-on}
 use Rattle.parts.specs.Sot.{lsot, psot}
 use Rattle.parts.specs.Scan.{entryOf, partAt, eocAt, sotStepAt, scanStepAt, ScanEnd, ended, refused, moveOf, moveAt, scanFrom, recorded, entriesFrom}
-use Rattle.parts.specs.declared.scan.ScanStep.{ScanStep}
-use Rattle.parts.specs.declared.scan.ScanStep.the-variants.{Part, Ended, Refused}
+use Rattle.parts.specs.declared.step.ScanStep.{ScanStep}
+use Rattle.parts.specs.declared.step.ScanStep.the-variants.{Part, Ended, Refused}
 use Rattle.numbers.proofs.Choice.{by-test}
 use Rattle.chain.proofs.ChainLaws.{end-on}
 

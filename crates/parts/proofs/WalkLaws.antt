@@ -19,7 +19,7 @@ use Rattle.parts.specs.declared.scan.Scanned.{Scanned}
 use Rattle.parts.specs.declared.walk.Passed.{Passed}
 use Rattle.parts.specs.declared.walk.Quarters.{Quarters}
 use Rattle.parts.specs.declared.walk.Walked.{Walked}
-use Rattle.parts.specs.declared.scan.ScanStep.the-variants as found
+use Rattle.parts.specs.declared.step.ScanStep.the-variants as found
 use Rattle.parts.specs.declared.scan.Scanned.the-variants as answer
 use Rattle.parts.specs.declared.walk.Walked.the-variants as walked
 use Rattle.parts.proofs.ScanLaws.{part-offset, move-passed, rises, stop, scan-ended, scan-refused, scan-part, entries-ended, entries-part, entries-next}

@@ -13,7 +13,7 @@ use Rattle.parts.specs.Scan.{scanStepAt}
 use Rattle.parts.specs.Walk.{Reached}
 use Rattle.parts.specs.declared.walk.Stop.{Stop}
 use Rattle.parts.specs.declared.walk.Passed.{Passed}
-use Rattle.parts.specs.declared.scan.ScanStep.the-variants as step
+use Rattle.parts.specs.declared.step.ScanStep.the-variants as step
 use Rattle.parts.specs.declared.walk.Stop.the-variants as stop
 
 -- a row's bytes are zeros, by three numbers of 8 that overlap

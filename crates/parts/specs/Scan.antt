@@ -13,9 +13,9 @@ use Rattle.types.specs.declared.PartNumbers.the-variants.{Known}
 use Rattle.types.specs.declared.TilePartEntry.{TilePartEntry}
 use Rattle.chain.specs.Chain.{Move, end, on, Visit, Chain, chain}
 use Rattle.parts.specs.Sot.{lsot, isot, psot, tpsot, tnsot}
-use Rattle.parts.specs.declared.scan.ScanStep.{ScanStep}
+use Rattle.parts.specs.declared.step.ScanStep.{ScanStep}
 use Rattle.parts.specs.declared.scan.Scanned.{Scanned}
-use Rattle.parts.specs.declared.scan.ScanStep.the-variants as step
+use Rattle.parts.specs.declared.step.ScanStep.the-variants as step
 use Rattle.parts.specs.declared.scan.Scanned.the-variants as answer
 
 -- the record of a tile-part of n bytes

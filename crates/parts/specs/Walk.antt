@@ -11,7 +11,7 @@ use Rattle.parts.specs.declared.walk.Stop.{Stop}
 use Rattle.parts.specs.declared.walk.Passed.{Passed}
 use Rattle.parts.specs.declared.walk.Quarters.{Quarters}
 use Rattle.parts.specs.declared.walk.Walked.{Walked}
-use Rattle.parts.specs.declared.scan.ScanStep.the-variants as step
+use Rattle.parts.specs.declared.step.ScanStep.the-variants as step
 use Rattle.parts.specs.declared.scan.Scanned.the-variants as answer
 use Rattle.parts.specs.declared.walk.Stop.the-variants as stop
 use Rattle.parts.specs.declared.walk.Walked.the-variants as walked

@@ -20,7 +20,7 @@ fn write_part(codestream: &[u8], at: usize, table: &mut [u8], row: usize) -> usi
     ensures { λ _. ⌜ now (table .exit) ≡ put (now (table .entry)) row (rowOf (entryOf (now (codestream .entry)) at (psot (now (codestream .entry)) at))) ⌝ }
 {
     let psot = numbers::read_u32(codestream, at + PSOT);
-    let entry = crate::scan::entry_at(codestream, at, psot as u64);
+    let entry = crate::step::entry_at(codestream, at, psot as u64);
     types::write_row(table, row, entry);
     at + psot as usize
 }
@@ -59,10 +59,10 @@ fn fill_rest(codestream: &[u8], start: usize, count: usize, table: &mut [u8], fi
     let mut row = first_row;
     let mut i: usize = 0;
     while i < count {
-        let entry = crate::scan::part_at(codestream, at);
+        let entry = crate::step::part_at(codestream, at);
         types::write_row(table, row, entry);
         row += ROW;
-        at = crate::scan::next_at(codestream, at);
+        at = crate::step::next_at(codestream, at);
         i += 1;
     }
 }

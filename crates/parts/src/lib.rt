@@ -3,4 +3,5 @@ pub mod fill;
 pub mod order;
 pub mod scan;
 pub mod split;
+pub mod step;
 pub mod walk;

@@ -5,8 +5,8 @@ ghost use Prim.Native.Nat.{_^_, _≤_, _<_};
 ghost use lib.ListN.{length};
 ghost use Rattle.parts.specs.Scan.{scanFrom, judged, scanned};
 ghost use Rattle.parts.specs.Walk.{Passes, Halved, quartersBy, walkedAs, Runs};
-use crate::scan::ScanStep;
 use crate::scan::Scanned;
+use crate::step::ScanStep;
 use types::CodestreamOffset;
 use types::Refusal;
 
@@ -46,7 +46,7 @@ fn pass(codestream: &[u8], start: usize, most: u64) -> Passed
     let mut at = start;
     let mut count: u64 = 0;
     while count < most {
-        let step = crate::scan::scan_step(codestream, at);
+        let step = crate::step::scan_step(codestream, at);
         match step {
             ScanStep::Part(entry) => {
                 count += 1;

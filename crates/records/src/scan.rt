@@ -24,9 +24,9 @@ pub fn store_part(codestream: &[u8], at: usize, table: &mut [TilePartEntry], i: 
     ensures { λ r. ⌜ r ≡ at + psot (now (codestream .entry)) at ⌝ }
     ensures { λ _. ⌜ now (table .exit) ≡ put (now (table .entry)) i (partAt (now (codestream .entry)) at ∷ []) ⌝ }
 {
-    let entry = parts::scan::part_at(codestream, at);
+    let entry = parts::step::part_at(codestream, at);
     table[i] = entry;
-    parts::scan::next_at(codestream, at)
+    parts::step::next_at(codestream, at)
 }
 
 // Stores the records of the four runs, one of each in turn, and tells where they end.

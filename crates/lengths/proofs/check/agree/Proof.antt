@@ -5,7 +5,7 @@ use mathlib.Core.Logic.{⊎-elim}
 use borrow.Author.Tests.{eqb-true, eqb-false}
 use borrow.Author.Needs.{needs}
 use Rattle.parts.specs.Scan.{scanStepAt}
-use Rattle.parts.specs.declared.scan.ScanStep.the-variants.{Part}
+use Rattle.parts.specs.declared.step.ScanStep.the-variants.{Part}
 use Rattle.parts.proofs.ScanLaws.{part-stands, part-offset}
 use Rattle.lengths.specs.Agree.{agreedBy}
 use Rattle.lengths.specs.declared.check.Agreed.the-variants.{To}

@@ -5,7 +5,7 @@ use mathlib.Core.Path.{_≡_, sym, _∙_}
 use lib.ListN.{length}
 use borrow.Author.Needs.{needs}
 use borrow.Author.Tests.{not-false, not-true}
-use Rattle.parts.specs.declared.scan.ScanStep.the-variants.{Part}
+use Rattle.parts.specs.declared.step.ScanStep.the-variants.{Part}
 use Rattle.parts.specs.Scan.{scanStepAt}
 use Rattle.parts.proofs.ScanLaws.{part-stands, part-offset}
 use Rattle.parts.proofs.WalkLaws.{reached-few}

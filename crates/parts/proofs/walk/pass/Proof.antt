@@ -6,7 +6,7 @@ use mathlib.Core.Path.{_≡_, sym, ap, _∙_}
 use borrow.Author.Needs.{needs}
 use Rattle.parts.proofs.ScanLaws.{part-stands, part-offset}
 use Rattle.parts.proofs.WalkLaws.{reached-start, reached-next}
-use Rattle.parts.specs.declared.scan.ScanStep.the-variants.{Part}
+use Rattle.parts.specs.declared.step.ScanStep.the-variants.{Part}
 use Rattle.parts.specs.declared.walk.Passed.{Passed}
 use Rattle.parts.specs.Scan.{scanStepAt}
 use Rattle.parts.specs.Walk.{Reached}

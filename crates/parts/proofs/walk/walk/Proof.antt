@@ -10,7 +10,7 @@ use lib.ListN.{length, getD, set, length-set}
 use lib.Seq.{getD-set-same}
 use borrow.Author.Needs.{needs}
 use Rattle.parts.proofs.WalkLaws.{reached-start, reached-on, reached-few, reached-all, reached-ended, reached-refused, Marked, marked-none, marked-halved, marked-more, marked-quarters, Doubled, doubled-none, doubled-more, doubled-on, doubled-last, quarters-all}
-use Rattle.parts.specs.declared.scan.ScanStep.the-variants as found
+use Rattle.parts.specs.declared.step.ScanStep.the-variants as found
 use Rattle.parts.specs.declared.walk.Passed.{Passed}
 use Rattle.parts.specs.declared.walk.Quarters.{Quarters}
 use Rattle.parts.specs.declared.walk.Walked.the-variants.{Table}

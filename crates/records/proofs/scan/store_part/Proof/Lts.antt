@@ -69,7 +69,7 @@ hs = List._∷_ Syntax.valueLocal (List._∷_ Syntax.valueLocal (List._∷_ Synt
     (List._∷_ Syntax.valueLocal (List._∷_ Syntax.valueLocal List.[])))))))
 
 abbrev b0 : Syntax.Body
-b0 = Syntax.call "parts::scan::part_at" (List._∷_ (Syntax.copy (Syntax.place 1 List.[])) (List._∷_ (Syntax.copy (Syntax.place 2 List.[])) List.[])) (Syntax.place 5 List.[])
+b0 = Syntax.call "parts::step::part_at" (List._∷_ (Syntax.copy (Syntax.place 1 List.[])) (List._∷_ (Syntax.copy (Syntax.place 2 List.[])) List.[])) (Syntax.place 5 List.[])
 
 abbrev b1 : Syntax.Body
 b1 = Syntax.assign (Syntax.place 6 List.[]) (Syntax.op2 (Syntax.mul Syntax.unsigned) (Syntax.copy (Syntax.place 4 List.[])) (Syntax.int Syntax.w64 24))
@@ -81,7 +81,7 @@ abbrev b3 : Syntax.Body
 b3 = Syntax.assign (Syntax.place 7 (List._∷_ (Syntax.deref LentTilePartEntry.spelled) List.[])) (Syntax.rvOpd (Syntax.copy (Syntax.place 5 List.[])))
 
 abbrev b4 : Syntax.Body
-b4 = Syntax.call "parts::scan::next_at" (List._∷_ (Syntax.copy (Syntax.place 1 List.[])) (List._∷_ (Syntax.copy (Syntax.place 2 List.[])) List.[])) (Syntax.place 0 List.[])
+b4 = Syntax.call "parts::step::next_at" (List._∷_ (Syntax.copy (Syntax.place 1 List.[])) (List._∷_ (Syntax.copy (Syntax.place 2 List.[])) List.[])) (Syntax.place 0 List.[])
 
 abbrev b5 : Syntax.Body
 b5 = Syntax.return
@@ -330,7 +330,7 @@ module _ (claims· : Claims) where
     module _ (M : Type 1) where
       abbrev pub Closed : Type 2
       Closed = (𝓤 : URA.URA M) (H : Wp.Heap 𝓤) (A : Atoms.Atoms 𝓤) (W : Kit.Given 𝓤 H A) (𝓣 : Wp.Tables 𝓤 H) (known0 : Plain.Known 𝓤 H A W 𝓣 1 ps·0 r·0 (claims· .0) (claims· .1)
-          "parts::scan::part_at") (known1 : Plain.Known 𝓤 H A W 𝓣 1 ps·1 r·1 (claims· .2) (claims· .3) "parts::scan::next_at") → Statement.Triple 𝓤 (Wp.WpFn 𝓤 H (𝓣 .C) (𝓣 .Λ)
+          "parts::step::part_at") (known1 : Plain.Known 𝓤 H A W 𝓣 1 ps·1 r·1 (claims· .2) (claims· .3) "parts::step::next_at") → Statement.Triple 𝓤 (Wp.WpFn 𝓤 H (𝓣 .C) (𝓣 .Λ)
           (Function.fnOf 2 ps r xs m hs body)) (Function.plainOf 𝓤 H A 2 ps r Pre· Post·)
 
     module _ where
@@ -375,8 +375,8 @@ module _ (claims· : Claims) where
 
       module _ {M : Type 1} (𝓤 : URA.URA M) (H : Wp.Heap 𝓤) (A : Atoms.Atoms 𝓤) (W : Kit.Given 𝓤 H A) (𝓣 : Wp.Tables 𝓤 H) where
         abbrev Knowns : Type 1
-        Knowns = Plain.Known 𝓤 H A W 𝓣 1 ps·0 r·0 (claims· .0) (claims· .1) "parts::scan::part_at" × Plain.Known 𝓤 H A W 𝓣 1 ps·1 r·1 (claims· .2) (claims· .3)
-            "parts::scan::next_at"
+        Knowns = Plain.Known 𝓤 H A W 𝓣 1 ps·0 r·0 (claims· .0) (claims· .1) "parts::step::part_at" × Plain.Known 𝓤 H A W 𝓣 1 ps·1 r·1 (claims· .2) (claims· .3)
+            "parts::step::next_at"
 
       module _ (κs : Lifetimes.Lfts 2) (qs : Lifetimes.Shares 2) where
         abbrev G0 : Row.Cx
@@ -438,7 +438,7 @@ module _ (claims· : Claims) where
               Syntax.w64))) d1
 
           d3 : Typed.Typed 𝓤 H A 𝓣 E G9 b6 Δ0 at3
-          d3 = Typed.s-seq 𝓤 H A W 𝓣 E G9 G10 b4 b5 Δ0 (Typed.both s8) at2 (Plain.t-call-plain 𝓤 H A W 𝓣 1 ps·1 r·1 (claims· .2) (claims· .3) "parts::scan::next_at" (known .1) E (λ
+          d3 = Typed.s-seq 𝓤 H A W 𝓣 E G9 G10 b4 b5 Δ0 (Typed.both s8) at2 (Plain.t-call-plain 𝓤 H A W 𝓣 1 ps·1 r·1 (claims· .2) (claims· .3) "parts::step::next_at" (known .1) E (λ
               pos β. β) G9 (record { pos = 1; ty = Syntax.tyRef (Syntax.named 0) Syntax.imm (Syntax.tyInt Syntax.w8); ref = λ x. x }, (Num.vAt 2 λ x. x, tt)) 0 (List._∷_ 0
               List.[]) (Call.sub-id 𝓤 H A W (G9 .slots)) (
                 ShrSlice.spares-sslice 𝓤 H A W (Referent.rtF (Referent.fInt Syntax.w8)) (Syntax.tyRef (Syntax.named 0) Syntax.imm
@@ -484,7 +484,7 @@ module _ (claims· : Claims) where
               Syntax.w64)) Path'.refl (λ u. Path'.refl) λ u. tt) d8
 
           d10 : Typed.Typed 𝓤 H A 𝓣 E G2 b10 Δ0 at10
-          d10 = Typed.s-seq 𝓤 H A W 𝓣 E G2 G3 b0 b9 Δ0 (Typed.both s1) at9 (Plain.t-call-plain 𝓤 H A W 𝓣 1 ps·0 r·0 (claims· .0) (claims· .1) "parts::scan::part_at" (known .0) E (λ
+          d10 = Typed.s-seq 𝓤 H A W 𝓣 E G2 G3 b0 b9 Δ0 (Typed.both s1) at9 (Plain.t-call-plain 𝓤 H A W 𝓣 1 ps·0 r·0 (claims· .0) (claims· .1) "parts::step::part_at" (known .0) E (λ
               pos β. β) G2 (record { pos = 1; ty = Syntax.tyRef (Syntax.named 0) Syntax.imm (Syntax.tyInt Syntax.w8); ref = λ x. x }, (Num.vAt 2 λ x. x, tt)) 5 (List._∷_ 0
               List.[]) (Call.sub-id 𝓤 H A W (G2 .slots)) (
                 ShrSlice.spares-sslice 𝓤 H A W (Referent.rtF (Referent.fInt Syntax.w8)) (Syntax.tyRef (Syntax.named 0) Syntax.imm
@@ -722,6 +722,6 @@ module _ (claims· : Claims) where
           }
 
         module _ {M : Type 1} (𝓤 : URA.URA M) (H : Wp.Heap 𝓤) (A : Atoms.Atoms 𝓤) (W : Kit.Given 𝓤 H A) (𝓣 : Wp.Tables 𝓤 H) (known0 : Plain.Known 𝓤 H A W 𝓣 1 ps·0 r·0 (claims· .0)
-            (claims· .1) "parts::scan::part_at") (known1 : Plain.Known 𝓤 H A W 𝓣 1 ps·1 r·1 (claims· .2) (claims· .3) "parts::scan::next_at") where
+            (claims· .1) "parts::step::part_at") (known1 : Plain.Known 𝓤 H A W 𝓣 1 ps·1 r·1 (claims· .2) (claims· .3) "parts::step::next_at") where
           pub spec : Statement.Triple 𝓤 (Wp.WpFn 𝓤 H (𝓣 .C) (𝓣 .Λ) (Function.fnOf 2 ps r xs m hs body)) (Function.plainOf 𝓤 H A 2 ps r Pre· Post·)
           spec = Plain.t-fn-plain 𝓤 H A W 𝓣 2 ps r xs m hs body (λ κs qs bs. Φ) (λ κs qs bs bd. typed κs qs 𝓤 H A W 𝓣 (known0, known1) bs bd) Pre· Post· asked

@@ -1,10 +1,10 @@
 -- `Tie` of `records::scan/store_part`, written by tools/twin.py from twins/records.twin: change that, and not this.
-use Rattle.parts.proofs.scan.next_at.Met
-use Rattle.parts.proofs.scan.next_at.Reads
-use Rattle.parts.proofs.scan.next_at.Symbol
-use Rattle.parts.proofs.scan.part_at.Met as Met'
-use Rattle.parts.proofs.scan.part_at.Reads as Reads'
-use Rattle.parts.proofs.scan.part_at.Symbol as Symbol'
+use Rattle.parts.proofs.step.next_at.Met
+use Rattle.parts.proofs.step.next_at.Reads
+use Rattle.parts.proofs.step.next_at.Symbol
+use Rattle.parts.proofs.step.part_at.Met as Met'
+use Rattle.parts.proofs.step.part_at.Reads as Reads'
+use Rattle.parts.proofs.step.part_at.Symbol as Symbol'
 use Rattle.records.proofs.scan.store_part.Code
 use Rattle.records.proofs.scan.store_part.Key
 use Rattle.records.proofs.readings.scan.store_part.Kinds
@@ -63,5 +63,5 @@ module _ {M : Type 1} where
         𝓖 = 𝓖;
         𝓡 = 𝓡;
       }) (Reads''.passes record { M = M; 𝓤 = 𝓤; H = H; 𝓜 = 𝓜; 𝓖 = 𝓖; 𝓡 = 𝓡 }) λ g. closed 𝓤 H (𝓖 .A) (Running.givenOf 𝓤 H 𝓜 𝓖) (Run.Over 𝓤 H 𝓜 𝓖 𝓡 Code.env)
-      (Reads'.known record { M = M; 𝓤 = 𝓤; H = H; 𝓜 = 𝓜; 𝓖 = 𝓖; 𝓡 = 𝓡 } Code.env Symbol'.name Symbol'.routine Code.calls-parts·scan·part-at (Met'.met 𝓤 H 𝓜 𝓖 𝓡)) (Reads.known
-      record { M = M; 𝓤 = 𝓤; H = H; 𝓜 = 𝓜; 𝓖 = 𝓖; 𝓡 = 𝓡 } Code.env Symbol.name Symbol.routine Code.calls-parts·scan·next-at (Met.met 𝓤 H 𝓜 𝓖 𝓡))
+      (Reads'.known record { M = M; 𝓤 = 𝓤; H = H; 𝓜 = 𝓜; 𝓖 = 𝓖; 𝓡 = 𝓡 } Code.env Symbol'.name Symbol'.routine Code.calls-parts·step·part-at (Met'.met 𝓤 H 𝓜 𝓖 𝓡)) (Reads.known
+      record { M = M; 𝓤 = 𝓤; H = H; 𝓜 = 𝓜; 𝓖 = 𝓖; 𝓡 = 𝓡 } Code.env Symbol.name Symbol.routine Code.calls-parts·step·next-at (Met.met 𝓤 H 𝓜 𝓖 𝓡))

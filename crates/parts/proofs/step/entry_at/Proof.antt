@@ -2,8 +2,8 @@
 use borrow.Author.Needs.{needs}
 use Rattle.types.specs.declared.PartNumbers.the-variants.{Known}
 use Rattle.parts.specs.Sot.{tpsot, tnsot}
-use Rattle.parts.proofs.scan.entry_at.Statement.{statement}
-use Rattle.parts.proofs.scan.entry_at.Tie as tie
+use Rattle.parts.proofs.step.entry_at.Statement.{statement}
+use Rattle.parts.proofs.step.entry_at.Tie as tie
 
 add-read-u16 : tie.Need-add-read-u16
 add-read-u16 c = search needs

@@ -3,11 +3,11 @@ use native.Mathlib.Omega.{arith}
 use mathlib.Core.Path.{_≡_, sym, ap, _∙_}
 use borrow.Author.Needs.{needs}
 use Rattle.parts.proofs.ScanLaws.{sot-lsot, sot-rest, sot-past, sot-part}
-use Rattle.parts.specs.declared.scan.ScanStep.the-variants.{Part}
+use Rattle.parts.specs.declared.step.ScanStep.the-variants.{Part}
 use Rattle.parts.specs.Scan.{entryOf}
 use Rattle.parts.specs.Sot.{lsot}
-use Rattle.parts.proofs.scan.sot_step.Statement.{statement}
-use Rattle.parts.proofs.scan.sot_step.Tie as tie
+use Rattle.parts.proofs.step.sot_step.Statement.{statement}
+use Rattle.parts.proofs.step.sot_step.Tie as tie
 
 -- past the first test
 ten : (c : tie.Else1) → lsot (c .before .before .before .args .codestream .now) (c .before .before .before .args .at) ≡ 10

@@ -3,8 +3,8 @@ use mathlib.Core.Path.{sym, ap, _∙_}
 use borrow.Author.Tests.{eq-eqb, ne-eqb}
 use borrow.Author.Needs.{needs}
 use Rattle.parts.specs.Scan.{entryOf}
-use Rattle.parts.proofs.scan.part_at.Statement.{statement}
-use Rattle.parts.proofs.scan.part_at.Tie as tie
+use Rattle.parts.proofs.step.part_at.Statement.{statement}
+use Rattle.parts.proofs.step.part_at.Tie as tie
 
 add-read-u32 : tie.Need-add-read-u32
 add-read-u32 c = search needs

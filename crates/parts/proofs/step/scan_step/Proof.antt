@@ -3,8 +3,8 @@ use native.Mathlib.Omega.{arith}
 use mathlib.Core.Path.{sym, _∙_}
 use borrow.Author.Needs.{needs}
 use Rattle.parts.proofs.ScanLaws.{step-outside, step-eoc, step-short, step-ends, step-sot, sot-no-eoc}
-use Rattle.parts.proofs.scan.scan_step.Statement.{statement}
-use Rattle.parts.proofs.scan.scan_step.Tie as tie
+use Rattle.parts.proofs.step.scan_step.Statement.{statement}
+use Rattle.parts.proofs.step.scan_step.Tie as tie
 
 returns : tie.Need-returns
 returns c = sym (step-outside _ _ (c .if1 .taken))

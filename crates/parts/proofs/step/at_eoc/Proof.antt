@@ -5,8 +5,8 @@ use lib.ListN.{length}
 use borrow.Author.Tests.{le-leb, lt-leb}
 use borrow.Author.Needs.{needs}
 use Rattle.parts.specs.Scan.{eocAt}
-use Rattle.parts.proofs.scan.at_eoc.Statement.{statement}
-use Rattle.parts.proofs.scan.at_eoc.Tie as tie
+use Rattle.parts.proofs.step.at_eoc.Statement.{statement}
+use Rattle.parts.proofs.step.at_eoc.Tie as tie
 
 sub-if1 : tie.Need-sub-if1
 sub-if1 c = search needs
