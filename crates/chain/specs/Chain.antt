@@ -40,7 +40,7 @@ counted short move (suc count) at = on_move (move at) at (counted short move cou
 abbrev pub Rises : {A : Type 0} → (ℕ → Move A) → ℕ → Type 0
 Rises move limit = (at next : ℕ) → move at ≡ on next → (at < next) × (at < limit)
 
--- The chain from a position. Where the step rises below the limit, the count is never used up (`chain-end` and `chain-on` are all that is
+-- The chain from a position. Where the step rises below the limit, the count is never used up (`chain_end` and `chain_on` are all that is
 -- ever used of this definition), and short is never the answer.
 unfoldable pub chain : {A : Type 0} → A → (ℕ → Move A) → ℕ → ℕ → Chain A
 unfolding counted

@@ -97,7 +97,7 @@ unfoldable pub placed : ℕ → List Entry → List TilePartEntry
 placed from [] = []
 placed from (e ∷ rest) = record_of from e ∷ placed (from + e.bytes) rest
 
--- how many bytes the entries' tile_parts have together
+-- how many bytes the entries' tile-parts have together
 unfoldable pub total : List Entry → ℕ
 total [] = 0
 total (e ∷ rest) = e.bytes + total rest

@@ -1,5 +1,7 @@
 // The main header of a codestream: one step over it, how far it reaches in a prefix, and its reading: the first SOT, the
 // decode header, the TLM records; and where a marker stands in it.
+#![tactic(auto)]
+
 pub mod edition;
 pub mod extent;
 pub mod find;

@@ -1,6 +1,8 @@
 // The product's archive: all that a host calls, exported for C, as thin calls on numbers and byte slices. Each answers 0 where
 // it accepts, or the refusal's number with the place in the first number lent; the other numbers then stay. What a function that
 // never refuses answers is said above it.
+#![tactic(auto)]
+
 pub mod assembly;
 pub mod boxes;
 pub mod by_tile;

@@ -1,4 +1,4 @@
--- A tile's numbers stay where its tile_parts are joined and where they are assembled: so the tile_parts of a tile stand in order in the codestream that is
+-- A tile's numbers stay where its tile-parts are joined and where they are assembled: so the tile-parts of a tile stand in order in the codestream that is
 -- assembled of them, under index 0, exactly where they stood in order.
 use Prim.Native.Nat.{ℕ, ◌+◌}
 use native.Mathlib.Omega.{arith}

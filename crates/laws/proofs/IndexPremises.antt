@@ -29,7 +29,7 @@ use Rattle.laws.proofs.Demand3Premises.{A-accepted, A-assembles}
 abbrev entry : ℕ → ℕ → ℕ → TilePartEntry
 entry index offset long = record { tile_index = index; numbers = Known 0 1; offset = record { 0 = offset }; length = long }
 
--- ---- `run-of-tile` and its kin: the tile has 16 bits. So has every tile that can be asked for.
+-- ---- `run_of_tile` and its kin: the tile has 16 bits. So has every tile that can be asked for.
 
 abbrev wide : List TilePartEntry
 wide = entry 65_536 0 12 ∷ []
@@ -56,7 +56,7 @@ wide_stands = refl
 pub number_too_wide : key_of 0 numbered ≡ key_of 1 0
 number_too_wide = refl
 
--- ---- `call-afresh`: what is lent is the index of the old entries
+-- ---- `call_afresh`: what is lent is the index of the old entries
 
 abbrev both : List TilePartEntry
 both = entry 0 0 12 ∷ entry 1 12 12 ∷ []
@@ -69,7 +69,7 @@ pub made : index_made (Entries 2) both (key_of 1 0 ∷ 9 ∷ []) ≡ key_of 0 0 
 unfolding index_made indexes
 made = ap (λ (l : List ℕ). l ++ []) (pair (entry 0 0 12) (entry 1 12 12) (omega arith) (omega arith))
 
--- ---- `same-run`, `same_parts`: the tile gained nothing
+-- ---- `same_run`, `same_parts`: the tile gained nothing
 
 pub gained : run_in (index_of ([] ++ (entry 7 0 12 ∷ []))) 7 ≡ key_of 7 0 ∷ []
 unfolding indexes

@@ -1,4 +1,4 @@
--- The premises of the laws on the order of a tile's tile_parts: each is needed, by a smallest input without it, and is met by something real.
+-- The premises of the laws on the order of a tile's tile-parts: each is needed, by a smallest input without it, and is met by something real.
 use Prim.Native.Nat.{ℕ}
 use native.Mathlib.Omega.{arith}
 use mathlib.Core.Path.{◌≡◌, refl, ap, ◌∙◌}
@@ -41,13 +41,13 @@ added_to_itself = refl
 pub A-extended : in_order 0 (entry 0 57 14 ∷ entry 5 71 16 ∷ []) ≡ in_order 0 (entry 0 57 14 ∷ [])
 A-extended = extended 0 (entry 0 57 14 ∷ []) (more (λ z. omega (arith, z)) none)
 
--- ---- `many-not`: TPsot is a byte. As it is in every scan and in every table of rows: `scan-many-not`, `rows-many-not`.
+-- ---- `many_not`: TPsot is a byte. As it is in every scan and in every table of rows: `scan_many_not`, `rows_many_not`.
 
 pub past_a_byte : in_order 7 (numbered 257 0) ≡ true
 unfolding orders numbered
 past_a_byte = refl
 
--- ---- `order-agrees`: a record's fields fit their widths in a row
+-- ---- `order_agrees`: a record's fields fit their widths in a row
 
 pub index_too_wide : in_order 65_536 (entry 65_536 0 12 ∷ []) ≡ true
 unfolding orders
@@ -63,7 +63,7 @@ A-rows =
     (more (record { index = omega arith; offset = omega arith; length = omega arith })
     (more (record { index = omega arith; offset = omega arith; length = omega arith }) none))
 
--- ---- `joined_numbers`, `assembled-in-order`: the tile's entries are 12 bytes or longer
+-- ---- `joined_numbers`, `assembled_in_order`: the tile's entries are 12 bytes or longer
 
 -- 10 bytes, the last two of the SOT segment being EOC: no part is split off
 abbrev ten : List ℕ

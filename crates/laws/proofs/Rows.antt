@@ -61,7 +61,7 @@ unfolding table_after records_after
 header_table_agrees n (Header h) s t = rows_over (table_by n s) h.tlm_entries t
 header_table_agrees n (Refused r) s t = refl
 
--- ---- the order of a tile's tile_parts
+-- ---- the order of a tile's tile-parts
 
 pub order_agrees : (tile : ℕ) {t : List TilePartEntry} → All Fits t → in_order tile (records_in (rows_of t)) ≡ in_order tile t
 order_agrees tile fits = ap (in_order tile) (records_back fits)

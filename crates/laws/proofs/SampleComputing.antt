@@ -1,4 +1,4 @@
--- What is unfolded to compute a walk, a numbering, an edition, a marker, a scan, the check of a length table, the order of tile_parts, an index by tile, a split, an assembly, a search, a listing of boxes or component sizes over sample bytes.
+-- What is unfolded to compute a walk, a numbering, an edition, a marker, a scan, the check of a length table, the order of tile-parts, an index by tile, a split, an assembly, a search, a listing of boxes or component sizes over sample bytes.
 use mathlib.Core.List.{flatten}
 use Rattle.numbers.specs.Bits.{bit, ones}
 use Rattle.numbers.specs.Bytes.{be, bytes_of, put}

@@ -144,7 +144,7 @@ pub A-table : tlm_table A ≡ entry 0 57 14 ∷ entry 5 71 16 ∷ []
 unfolding walks
 A-table = refl
 
--- its tile_parts
+-- its tile-parts
 pub A-scan : entries_from A 57 ≡ only 0 57 14 ∷ only 5 71 16 ∷ []
 unfolding scan_runs
 A-scan = refl
@@ -668,7 +668,7 @@ A-by-tlm = refl
 
 -- ---- * One tile-part, its TPsot and TNsot: 0 and 1; 0 and 0; 0 and 2; 1 and 1; 1 and 0.
 
--- the tile_parts of tile 7 with these numbers, SOT by SOT
+-- the tile-parts of tile 7 with these numbers, SOT by SOT
 abbrev parts7 : List (ℕ × ℕ) → List ℕ
 parts7 ns = flatten (map (λ (n : ℕ × ℕ). sot_of 7 12 n.0 n.1) ns)
 
@@ -771,7 +771,7 @@ pub row_short : in_order 7 (records_in (take 20 (row7 1))) ≡ false
 unfolding orders
 row_short = refl
 
--- ---- * 256 tile_parts with TPsot 0 to 255 and TNsot 0; the last one's TNsot 255. One more, whatever its numbers are.
+-- ---- * 256 tile-parts with TPsot 0 to 255 and TNsot 0; the last one's TNsot 255. One more, whatever its numbers are.
 
 -- so many from a number on
 unfoldable pub numbered : ℕ → ℕ → List TilePartEntry

@@ -1,4 +1,4 @@
--- Sample A is a codestream by the standard's own definitions: its header is made of the standard's SIZ and TLM, its tile_parts of the standard's SOT.
+-- Sample A is a codestream by the standard's own definitions: its header is made of the standard's SIZ and TLM, its tile-parts of the standard's SOT.
 -- So the laws that hold our reading to those definitions speak of it, and their premises are met by something real.
 use native.Mathlib.Omega.{arith}
 use mathlib.Core.Path.{◌≡◌, refl}
@@ -73,7 +73,7 @@ pub siz_length : length (segment_bytes siz) ≡ 43
 unfolding standards
 siz_length = refl
 
--- and its tile_parts what those of scans ask
+-- and its tile-parts what those of scans ask
 pub A-parts : AllRanges parts
 unfolding AllRanges
 A-parts =

@@ -30,7 +30,7 @@ use Rattle.tile.specs.declared.rewrite.TileSize.TheVariants as size
 abbrev pub AllBytes : List ℕ → Type 0
 AllBytes s = (i : ℕ) → get_or s i 0 < 256
 
--- by the walk itself: what either numbering accepts, the walk accepts too (header, `by-accepted`)
+-- by the walk itself: what either numbering accepts, the walk accepts too (header, `by_accepted`)
 pub record Accepted (s : List ℕ) (p : ℕ) : Type 0 where
   pub bytes : AllBytes s
   pub info : MainHeaderInfo

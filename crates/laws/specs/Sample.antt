@@ -92,7 +92,7 @@ unfoldable pub with_tlm : List ℕ → List ℕ
 unfolding head part
 with_tlm segments = head ++ segments ++ part 0 14 []
 
--- TLM with indices of 1 byte and lengths of 2, of any entries, before two tile_parts
+-- TLM with indices of 1 byte and lengths of 2, of any entries, before two tile-parts
 unfoldable pub listing : List ℕ → List ℕ
 unfolding two head tlm part
 listing entries = head ++ tlm 0x10 entries ++ part 0 14 [] ++ part 5 16 (0xaa ∷ 0xbb ∷ []) ++ two EOC

@@ -1,4 +1,4 @@
--- The check of a codestream by the standard: behind a main header of its segments the standard's table is compared, and behind its tile_parts the check passes
+-- The check of a codestream by the standard: behind a main header of its segments the standard's table is compared, and behind its tile-parts the check passes
 -- exactly where that table lists them.
 use Prim.Native.Nat.{ℕ, ◌+◌, ◌-◌, ◌≤◌}
 use native.Mathlib.Omega.{arith}
@@ -129,7 +129,7 @@ small_few k (t ∷ more) low h =
     let rest = small_few (k + length t.pointers) more counted (rw e at after) in rw e (omega arith))
     (λ e. let rest = small_few k more low (rw e at after) in rw e (omega arith))
 
--- ---- the tile_parts behind the header
+-- ---- the tile-parts behind the header
 
 -- the scan lists their tiles and lengths
 pairs_listed : (at : ℕ) (ts : List TilePart) → map pair_of (listed_from at ts) ≡ part_entries ts
@@ -165,7 +165,7 @@ module _ (g : Segment) (ps : List Piece) (t : TilePart) (ts : List TilePart) (be
       rw (from_sot g ps t ts behind) (check_region g ps (after_sot t ts behind) m region reaches (rw (from_sot g ps t ts behind) at short) distinct few) in
       whole ∙ rw (scan.stops, scan.entries, pairs_listed at (t ∷ ts))
 
-  -- The check passes exactly where no two segments have the same Ztlm and the standard's table lists the tile_parts, each with its tile and its length.
+  -- The check passes exactly where no two segments have the same Ztlm and the standard's table lists the tile-parts, each with its tile and its length.
   pub pass_standard : Distinct (tables ps) → iso_table (tables ps) ≡ part_entries (t ∷ ts) → checked (codestream g ps (t ∷ ts) behind) region ≡ Passes
   unfolding iso_table
   pass_standard distinct e =

@@ -1,4 +1,4 @@
--- A last tile-part by the standard with Psot 0 ends before EOC, and the scan's reaches over it: where the standard's table lists the tile_parts, the check
+-- A last tile-part by the standard with Psot 0 ends before EOC, and the scan's reaches over it: where the standard's table lists the tile-parts, the check
 -- differs at the last entry, by EOC's two bytes.
 use Prim.Native.Nat.{ℕ, suc, ◌+◌, ◌≤◌}
 use native.Mathlib.Nat.{zero-add, add-zero}

@@ -1,5 +1,5 @@
 -- The check of a length table (docs/RULES.md, "Length table check"): the entries of the TLM segments in the order of Ztlm, those without an index numbered on,
--- against the entries of the scan. The header is read of the first bytes of the codestream, the tile_parts of all of them.
+-- against the entries of the scan. The header is read of the first bytes of the codestream, the tile-parts of all of them.
 use Rattle.std.specs.Prelude.{ℕ, zero, suc, ◌+◌, ◌≡◌, Bool, cond, ◌&&◌, List, [], ◌∷◌, map, take, eqb}
 use Rattle.types.specs.declared.Refusal.{Refusal}
 use Rattle.types.specs.declared.PartNumbers.TheVariants.{NotKnown}

@@ -1,4 +1,4 @@
--- A length table and the tile_parts behind it, as ISO/IEC 15444-1 has them: what A.7.1 asks of the segments together, and what their table is to list.
+-- A length table and the tile-parts behind it, as ISO/IEC 15444-1 has them: what A.7.1 asks of the segments together, and what their table is to list.
 -- `proofs/Iso*.antt` say that our check compares these.
 use Rattle.std.specs.Prelude.{ℕ, ◌≡◌, List, [], ◌∷◌, ◌++◌}
 use Rattle.numbers.specs.Bytes.{bytes_of}
@@ -25,7 +25,7 @@ unfoldable pub part_entries : List TilePart → List Entry
 part_entries [] = []
 part_entries (t ∷ more) = record { index = t.Isot; bytes = length_of t } ∷ part_entries more
 
--- the main header, tile_parts each with its own Psot, EOC, and what stands behind it
+-- the main header, tile-parts each with its own Psot, EOC, and what stands behind it
 abbrev pub codestream : Segment → List Piece → List TilePart → List ℕ → List ℕ
 codestream siz pieces parts behind = main_header siz pieces ++ (parts_bytes parts ++ (bytes_of 2 EOC ++ behind))
 

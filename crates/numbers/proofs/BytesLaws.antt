@@ -10,6 +10,7 @@ use lib.ListN.{take-append-drop, length, get_or, set, take, drop, length-append,
 use lib.Seq.{take-length, take_all, length-take-le, get_or-append-add, get_or-append_seam, get_or-take, get_or-drop, set_split, sets, sets-eq, take_at, drop_at, drop-drop, take-append-le, drop-append-le, take-append-add, drop-append-add, take-suc, take-take, take-add}
 use lib.Arith.{mod-mul, digits_div, digits_mod, digits_lt}
 use lib.Dec.{lit<}
+use borrow.Rule.Slice.PartMut.{put_mid, Post-is}
 use Rattle.numbers.specs.Bytes.{be, bytes_of, bytes_of_four, span, turned, put}
 use Rattle.numbers.specs.Ceiling.{ceil_div}
 
@@ -122,12 +123,9 @@ put_apart s at xs to ys before room =
     ap (λ (n : ℕ). put (put s at xs) n ys) there ∙ apart s at xs (to - (at + length xs)) ys (omega arith) ∙ ap (λ (n : ℕ). put (put s n ys) at xs) (sym there)
 
 -- a copy onto all that stands from at on, whose end is as it was
-pub put_copy : (s : List ℕ) (at : ℕ) (bs : List ℕ) → at + length bs ≤ length s
-    → take at s ++ ((take (length bs) bs ++ drop (length bs) (take (length s - at) (drop at s))) ++ drop (length s - at) (drop at s)) ≡ put s at bs
+pub put_copy : (s : List ℕ) (at : ℕ) (bs : List ℕ) → put_mid at (at + length bs - at) s bs ≡ put s at bs
 unfolding put
-put_copy s at bs h =
-    let rest : length (drop at s) ≤ length s - at = omega (arith, length-drop at s) in
-    rw (take-length, take_all (length s - at) (drop at s) rest, drop_of_length-le (drop at s) rest, drop-drop (length bs) at s, append-nil)
+put_copy s at bs = rw (Post-is at (at + length bs) s (omega arith)) refl
 
 -- a number written in two halves of k bytes
 pub put_halves : (k v : ℕ) (s : List ℕ) (at : ℕ) → at + (k + k) ≤ length s

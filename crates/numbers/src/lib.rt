@@ -1,5 +1,7 @@
 // Numbers and the big-endian bytes that hold them: reads and writes of 2, 4 and 8 bytes, a copy, ceiling division,
 // clamped subtraction, the lesser and the greater of two.
+#![tactic(auto)]
+
 ghost use Rattle.std.specs.Prelude.{◌≡◌, ◌+◌, ◌-◌, ◌≤◌, ◌<◌, min, max, length, take, drop};
 ghost use Rattle.numbers.specs.Bytes.{be, bytes_of, bytes_of_four, turned, put};
 ghost use Rattle.numbers.specs.Ceiling.{ceil_div};
@@ -100,7 +102,9 @@ pub fn copy_at(source: &[u8], out: &mut [u8], at: usize) -> usize
     ensures value { result ≡ at + length source.now }
     ensures out_after { out.new ≡ put out.old at source.now }
 {
-    at + bytes::copy(source, &mut out[at..])
+    let end = at + source.len();
+    out[at..end].copy_from_slice(source);
+    end
 }
 
 // 32 bytes, as four numbers.

@@ -1,4 +1,4 @@
--- The scan over the standard's tile_parts. Behind any bytes the rows of an SOT are read as its fields, so the step finds the tile-part; the scan goes
+-- The scan over the standard's tile-parts. Behind any bytes the rows of an SOT are read as its fields, so the step finds the tile-part; the scan goes
 -- from each to the next, so it lists them all, and EOC ends it. Where the last has Psot 0, its entry takes EOC too.
 use Prim.Native.Nat.{ℕ, suc, ◌+◌, ◌≤◌}
 use native.Mathlib.Omega.{arith}

@@ -1,4 +1,4 @@
--- The answer for a tile of the standard's tile_parts: yes exactly where it has one and they are indexed as the standard has it.
+-- The answer for a tile of the standard's tile-parts: yes exactly where it has one and they are indexed as the standard has it.
 use Prim.Native.Nat.{ℕ, ◌+◌}
 use native.Mathlib.Numerals.{add-one}
 use native.Mathlib.Omega.{arith}

@@ -68,7 +68,7 @@ in_order_exactly tile es = (runs_counted (numbers_of tile es), counted_runs (num
 
 -- ---- of the tile's records alone
 
--- their numbers decide, whatever the tile is called and wherever its tile_parts lie
+-- their numbers decide, whatever the tile is called and wherever its tile-parts lie
 pub numbers_decide : (tile tile' : ℕ) (es fs : List TilePartEntry) → numbers_of tile es ≡ numbers_of tile' fs → in_order tile es ≡ in_order tile' fs
 unfolding in_order
 numbers_decide tile tile' es fs e = ap runs e
@@ -82,7 +82,7 @@ pub none_not : (tile : ℕ) (es : List TilePartEntry) → of_tile tile es ≡ []
 unfolding in_order numbers_of runs
 none_not tile es e = ap (λ (of : List TilePartEntry). runs (map (λ (x : TilePartEntry). x.numbers) of)) e
 
--- ---- with tile_parts of other tiles
+-- ---- with tile-parts of other tiles
 
 Other : ℕ → TilePartEntry → Type 0
 Other tile e = e.tile_index ≡ tile → ⊥

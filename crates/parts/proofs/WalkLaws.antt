@@ -1,5 +1,5 @@
--- How far a walk has come, and its marks: tile_parts passed one after the other leave the records behind them, and by marks that stand
--- evenly the runs of `quartersBy` do, which are those of `quartersOf`.
+-- How far a walk has come, and its marks: tile-parts passed one after the other leave the records behind them, and by marks that stand
+-- evenly the runs of `quarters_by` do, which are those of `quarters_of`.
 use Prim.Native.Nat.{ℕ, zero, suc, ◌^◌, ◌+◌, ◌-◌, ◌*◌, ◌/◌, ◌≤◌, ◌<◌}
 use native.Mathlib.Nat.{eq-or-lt_of_le, eq-zero-or-pos, mul_comm, mul_assoc, zero-mul, suc-mul, mul-le-mul_right, pow-succ', div-eq_of_lt-le, zero-div}
 use native.Mathlib.Omega.{arith}

@@ -39,7 +39,7 @@ unfoldable pub AllRanges : List TilePart → Type 0
 AllRanges [] = Unit {0}
 AllRanges (t ∷ more) = Ranges (length_of t) t × AllRanges more
 
--- tile_parts one after the other, each with its own Psot
+-- tile-parts one after the other, each with its own Psot
 unfoldable pub parts_bytes : List TilePart → List ℕ
 parts_bytes [] = []
 parts_bytes (t ∷ more) = part_bytes (length_of t) t ++ parts_bytes more
@@ -53,14 +53,14 @@ unfoldable pub listed_from : ℕ → List TilePart → List TilePartEntry
 listed_from at [] = []
 listed_from at (t ∷ more) = listed at (length_of t) t ∷ listed_from (at + length_of t) more
 
--- ---- the order of a tile's tile_parts (A.4.2: TPsot, TNsot)
+-- ---- the order of a tile's tile-parts (A.4.2: TPsot, TNsot)
 
 -- those of a tile, as they stand in the codestream
 unfoldable pub parts_of_tile : ℕ → List TilePart → List TilePart
 parts_of_tile tile [] = []
 parts_of_tile tile (t ∷ more) = cond (eqb t.Isot tile) (t ∷ parts_of_tile tile more) (parts_of_tile tile more)
 
--- TPsot is the tile-part's index, from 0, in the order of the codestream; TNsot is the correct number of the tile's tile_parts, or zero
+-- TPsot is the tile-part's index, from 0, in the order of the codestream; TNsot is the correct number of the tile's tile-parts, or zero
 pub data Indexed (number : ℕ) : ℕ → List TilePart → Type 0 where
   last : {index : ℕ} → Indexed number index []
   next : {index : ℕ} {t : TilePart} {more : List TilePart} → t.TPsot ≡ index → (t.TNsot ≡ number) ⊎ (t.TNsot ≡ 0) → Indexed number (suc index) more → Indexed number index (t ∷ more)

@@ -1,4 +1,4 @@
--- Whether the tile_parts of one tile stand in order (docs/RULES.md, "Tile-parts in order"): of a list of records, whether a table has them as rows or as
+-- Whether the tile-parts of one tile stand in order (docs/RULES.md, "Tile-parts in order"): of a list of records, whether a table has them as rows or as
 -- themselves. And the same in one pass, a record at a time.
 use Rattle.std.specs.Prelude.{ℕ, ◌+◌, ◌≡◌, ◌⊎◌, Bool, true, false, cond, not, ◌&&◌, ◌||◌, List, [], ◌∷◌, map, length, eqb}
 use Rattle.types.specs.declared.PartNumbers.{PartNumbers}

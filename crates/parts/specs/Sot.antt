@@ -18,6 +18,6 @@ psot s at = be 4 s (at + 6)
 abbrev pub tpsot : List ℕ → ℕ → ℕ
 tpsot s at = get_or s (at + 10) 0
 
--- how many tile_parts its tile has, or 0 where that is not said
+-- how many tile-parts its tile has, or 0 where that is not said
 abbrev pub tnsot : List ℕ → ℕ → ℕ
 tnsot s at = get_or s (at + 11) 0

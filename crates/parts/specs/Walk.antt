@@ -1,4 +1,4 @@
--- The judging walk and its marks: what passing some tile_parts says of the scan, and the runs that the marks lead to.
+-- The judging walk and its marks: what passing some tile-parts says of the scan, and the runs that the marks lead to.
 use Rattle.std.specs.Prelude.{ℕ, zero, suc, ◌+◌, ◌-◌, ◌*◌, ◌/◌, ◌≤◌, ◌<◌, cond, ◌≡◌, List, length, get_or, drop, ltb}
 use Rattle.parts.specs.Scan.{part_at, scan_step_at, scan_from, entries_from}
 use Rattle.parts.specs.declared.scan.Scanned.{Scanned}
@@ -11,7 +11,7 @@ use Rattle.parts.specs.declared.scan.Scanned.TheVariants as answer
 use Rattle.parts.specs.declared.walk.Stop.TheVariants as stop
 use Rattle.parts.specs.declared.walk.Walked.TheVariants as walked
 
--- ---- some tile_parts passed
+-- ---- some tile-parts passed
 
 -- so many records lie between the two: those from there on are the ones behind them, and the scan ends as from the start
 pub record Reached (s : List ℕ) (start at count : ℕ) : Type 0 where

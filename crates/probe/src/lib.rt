@@ -1,6 +1,8 @@
 // What only the runs beside the original call, exported for C: thin calls on numbers and byte slices. Each answers 0 where it
 // accepts, or the refusal's number with its place in the first number lent, unless it says otherwise. What a host calls is in crate
 // host, whose archive is linked into the same program: neither uses the other.
+#![tactic(auto)]
+
 pub mod by_tile;
 pub mod main_header;
 pub mod order;

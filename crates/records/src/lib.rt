@@ -1,5 +1,7 @@
 // Tables lent as slices of tile-part records: the scan, the reading of the main header, the order of a tile's tile-parts and the index
 // by tile, over the same steps as the functions on rows (crates parts, header and index), and tables of a program's own.
+#![tactic(auto)]
+
 pub mod by_tile;
 pub mod main_header;
 pub mod order;

@@ -2,6 +2,8 @@
 // component sizes, tiles by Annex B or kept in place, markers, the number of fillers, the order of tile-parts, their index by
 // tile, the check of a length table and the list of boxes, which that does not tell, the model (rust/beside, program `cases`). A
 // case is its kind, a byte; the length of its payload, 4 bytes; the payload.
+#![tactic(auto)]
+
 mod answers;
 mod by_tile;
 mod print;

@@ -1,5 +1,7 @@
 // The listing program (docs/RULES.md, "Sample A and its listing"): reads a file from standard input and lists its
 // codestream, main header, TLM entries and tile-parts. A refused stage's line is the last; otherwise `end` is.
+#![tactic(auto)]
+
 ghost use Rattle.std.specs.Prelude.{◌≡◌, length};
 
 use header::edition::Edition;

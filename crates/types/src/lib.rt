@@ -1,5 +1,7 @@
 // What passes between the crates: refusals, the two kinds of offset, areas, tile-part records, and a record's 21 bytes; and
 // the standard's marker codes and places of fields.
+#![tactic(auto)]
+
 pub mod markers;
 pub mod siz;
 

@@ -1,4 +1,4 @@
--- All tile_parts are passed, for the codestream has fewer than most: where the pass stops, they are counted.
+-- All tile-parts are passed, for the codestream has fewer than most: where the pass stops, they are counted.
 use Prim.Native.Nat.{ℕ, ◌<◌}
 use native.Mathlib.Omega.{arith}
 use mathlib.Core.List.{List, [], ◌∷◌}

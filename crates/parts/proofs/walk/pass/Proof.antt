@@ -1,4 +1,4 @@
--- As many tile_parts as were counted lie between the start and here; each turn is one more, and where it stops that is the contract.
+-- As many tile-parts as were counted lie between the start and here; each turn is one more, and where it stops that is the contract.
 use Prim.Native.Nat.{ℕ, ◌+◌, ◌-◌, ◌≤◌}
 use native.Mathlib.Omega.{arith}
 use mathlib.Core.List.{List}

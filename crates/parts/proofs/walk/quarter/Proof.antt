@@ -1,4 +1,4 @@
--- The marks are read at the run's length in marks, and at twice and three times it; that length is at most 15, so its tile_parts fit.
+-- The marks are read at the run's length in marks, and at twice and three times it; that length is at most 15, so its tile-parts fit.
 use Prim.Native.Nat.{◌^◌, ◌/◌, ◌≤◌}
 use native.Mathlib.Nat.{mul-le-mul}
 use native.Mathlib.Omega.{arith}
