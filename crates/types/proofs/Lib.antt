@@ -3,4 +3,3 @@ pub mod Offsets
 pub mod RowLaws
 pub mod RowReading
 pub mod RowStanding
-pub mod lent
