@@ -9,7 +9,7 @@ use crate::walk::WalkStep;
 use types::Refusal;
 use types::markers::CAP;
 
-#[derive(Drop)]
+#[derive(Clone, Copy)]
 pub enum Edition {
     // CAP is passed over as any segment.
     Older,

@@ -6,7 +6,7 @@ use crate::step::HeaderStep;
 use types::CodestreamOffset;
 use types::markers::SOC;
 
-#[derive(Drop)]
+#[derive(Clone, Copy)]
 pub enum MainHeaderExtent {
     // The first SOT stands there.
     Complete(CodestreamOffset),

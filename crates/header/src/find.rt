@@ -8,7 +8,7 @@ use crate::parse::Front;
 use crate::walk::WalkStep;
 use types::{CodestreamOffset, Refusal};
 
-#[derive(Drop)]
+#[derive(Clone, Copy)]
 pub enum Finding {
     // The first one.
     At(CodestreamOffset),

@@ -3,7 +3,7 @@ ghost use Rattle.std.specs.Prelude.{◌≡◌, ◌≤◌};
 ghost use Rattle.header.specs.Tlm.{Accepted, entry_count};
 ghost use Rattle.header.specs.Numbering.{numbering_of, next_number};
 
-#[derive(Drop)]
+#[derive(Clone, Copy)]
 pub enum Numbering {
     // On over the segments, in file order.
     CarriedOn,

@@ -15,7 +15,7 @@ use crate::walk::WalkStep;
 use types::markers::{SIZ, SOC};
 use types::{CodestreamOffset, ROW, Refusal};
 
-#[derive(Drop)]
+#[derive(Clone, Copy)]
 pub struct MainHeaderInfo {
     pub first_sot_offset: CodestreamOffset,
     pub decode_header_length: u64,
@@ -26,14 +26,14 @@ pub struct MainHeaderInfo {
 }
 
 // What stands before the walk's first step.
-#[derive(Drop)]
+#[derive(Clone, Copy)]
 pub enum Front {
     // SOC and SIZ, in no more bytes than a header may have.
     Sound,
     Refused(Refusal),
 }
 
-#[derive(Drop)]
+#[derive(Clone, Copy)]
 pub enum MainHeader {
     Header(MainHeaderInfo),
     Refused(Refusal),

@@ -5,7 +5,7 @@ ghost use Rattle.header.specs.Reading.{reading_of};
 use crate::edition::Edition;
 use crate::numbering::Numbering;
 
-#[derive(Drop)]
+#[derive(Clone, Copy)]
 pub struct Reading {
     pub numbering: Numbering,
     pub edition: Edition,
@@ -13,7 +13,7 @@ pub struct Reading {
 
 // As C gives it: a number for each choice, 0 for what is meant where nothing is said.
 #[repr(C)]
-#[derive(Drop)]
+#[derive(Clone, Copy)]
 pub struct ReadingNumbers {
     pub numbering: u32,
     pub edition: u32,

@@ -5,7 +5,7 @@ ghost use Rattle.header.specs.Step.{passing, delimits, step_at};
 use types::markers::SOT;
 
 // A marker that a step passes, with what belongs to it, and where the step goes on.
-#[derive(Drop)]
+#[derive(Clone, Copy)]
 pub struct Marker {
     pub code: u16,
     pub high_ff: bool,
@@ -24,7 +24,7 @@ impl Marker {
     }
 }
 
-#[derive(Drop)]
+#[derive(Clone, Copy)]
 pub enum HeaderStep {
     Sot,
     // A marker of two bytes.

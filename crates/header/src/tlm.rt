@@ -8,7 +8,7 @@ ghost use Rattle.header.specs.Tlm.{record_of, unindexed, entry_on, entries_on, p
 
 use types::{CodestreamOffset, PartNumbers, ROW, Refusal, TilePartEntry};
 
-#[derive(Drop)]
+#[derive(Clone, Copy)]
 pub enum Tlm {
     // So many whole entries.
     Entries(usize),

@@ -9,7 +9,7 @@ use types::Refusal;
 use types::markers::TLM;
 
 // A segment or a delimiter that was passed, and for a TLM segment how many entries it holds.
-#[derive(Drop)]
+#[derive(Clone, Copy)]
 pub struct Passed {
     pub next: usize,
     pub code: u16,
@@ -19,7 +19,7 @@ pub struct Passed {
     pub entries: usize,
 }
 
-#[derive(Drop)]
+#[derive(Clone, Copy)]
 pub enum WalkStep {
     Passed(Passed),
     FirstSot,

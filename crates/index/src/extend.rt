@@ -12,7 +12,7 @@ ghost use Rattle.index.specs.declared.extend.Indexed.TheVariants.{Refused};
 use crate::keys::ENTRIES;
 use types::{ROW, Refusal};
 
-#[derive(Drop)]
+#[derive(Clone, Copy)]
 pub enum Indexed {
     // So many entries.
     Entries(u64),

@@ -23,7 +23,7 @@ fn first_from(index: &[u64], tile: u64, from: usize) -> usize
 }
 
 // From a place on, to another that no longer belongs to it.
-#[derive(Drop)]
+#[derive(Clone, Copy)]
 struct Between {
     from: usize,
     to: usize,

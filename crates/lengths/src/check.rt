@@ -16,14 +16,14 @@ use parts::step::ScanStep;
 use types::{CodestreamOffset, Refusal, TilePartEntry};
 
 // What is said of a tile-part by the table, or by its SOT.
-#[derive(Drop)]
+#[derive(Clone, Copy)]
 pub enum Said {
     Part { tile: u16, length: u64 },
     // There are no more of them.
     Nothing,
 }
 
-#[derive(Drop)]
+#[derive(Clone, Copy)]
 pub struct Difference {
     // The entry's number, from 0, over all segments.
     pub number: u64,
@@ -33,7 +33,7 @@ pub struct Difference {
     pub standing: Said,
 }
 
-#[derive(Drop)]
+#[derive(Clone, Copy)]
 pub enum Check {
     // Every entry says what stands there, and none is missing.
     Passes,
@@ -42,7 +42,7 @@ pub enum Check {
 }
 
 // How an entry compares with what stands at a position.
-#[derive(Drop)]
+#[derive(Clone, Copy)]
 enum Agreed {
     // With the tile-part there, which ends there.
     To(usize),
@@ -50,7 +50,7 @@ enum Agreed {
 }
 
 // The entry with which the comparison stopped.
-#[derive(Drop)]
+#[derive(Clone, Copy)]
 struct Stop {
     number: u64,
     listed: Said,

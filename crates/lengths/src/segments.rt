@@ -7,7 +7,7 @@ use header::numbering::Numbering;
 use header::walk::WalkStep;
 use types::{CodestreamOffset, Refusal};
 
-#[derive(Drop)]
+#[derive(Clone, Copy)]
 pub enum Found {
     // The first SOT stands there, and nothing is refused of what stands before it.
     FirstSot(CodestreamOffset),

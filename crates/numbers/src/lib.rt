@@ -108,7 +108,7 @@ pub fn copy_at(source: &[u8], out: &mut [u8], at: usize) -> usize
 }
 
 // 32 bytes, as four numbers.
-#[derive(Drop)]
+#[derive(Clone, Copy)]
 struct Four {
     a: u64,
     b: u64,

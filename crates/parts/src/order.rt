@@ -5,7 +5,7 @@ ghost use Rattle.parts.specs.Order.{order_step, order_end, order_number, in_orde
 
 use types::{PartNumbers, ROW, TilePartEntry};
 
-#[derive(Drop)]
+#[derive(Clone, Copy)]
 pub enum Order {
     // So many of the tile's were passed, each in its place; and the TNsot that they gave, or 0.
     Due { passed: u64, given: u8 },

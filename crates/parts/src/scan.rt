@@ -9,7 +9,7 @@ use crate::step::ScanStep;
 use crate::walk::{Passed, Stop, Walked};
 use types::{CodestreamOffset, ROW, Refusal};
 
-#[derive(Drop)]
+#[derive(Clone, Copy)]
 pub enum Scanned {
     // So many records.
     Table(u64),

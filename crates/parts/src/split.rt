@@ -4,7 +4,7 @@ ghost use Rattle.parts.specs.Split.{split_step_at, parts_of, standing, part_numb
 
 use types::markers::{PSOT, SOT, SOT_SEGMENT};
 
-#[derive(Drop)]
+#[derive(Clone, Copy)]
 pub enum SplitStep {
     // A part, which ends there.
     Part(usize),

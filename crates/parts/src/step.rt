@@ -7,7 +7,7 @@ use types::markers::{EOC, ISOT, LSOT, LSOT_VALUE, PSOT, SOT, SOT_SEGMENT, TNSOT,
 use types::{CodestreamOffset, PartNumbers, Refusal, TilePartEntry};
 
 // Places are codestream offsets.
-#[derive(Drop)]
+#[derive(Clone, Copy)]
 pub enum ScanStep {
     // A tile-part; the next position is where it ends.
     Part(TilePartEntry),

@@ -8,7 +8,7 @@ use crate::scan::Scanned;
 use crate::step::ScanStep;
 use types::{CodestreamOffset, Refusal};
 
-#[derive(Drop)]
+#[derive(Clone, Copy)]
 pub enum Stop {
     // As many as were asked for.
     Full,
@@ -17,7 +17,7 @@ pub enum Stop {
 }
 
 // So many tile-parts were passed, up to there.
-#[derive(Drop)]
+#[derive(Clone, Copy)]
 pub struct Passed {
     pub count: u64,
     pub at: usize,
@@ -26,7 +26,7 @@ pub struct Passed {
 
 // All tile-parts of a scan. Its first are four runs of so many each, one behind the other, and at least one follows them; where the
 // second, the third and the fourth run start.
-#[derive(Drop)]
+#[derive(Clone, Copy)]
 pub struct Quarters {
     pub parts: u64,
     pub turns: usize,
@@ -35,7 +35,7 @@ pub struct Quarters {
     pub fourth: usize,
 }
 
-#[derive(Drop)]
+#[derive(Clone, Copy)]
 pub enum Walked {
     Table(Quarters),
     Refused(Refusal),

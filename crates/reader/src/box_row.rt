@@ -6,7 +6,7 @@ ghost use Rattle.reader.specs.BoxRow.{box_row_bytes, row_of, end_of};
 use types::FileOffset;
 
 // Its depth, 1 at the top; its type; where it starts; where its content starts, and the content's length.
-#[derive(Drop)]
+#[derive(Clone, Copy)]
 pub struct BoxEntry {
     pub depth: u8,
     pub kind: u32,

@@ -17,7 +17,7 @@ const UINF: u32 = 0x7569_6e66;
 const DEEPEST: u8 = 8;
 
 // What stands at a position of a list. Places are file offsets.
-#[derive(Drop)]
+#[derive(Clone, Copy)]
 pub enum ListStep {
     // A box that holds no list.
     Plain(BoxEntry),

@@ -10,7 +10,7 @@ use crate::box_row::{BoxEntry, ROW};
 use crate::box_step::ListStep;
 use types::Refusal;
 
-#[derive(Drop)]
+#[derive(Clone, Copy)]
 pub enum Counted {
     Boxes(u64),
     Refused(Refusal),

@@ -13,20 +13,20 @@ use types::markers::{SIZ, SOC};
 use types::{Area, Refusal, siz};
 
 // What the check tells: how many components there are, and where the image or the tile lies on the reference grid.
-#[derive(Drop)]
+#[derive(Clone, Copy)]
 pub struct Components {
     pub count: u16,
     pub area: Area,
 }
 
-#[derive(Drop)]
+#[derive(Clone, Copy)]
 pub enum ComponentsRead {
     Components(Components),
     Refused(Refusal),
 }
 
 // A component's samples, and its part of an area, counted in them.
-#[derive(Drop)]
+#[derive(Clone, Copy)]
 pub struct ComponentInfo {
     pub bits: u8,
     pub is_signed: bool,
@@ -35,7 +35,7 @@ pub struct ComponentInfo {
     pub area: Area,
 }
 
-#[derive(Drop)]
+#[derive(Clone, Copy)]
 pub enum ComponentRead {
     Component(ComponentInfo),
     // The number is past the last.

@@ -6,7 +6,7 @@ use header::extent::MainHeaderExtent;
 
 const FIRST_REGION: u64 = 65_536;
 
-#[derive(Drop)]
+#[derive(Clone, Copy)]
 pub struct Grown {
     // The length of the last region.
     pub region: u64,

@@ -10,7 +10,7 @@ use types::{CodestreamOffset, FileOffset, InCodestream, InFile, Refusal};
 // The type of the box that holds the codestream: "jp2c".
 const JP2C: u32 = 0x6a70_3263;
 
-#[derive(Drop)]
+#[derive(Clone, Copy)]
 pub enum Found {
     // Where it starts, and its length.
     Codestream(FileOffset, u64),
@@ -18,14 +18,14 @@ pub enum Found {
 }
 
 // A box's type, the length of its header, and its own length, header included.
-#[derive(Drop)]
+#[derive(Clone, Copy)]
 pub struct BoxHeader {
     pub kind: u32,
     pub header: u64,
     pub length: u64,
 }
 
-#[derive(Drop)]
+#[derive(Clone, Copy)]
 pub enum BoxRead {
     Box(BoxHeader),
     // Fewer than 8 bytes are left.
@@ -35,7 +35,7 @@ pub enum BoxRead {
 }
 
 // A step of the search: it ends with an answer, or goes on from a later position, which may lie past the end.
-#[derive(Drop)]
+#[derive(Clone, Copy)]
 enum BoxStep {
     Ended(Found),
     Next(usize),

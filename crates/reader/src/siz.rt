@@ -6,7 +6,7 @@ ghost use Rattle.reader.specs.Siz.{move_of, move_at, siz_at, siz_read, sample_ty
 use types::markers::SIZ;
 use types::{Refusal, siz};
 
-#[derive(Drop)]
+#[derive(Clone, Copy)]
 pub struct SizInfo {
     pub width: u32,
     pub height: u32,
@@ -15,21 +15,21 @@ pub struct SizInfo {
     pub is_signed: bool,
 }
 
-#[derive(Drop)]
+#[derive(Clone, Copy)]
 pub enum SizRead {
     Siz(SizInfo),
     Refused(Refusal),
 }
 
 // A step of the search: it ends with an answer, or goes on from a later position, which may lie past the end.
-#[derive(Drop)]
+#[derive(Clone, Copy)]
 enum SizStep {
     Ended(SizRead),
     Next(usize),
 }
 
 // How a picture's samples are held.
-#[derive(Drop)]
+#[derive(Clone, Copy)]
 pub enum SampleType {
     UInt8,
     Int8,

@@ -7,7 +7,7 @@ use crate::siz::field;
 use types::{Area, siz};
 
 // SIZ along one axis.
-#[derive(Drop)]
+#[derive(Clone, Copy)]
 pub struct Side {
     pub end: u32,
     pub origin: u32,
@@ -16,13 +16,13 @@ pub struct Side {
 }
 
 // A tile along one axis.
-#[derive(Drop)]
+#[derive(Clone, Copy)]
 pub struct Span {
     pub from: u32,
     pub to: u32,
 }
 
-#[derive(Drop)]
+#[derive(Clone, Copy)]
 pub enum GridTile {
     Tile(Area),
     // The fields make no grid of tiles.

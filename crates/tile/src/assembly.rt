@@ -12,7 +12,7 @@ use types::markers::{EOC, ISOT, SOT};
 
 const MAX: u64 = 0xffff_ffff_ffff_ffff;
 
-#[derive(Drop)]
+#[derive(Clone, Copy)]
 pub enum Range {
     // Inside the codestream.
     Kept { from: usize, to: usize },

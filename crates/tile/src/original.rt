@@ -6,14 +6,14 @@ use crate::siz::field;
 use types::{Area, siz};
 
 // A tile along one axis.
-#[derive(Drop)]
+#[derive(Clone, Copy)]
 pub enum Axis {
     Span { from: u32, to: u32 },
     // A step falls below 0 or passes 2^32-1.
     Outside,
 }
 
-#[derive(Drop)]
+#[derive(Clone, Copy)]
 pub enum TileArea {
     Tile(Area),
     // A step fails along an axis, or divides by 0.

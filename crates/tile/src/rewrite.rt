@@ -11,7 +11,7 @@ use crate::siz::MARKER;
 use types::markers::SIZ;
 use types::{Area, Refusal, siz};
 
-#[derive(Drop)]
+#[derive(Clone, Copy)]
 pub enum TileSize {
     // The header stays as it is: the tile has full size, or there is no SIZ to go by.
     Whole,
@@ -21,7 +21,7 @@ pub enum TileSize {
 }
 
 // The answer of a call that writes into lent output.
-#[derive(Drop)]
+#[derive(Clone, Copy)]
 pub enum Written {
     // So many bytes.
     Bytes(u64),

@@ -10,7 +10,7 @@ use crate::siz::{MARKER, field};
 use types::{Area, Refusal, siz};
 
 // The rule by which a tile's place is told.
-#[derive(Drop)]
+#[derive(Clone, Copy)]
 pub enum Rule {
     // The standard's.
     AnnexB,
@@ -20,7 +20,7 @@ pub enum Rule {
 }
 
 // Where a tile lies by a rule.
-#[derive(Drop)]
+#[derive(Clone, Copy)]
 pub enum Placed {
     Tile(Area),
     Refused(Refusal),

@@ -12,28 +12,28 @@ ghost use Rattle.types.specs.Row.{row_bytes, numbers_at, number_bytes, entry_at,
 
 // A refusal (docs/RULES.md, "Refusals"): its number, and its place, an offset whose start depends on the number; for 17 and
 // 18 it is what is needed.
-#[derive(Drop)]
+#[derive(Clone, Copy)]
 pub struct Refusal {
     pub number: u32,
     pub place: u64,
 }
 
 // Counted from the start of the file.
-#[derive(Drop)]
+#[derive(Clone, Copy)]
 pub struct FileOffset(pub u64);
 
 // Counted from the start of the codestream.
-#[derive(Drop)]
+#[derive(Clone, Copy)]
 pub struct CodestreamOffset(pub u64);
 
-#[derive(Drop)]
+#[derive(Clone, Copy)]
 pub enum InFile {
     At(FileOffset),
     // The sum passes 2^64-1.
     Past,
 }
 
-#[derive(Drop)]
+#[derive(Clone, Copy)]
 pub enum InCodestream {
     At(CodestreamOffset),
     // The place lies before the codestream.
@@ -91,7 +91,7 @@ impl FileOffset {
 }
 
 // An area of the reference grid (ISO/IEC 15444-1, B.2): from x0, y0 on, to x1, y1, which no longer belong to it.
-#[derive(Drop)]
+#[derive(Clone, Copy)]
 pub struct Area {
     pub x0: u32,
     pub y0: u32,
@@ -100,7 +100,7 @@ pub struct Area {
 }
 
 // A tile-part's number among its tile's, and how many its tile has.
-#[derive(Drop)]
+#[derive(Clone, Copy)]
 pub enum PartNumbers {
     // As its SOT has them; a TNsot of 0 says that the count is not given there.
     Known { tpsot: u8, tnsot: u8 },
@@ -110,7 +110,7 @@ pub enum PartNumbers {
 
 // One tile-part: its tile (Isot), its numbers, where it starts in the codestream, and its length from the SOT marker on. The
 // numbers stand second, where they make a record no longer: 24 bytes.
-#[derive(Drop)]
+#[derive(Clone, Copy)]
 pub struct TilePartEntry {
     pub tile_index: u16,
     pub numbers: PartNumbers,
