@@ -8,8 +8,7 @@ ghost use Rattle.host.specs.Rewrite.{written_number, written_value};
 use tile::rules::Rule;
 
 // By Annex B. `tile_parts`: rows as the scan writes them. `value`: bytes written, or a refusal's place.
-#[unsafe(no_mangle)]
-pub extern "C" fn winterhasp_build_minimal_codestream(
+pub fn winterhasp_build_minimal_codestream(
     decode_header: &[u8],
     tile_parts: &[u8],
     codestream: &[u8],
@@ -31,8 +30,7 @@ pub extern "C" fn winterhasp_build_minimal_codestream(
 }
 
 // The same by a rule.
-#[unsafe(no_mangle)]
-pub extern "C" fn winterhasp_build_minimal_codestream_by_rule(
+pub fn winterhasp_build_minimal_codestream_by_rule(
     decode_header: &[u8],
     tile_parts: &[u8],
     codestream: &[u8],

@@ -23,8 +23,7 @@ fn tell_boxes(answer: Counted, value: &mut u64) -> u32
 }
 
 // `value`: boxes, or a refusal's place. The table has a row for each 29 bytes.
-#[unsafe(no_mangle)]
-pub extern "C" fn winterhasp_list_boxes(file: &[u8], table: &mut [u8], value: &mut u64) -> u32
+pub fn winterhasp_list_boxes(file: &[u8], table: &mut [u8], value: &mut u64) -> u32
     ensures value { result ≡ boxes_number (listed file.now (length table.old / box_row_bytes)) }
     ensures value_after { value.new ≡ boxes_value (listed file.now (length table.old / box_row_bytes)) }
     ensures table_after { table.new ≡ listed_table file.now table.old }

@@ -8,8 +8,7 @@ ghost use Rattle.index.specs.Entries.{entries_by, given, given_rows};
 
 // Makes the index of a table's rows. `value`: entries, or the entries needed. The scratch needs room for as many, and then holds the
 // same.
-#[unsafe(no_mangle)]
-pub extern "C" fn winterhasp_index_tiles(
+pub fn winterhasp_index_tiles(
     table: &[u8],
     index: &mut [u64],
     scratch: &mut [u64],
@@ -18,15 +17,14 @@ pub extern "C" fn winterhasp_index_tiles(
     ensures value { result ≡ index_number (extended (length table.now / row_bytes) 0 (length index.old) (length scratch.old)) }
     ensures value_after { value.new ≡ index_value (extended (length table.now / row_bytes) 0 (length index.old) (length scratch.old)) }
     ensures index_after { index.new ≡ index_made (extended (length table.now / row_bytes) 0 (length index.old) (length scratch.old)) (records_in table.now) index.old }
-    ensures scratch_after_lem { scratch.new ≡ index_made (extended (length table.now / row_bytes) 0 (length index.old) (length scratch.old)) (records_in table.now) scratch.old }
+    ensures scratch_after { scratch.new ≡ index_made (extended (length table.now / row_bytes) 0 (length index.old) (length scratch.old)) (records_in table.now) scratch.old }
 {
     let answer = index::extend::index_tiles(table, index, scratch);
     index::extend::tell(answer, value)
 }
 
 // Extends an index whose first `have` keys are the index of the table's first `have` rows. The scratch needs room for the other rows' keys.
-#[unsafe(no_mangle)]
-pub extern "C" fn winterhasp_extend_index(
+pub fn winterhasp_extend_index(
     table: &[u8],
     have: u64,
     index: &mut [u64],
@@ -36,15 +34,14 @@ pub extern "C" fn winterhasp_extend_index(
     ensures value { result ≡ index_number (extended (length table.now / row_bytes) have (length index.old) (length scratch.old)) }
     ensures value_after { value.new ≡ index_value (extended (length table.now / row_bytes) have (length index.old) (length scratch.old)) }
     ensures index_after { index.new ≡ index_after (extended (length table.now / row_bytes) have (length index.old) (length scratch.old)) (records_in table.now) (old_of have (length table.now / row_bytes)) index.old }
-    ensures scratch_after_lem { scratch.new ≡ scratch_after (extended (length table.now / row_bytes) have (length index.old) (length scratch.old)) (records_in table.now) (old_of have (length table.now / row_bytes)) scratch.old }
+    ensures scratch_after { scratch.new ≡ scratch_after (extended (length table.now / row_bytes) have (length index.old) (length scratch.old)) (records_in table.now) (old_of have (length table.now / row_bytes)) scratch.old }
 {
     let answer = index::extend::extend_index(table, have as usize, index, scratch);
     index::extend::tell(answer, value)
 }
 
 // A tile's run: 1, and 0 where it has no entry. `first` is where the run stands in the index, and `count` how many keys it has.
-#[unsafe(no_mangle)]
-pub extern "C" fn winterhasp_tile_run(
+pub fn winterhasp_tile_run(
     index: &[u64],
     tile: u16,
     first: &mut u64,
@@ -58,8 +55,7 @@ pub extern "C" fn winterhasp_tile_run(
 }
 
 // A tile's rows out of the table that the index is of. `value`: entries, or the entries needed. `out` has a row for each 21 bytes.
-#[unsafe(no_mangle)]
-pub extern "C" fn winterhasp_tile_entries(
+pub fn winterhasp_tile_entries(
     table: &[u8],
     index: &[u64],
     tile: u16,

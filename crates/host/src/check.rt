@@ -63,8 +63,7 @@ fn tell_check(
 
 // 0 where the table passes, and nothing is told; 258 where it differs, and `value` is the entry's number; or a refusal, and `value` is
 // its place.
-#[unsafe(no_mangle)]
-pub extern "C" fn winterhasp_check_length_table(
+pub fn winterhasp_check_length_table(
     codestream: &[u8],
     region: u64,
     value: &mut u64,

@@ -84,8 +84,7 @@ fn tell_component(
 }
 
 // `components`: how many there are, or a refusal's place; the image's area on the reference grid.
-#[unsafe(no_mangle)]
-pub extern "C" fn winterhasp_read_components(
+pub fn winterhasp_read_components(
     codestream: &[u8],
     components: &mut u64,
     x0: &mut u64,
@@ -105,8 +104,7 @@ pub extern "C" fn winterhasp_read_components(
 }
 
 // The same with a tile's area, by Annex B.
-#[unsafe(no_mangle)]
-pub extern "C" fn winterhasp_read_components_in_tile(
+pub fn winterhasp_read_components_in_tile(
     codestream: &[u8],
     tile: u16,
     components: &mut u64,
@@ -127,8 +125,7 @@ pub extern "C" fn winterhasp_read_components_in_tile(
 }
 
 // The same by a rule.
-#[unsafe(no_mangle)]
-pub extern "C" fn winterhasp_read_components_in_tile_by_rule(
+pub fn winterhasp_read_components_in_tile_by_rule(
     codestream: &[u8],
     tile: u16,
     rule: u32,
@@ -152,8 +149,7 @@ pub extern "C" fn winterhasp_read_components_in_tile_by_rule(
 
 // One component: `bits` per sample, or a refusal's place; in `signed` 1 for a sign; how far its samples lie apart; and the image's
 // area in its samples. 256 where there is no such component.
-#[unsafe(no_mangle)]
-pub extern "C" fn winterhasp_component(
+pub fn winterhasp_component(
     codestream: &[u8],
     number: u64,
     bits: &mut u64,
@@ -180,8 +176,7 @@ pub extern "C" fn winterhasp_component(
 }
 
 // The same with a tile's area, by Annex B.
-#[unsafe(no_mangle)]
-pub extern "C" fn winterhasp_component_in_tile(
+pub fn winterhasp_component_in_tile(
     codestream: &[u8],
     tile: u16,
     number: u64,
@@ -209,8 +204,7 @@ pub extern "C" fn winterhasp_component_in_tile(
 }
 
 // The same by a rule.
-#[unsafe(no_mangle)]
-pub extern "C" fn winterhasp_component_in_tile_by_rule(
+pub fn winterhasp_component_in_tile_by_rule(
     codestream: &[u8],
     tile: u16,
     rule: u32,
@@ -240,8 +234,7 @@ pub extern "C" fn winterhasp_component_in_tile_by_rule(
 }
 
 // One component by itself, in an area that a check gave. It never refuses: 0, or 256 where there is no such component.
-#[unsafe(no_mangle)]
-pub extern "C" fn winterhasp_component_within(
+pub fn winterhasp_component_within(
     codestream: &[u8],
     area_x0: u32,
     area_y0: u32,

@@ -23,8 +23,7 @@ fn tell_finding(answer: Finding, value: &mut u64) -> u32
 }
 
 // `value`: the offset of the first one, or a refusal's place. 257 where there is none.
-#[unsafe(no_mangle)]
-pub extern "C" fn winterhasp_find_marker(codestream: &[u8], marker: u16, value: &mut u64) -> u32
+pub fn winterhasp_find_marker(codestream: &[u8], marker: u16, value: &mut u64) -> u32
     ensures value { result ≡ finding_number (finding codestream.now marker) }
     ensures value_after { value.new ≡ finding_value (finding codestream.now marker) value.old }
 {

@@ -3,8 +3,7 @@ ghost use Rattle.std.specs.Prelude.{◌≡◌};
 ghost use Rattle.reader.specs.Growth.{next_region, grown};
 
 // The answer is 0. `region`: the length of the last region; `enlargements`: how often it was enlarged.
-#[unsafe(no_mangle)]
-pub extern "C" fn winterhasp_grow_header_region(
+pub fn winterhasp_grow_header_region(
     codestream: &[u8],
     region: &mut u64,
     enlargements: &mut u64,
@@ -20,8 +19,7 @@ pub extern "C" fn winterhasp_grow_header_region(
 }
 
 // The answer is the region behind one of so many bytes, in a codestream of that length.
-#[unsafe(no_mangle)]
-pub extern "C" fn winterhasp_next_region(region: u64, length: u64) -> u64
+pub fn winterhasp_next_region(region: u64, length: u64) -> u64
     ensures { result ≡ next_region region length }
 {
     reader::growth::next_region(region, length)

@@ -1,4 +1,4 @@
-// The product's archive: all that a host calls, exported for C, as thin calls on numbers and byte slices. Each answers 0 where
+// All that a host calls, as thin calls on numbers and byte slices; crate host_c exports them for C. Each answers 0 where
 // it accepts, or the refusal's number with the place in the first number lent; the other numbers then stay. What a function that
 // never refuses answers is said above it.
 #![tactic(auto)]

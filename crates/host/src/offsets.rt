@@ -7,8 +7,7 @@ use types::{CodestreamOffset, FileOffset, InFile};
 
 // Where an offset of the codestream that starts at `start` lies in the file. 1: `value` is the place; 0: it passes 2^64-1, and
 // `value` stays.
-#[unsafe(no_mangle)]
-pub extern "C" fn winterhasp_in_file(offset: u64, start: u64, value: &mut u64) -> u32
+pub fn winterhasp_in_file(offset: u64, start: u64, value: &mut u64) -> u32
     ensures value { result ≡ place_number (in_file (record { 0 = offset }) (record { 0 = start })) }
     ensures value_after { value.new ≡ place_value (in_file (record { 0 = offset }) (record { 0 = start })) value.old }
 {

@@ -4,8 +4,7 @@ ghost use Rattle.types.specs.Row.{records_in};
 ghost use Rattle.parts.specs.Order.{in_order, order_number};
 
 // 1 where they do, and 0 where they do not, where the numbers of one are not known, and where there is none. `table` is read as rows of 21 bytes; a partial row at its end is none.
-#[unsafe(no_mangle)]
-pub extern "C" fn winterhasp_tile_in_order(table: &[u8], tile: u16) -> u32
+pub fn winterhasp_tile_in_order(table: &[u8], tile: u16) -> u32
     ensures { result ≡ order_number (in_order tile (records_in table.now)) }
 {
     parts::order::tell(parts::order::tile_in_order(table, tile))

@@ -10,8 +10,7 @@ use header::reading::{Reading, ReadingNumbers};
 
 // TLM entries without an index are numbered on over the segments, and CAP is passed over as any segment. `table` gets a row of 21 bytes for each TLM entry, `out` the decode header. `first_sot`: the first SOT's offset, or a refusal's
 // place; `decode_length`: the decode header's length; `entries`: the rows; `fillers`: the delimiters whose high byte is not FF.
-#[unsafe(no_mangle)]
-pub extern "C" fn winterhasp_parse_main_header(
+pub fn winterhasp_parse_main_header(
     codestream: &[u8],
     table: &mut [u8],
     out: &mut [u8],
@@ -37,8 +36,7 @@ pub extern "C" fn winterhasp_parse_main_header(
 }
 
 // The same, read as is said.
-#[unsafe(no_mangle)]
-pub extern "C" fn winterhasp_parse_main_header_by_reading(
+pub fn winterhasp_parse_main_header_by_reading(
     codestream: &[u8],
     reading: ReadingNumbers,
     table: &mut [u8],

@@ -26,8 +26,7 @@ pub fn tell_written(answer: Written, value: &mut u64) -> u32
 }
 
 // By Annex B. `value`: bytes written, or a refusal's place.
-#[unsafe(no_mangle)]
-pub extern "C" fn winterhasp_rewrite_siz_for_tile(
+pub fn winterhasp_rewrite_siz_for_tile(
     decode_header: &[u8],
     isot: u16,
     out: &mut [u8],
@@ -42,8 +41,7 @@ pub extern "C" fn winterhasp_rewrite_siz_for_tile(
 }
 
 // The same by a rule.
-#[unsafe(no_mangle)]
-pub extern "C" fn winterhasp_rewrite_siz_for_tile_by_rule(
+pub fn winterhasp_rewrite_siz_for_tile_by_rule(
     decode_header: &[u8],
     isot: u16,
     rule: u32,

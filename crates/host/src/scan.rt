@@ -6,8 +6,7 @@ ghost use Rattle.parts.specs.Scan.{scanned, scan_number, scan_value, scanned_tab
 use types::CodestreamOffset;
 
 // `value`: entries, or a refusal's place. The table has a row for each 21 bytes.
-#[unsafe(no_mangle)]
-pub extern "C" fn winterhasp_scan_sot_markers(
+pub fn winterhasp_scan_sot_markers(
     codestream: &[u8],
     first_sot_offset: u64,
     table: &mut [u8],

@@ -24,8 +24,7 @@ fn tell_found(answer: Found, start: &mut u64, length: &mut u64) -> u32
 }
 
 // `start`: where the codestream starts in the file, or a refusal's place; `length`: its length.
-#[unsafe(no_mangle)]
-pub extern "C" fn winterhasp_find_codestream(file: &[u8], start: &mut u64, length: &mut u64) -> u32
+pub fn winterhasp_find_codestream(file: &[u8], start: &mut u64, length: &mut u64) -> u32
     ensures value { result ≡ found_number (found_in file.now) }
     ensures start_after { start.new ≡ found_start (found_in file.now) }
     ensures length_after { length.new ≡ found_length (found_in file.now) length.old }

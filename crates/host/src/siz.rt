@@ -43,8 +43,7 @@ fn tell_siz(
 }
 
 // `width`: the image's width, or a refusal's place; `height`, `components`, `bits` per component, and in `signed` 1 for a sign.
-#[unsafe(no_mangle)]
-pub extern "C" fn winterhasp_parse_siz_marker(
+pub fn winterhasp_parse_siz_marker(
     codestream: &[u8],
     width: &mut u64,
     height: &mut u64,
@@ -78,8 +77,7 @@ fn type_number(answer: SampleType) -> u32
 
 // The type of a sample of so many bits, with a sign where `signed` is not 0. It never refuses: 0 is u8, 1 i8, 2 u16, 3 i16, 4 u32,
 // 5 i32.
-#[unsafe(no_mangle)]
-pub extern "C" fn winterhasp_pixel_type(bits: u8, signed: u32) -> u32
+pub fn winterhasp_pixel_type(bits: u8, signed: u32) -> u32
     ensures { result ≡ sample_number (sample_type bits (not (eqb signed 0))) }
 {
     let answer = reader::siz::pixel_type_from_siz(bits, signed != 0);

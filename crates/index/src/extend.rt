@@ -112,7 +112,7 @@ fn append(table: &[u8], old: usize, index: &mut [u64], new: &mut [u64])
 pub fn extend_index(table: &[u8], have: usize, index: &mut [u64], scratch: &mut [u64]) -> Indexed
     ensures value { result ≡ extended (length table.now / row_bytes) have (length index.old) (length scratch.old) }
     ensures index_after { index.new ≡ index_after result (records_in table.now) (old_of have (length table.now / row_bytes)) index.old }
-    ensures scratch_after_lem { scratch.new ≡ scratch_after result (records_in table.now) (old_of have (length table.now / row_bytes)) scratch.old }
+    ensures scratch_after { scratch.new ≡ scratch_after result (records_in table.now) (old_of have (length table.now / row_bytes)) scratch.old }
 {
     let n = table.len() / ROW;
     let answer = decide(n, have, index.len(), scratch.len());
@@ -129,7 +129,7 @@ pub fn extend_index(table: &[u8], have: usize, index: &mut [u64], scratch: &mut 
 pub fn index_tiles(table: &[u8], index: &mut [u64], scratch: &mut [u64]) -> Indexed
     ensures value { result ≡ extended (length table.now / row_bytes) 0 (length index.old) (length scratch.old) }
     ensures index_after { index.new ≡ index_made result (records_in table.now) index.old }
-    ensures scratch_after_lem { scratch.new ≡ index_made result (records_in table.now) scratch.old }
+    ensures scratch_after { scratch.new ≡ index_made result (records_in table.now) scratch.old }
 {
     extend_index(table, 0, index, scratch)
 }

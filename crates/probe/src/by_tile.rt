@@ -4,8 +4,7 @@ ghost use Rattle.index.specs.Extend.{old_of, extended, index_after, scratch_afte
 ghost use Rattle.probe.specs.Own.{held, own};
 
 // Of as many records as `table` has rows, 2,048 at most, extended from `have` entries on. `value`: entries, or the entries needed.
-#[unsafe(no_mangle)]
-pub extern "C" fn winterhasp_records_index(
+pub fn winterhasp_records_index(
     table: &[u8],
     have: u64,
     index: &mut [u64],
@@ -15,7 +14,7 @@ pub extern "C" fn winterhasp_records_index(
     ensures value { result ≡ index_number (extended (held table.now) have (length index.old) (length scratch.old)) }
     ensures value_after { value.new ≡ index_value (extended (held table.now) have (length index.old) (length scratch.old)) }
     ensures index_after { index.new ≡ index_after (extended (held table.now) have (length index.old) (length scratch.old)) (own table.now) (old_of have (held table.now)) index.old }
-    ensures scratch_after_lem { scratch.new ≡ scratch_after (extended (held table.now) have (length index.old) (length scratch.old)) (own table.now) (old_of have (held table.now)) scratch.old }
+    ensures scratch_after { scratch.new ≡ scratch_after (extended (held table.now) have (length index.old) (length scratch.old)) (own table.now) (old_of have (held table.now)) scratch.old }
 {
     let count = crate::own::count(table);
     let records = crate::own::load(table, count);

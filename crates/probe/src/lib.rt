@@ -1,6 +1,6 @@
-// What only the runs beside the original call, exported for C: thin calls on numbers and byte slices. Each answers 0 where it
-// accepts, or the refusal's number with its place in the first number lent, unless it says otherwise. What a host calls is in crate
-// host, whose archive is linked into the same program: neither uses the other.
+// What only the runs beside the original call: thin calls on numbers and byte slices, which crate probe_c exports for C. Each
+// answers 0 where it accepts, or the refusal's number with its place in the first number lent, unless it says otherwise. What a
+// host calls is in crate host: neither uses the other.
 #![tactic(auto)]
 
 pub mod by_tile;
@@ -14,8 +14,7 @@ ghost use Rattle.parts.specs.Split.{part_number, part_out};
 ghost use Rattle.reader.specs.Search.{content_of};
 
 // The codestream itself, empty where the search refuses. `value`: its length, or with 17 the size needed.
-#[unsafe(no_mangle)]
-pub extern "C" fn winterhasp_codestream_of(file: &[u8], out: &mut [u8], value: &mut u64) -> u32
+pub fn winterhasp_codestream_of(file: &[u8], out: &mut [u8], value: &mut u64) -> u32
     ensures value { result ≡ part_number (content_of file.now) (length out.old) }
     ensures value_after { value.new ≡ length (content_of file.now) }
     ensures out_after { out.new ≡ part_out (content_of file.now) out.old }

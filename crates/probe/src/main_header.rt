@@ -11,8 +11,7 @@ use header::reading::ReadingNumbers;
 
 // With as many records as `table` has rows, 2,048 at most. `first_sot`: the first SOT's offset, or a refusal's place;
 // `decode_length`: the decode header's length; `entries`: the records; `fillers`: the delimiters whose high byte is not FF.
-#[unsafe(no_mangle)]
-pub extern "C" fn winterhasp_header_records(
+pub fn winterhasp_header_records(
     codestream: &[u8],
     reading: ReadingNumbers,
     table: &mut [u8],

@@ -9,8 +9,7 @@ ghost use Rattle.probe.specs.Own.{held, own};
 use types::CodestreamOffset;
 
 // Into as many records as `table` has rows, 2,048 at most. `value`: entries, or a refusal's place.
-#[unsafe(no_mangle)]
-pub extern "C" fn winterhasp_scan_records(
+pub fn winterhasp_scan_records(
     codestream: &[u8],
     first_sot_offset: u64,
     table: &mut [u8],

@@ -45,7 +45,7 @@ pub fn extend_index(
 ) -> Indexed
     ensures value { result ≡ extended (length table.now) have (length index.old) (length scratch.old) }
     ensures index_after { index.new ≡ index_after result table.now (old_of have (length table.now)) index.old }
-    ensures scratch_after_lem { scratch.new ≡ scratch_after result table.now (old_of have (length table.now)) scratch.old }
+    ensures scratch_after { scratch.new ≡ scratch_after result table.now (old_of have (length table.now)) scratch.old }
 {
     let n = table.len();
     let answer = index::extend::decide(n, have, index.len(), scratch.len());
@@ -62,7 +62,7 @@ pub fn extend_index(
 pub fn index_tiles(table: &[TilePartEntry], index: &mut [u64], scratch: &mut [u64]) -> Indexed
     ensures value { result ≡ extended (length table.now) 0 (length index.old) (length scratch.old) }
     ensures index_after { index.new ≡ index_made result table.now index.old }
-    ensures scratch_after_lem { scratch.new ≡ index_made result table.now scratch.old }
+    ensures scratch_after { scratch.new ≡ index_made result table.now scratch.old }
 {
     extend_index(table, 0, index, scratch)
 }

@@ -116,7 +116,7 @@ pub fn index_within(
 ) -> Indexed
     ensures value { result ≡ extended (min rows 2048) have (length index.old) (length scratch.old) }
     ensures index_after { index.new ≡ index_after result (take (min rows 2048) table) (old_of have (min rows 2048)) index.old }
-    ensures scratch_after_lem { scratch.new ≡ scratch_after result (take (min rows 2048) table) (old_of have (min rows 2048)) scratch.old }
+    ensures scratch_after { scratch.new ≡ scratch_after result (take (min rows 2048) table) (old_of have (min rows 2048)) scratch.old }
 {
     let room = at_most(rows);
     crate::by_tile::extend_index(&table[..room], have, index, scratch)

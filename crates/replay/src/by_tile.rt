@@ -2,62 +2,72 @@
 ghost use Rattle.std.specs.Prelude.{◌≡◌, length};
 
 use crate::{print, tables};
+use std::io;
+use std::io::Write;
 use types::{CodestreamOffset, TilePartEntry};
 
 // The payload is the tile's index and how many entries are old, 2 bytes each, and the codestream, whose tile-parts start at 0.
-pub(crate) fn rows(payload: &[u8]) {
+pub(crate) fn rows<W: Write>(out: &mut W, payload: &[u8]) -> io::Result<()> {
     if payload.len() < 4 {
-        return print::text(b"unknown kind");
+        return print::text(out, b"unknown kind");
     }
     let mut table = tables::new_table();
     let answer = parts::scan::scan_sot_markers(&payload[4..], CodestreamOffset(0), &mut table);
-    let entries = print::scan(answer);
+    let entries = print::scan(out, answer)?;
     rows_by(
+        out,
         tables::first_rows(&table, entries),
         numbers::read_u16(payload, 2),
         numbers::read_u16(payload, 0),
-    );
+    )
 }
 
 // The index of the rows that are old, extended to all.
-fn rows_by(table: &[u8], old: u16, tile: u16) {
+fn rows_by<W: Write>(out: &mut W, table: &[u8], old: u16, tile: u16) -> io::Result<()> {
     let mut index = new_index();
     let mut scratch = new_index();
     let early = tables::first_rows(table, old as u64);
     index::extend::index_tiles(early, &mut index, &mut scratch);
     let answer = index::extend::extend_index(table, old as usize, &mut index, &mut scratch);
-    let keys = print::indexed(b", index", answer);
-    rows_told(table, first_keys(&index, keys), tile);
+    let keys = print::indexed(out, b", index", answer)?;
+    rows_told(out, table, first_keys(&index, keys), tile)
 }
 
-fn rows_told(table: &[u8], index: &[u64], tile: u16) {
-    print::keys(index);
-    print::run(index, tile);
-    let mut out = tables::new_table();
-    let answer = index::entries::tile_entries(table, index, tile, &mut out);
-    let entries = print::indexed(b", entries", answer);
-    print::rows(&out, entries, true);
+fn rows_told<W: Write>(out: &mut W, table: &[u8], index: &[u64], tile: u16) -> io::Result<()> {
+    print::keys(out, index)?;
+    print::run(out, index, tile)?;
+    let mut bytes = tables::new_table();
+    let answer = index::entries::tile_entries(table, index, tile, &mut bytes);
+    let entries = print::indexed(out, b", entries", answer)?;
+    print::rows(out, &bytes, entries, true)
 }
 
 // The same with a table of records.
-pub(crate) fn records(payload: &[u8]) {
+pub(crate) fn records<W: Write>(out: &mut W, payload: &[u8]) -> io::Result<()> {
     if payload.len() < 4 {
-        return print::text(b"unknown kind");
+        return print::text(out, b"unknown kind");
     }
     let scan = records::tables::scan_table(&payload[4..], CodestreamOffset(0));
     let answer = scan.answer;
     let table = scan.table;
-    let entries = print::scan(answer);
+    let entries = print::scan(out, answer)?;
     records_by(
+        out,
         table,
         entries,
         numbers::read_u16(payload, 2),
         numbers::read_u16(payload, 0),
-    );
+    )
 }
 
 // In the first records of a table, which has as many.
-fn records_by(table: [TilePartEntry; 2048], entries: u64, old: u16, tile: u16) {
+fn records_by<W: Write>(
+    out: &mut W,
+    table: [TilePartEntry; 2048],
+    entries: u64,
+    old: u16,
+    tile: u16,
+) -> io::Result<()> {
     let mut index = new_index();
     let mut scratch = new_index();
     let early = numbers::minimum(old as u64, entries) as usize;
@@ -69,15 +79,20 @@ fn records_by(table: [TilePartEntry; 2048], entries: u64, old: u16, tile: u16) {
         &mut index,
         &mut scratch,
     );
-    let keys = print::indexed(b", index", answer);
-    records_told(table, first_keys(&index, keys), tile);
+    let keys = print::indexed(out, b", index", answer)?;
+    records_told(out, table, first_keys(&index, keys), tile)
 }
 
-fn records_told(table: [TilePartEntry; 2048], index: &[u64], tile: u16) {
-    print::keys(index);
-    print::run(index, tile);
-    print::text(b", entries");
-    print::records_of(table, index::run::tile_run(index, tile));
+fn records_told<W: Write>(
+    out: &mut W,
+    table: [TilePartEntry; 2048],
+    index: &[u64],
+    tile: u16,
+) -> io::Result<()> {
+    print::keys(out, index)?;
+    print::run(out, index, tile)?;
+    print::text(out, b", entries")?;
+    print::records_of(out, table, index::run::tile_run(index, tile))
 }
 
 // The first keys of an index, which has as many.

@@ -4,6 +4,8 @@
 // case is its kind, a byte; the length of its payload, 4 bytes; the payload.
 #![tactic(auto)]
 
+ghost use Rattle.std.specs.Prelude.{◌≡◌, ◌≤◌, IfOk, length};
+
 mod answers;
 mod by_tile;
 mod print;
@@ -12,76 +14,84 @@ mod tables;
 use header::edition::Edition;
 use header::numbering::Numbering;
 use header::reading::Reading;
+use std::io::{BufWriter, Write};
+use std::{fs, io};
 use tile::rules::Rule;
 
-fn main() {
-    let path = b"cases";
-    let file = os::open_read(path);
-    if file < 0 {
-        return os::fail(path);
-    }
-    answer_all(file);
-    libc::close(file);
+fn main(rt: HostRuntime) -> io::Result<()> {
+    let cases = fs::read(&rt, "cases")?;
+    let mut out = BufWriter::new(rt.alloc(), io::writer(&rt))?;
+    answer_all(&mut out, &cases)?;
+    out.flush()
 }
 
-// Nothing says that a file ends, so the turns are counted down from a number that no run uses up.
-fn answer_all(file: i32) {
-    let mut turns = u64::MAX;
-    while turns > 0 && answer_next(file) {
-        turns -= 1;
+// A turn for each byte is more than there are cases.
+fn answer_all<W: Write>(out: &mut W, cases: &[u8]) -> io::Result<()> {
+    let mut at: usize = 0;
+    for _ in 0..cases.len() {
+        let size = answer_next(out, &cases[at..])?;
+        if size == 0 {
+            break;
+        }
+        at += size;
     }
+    Ok(())
 }
 
-// One case, or false where the list has ended.
-fn answer_next(file: i32) -> bool {
-    let mut frame = [0u8; 5];
-    if io::read_full(file, &mut frame) < 5 {
-        return false;
+// One case, and how many bytes it has; 0 where the list has ended.
+fn answer_next<W: Write>(out: &mut W, cases: &[u8]) -> io::Result<usize>
+    ensures { IfOk result (λ size. size ≤ length cases.now) }
+{
+    if cases.len() < 5 {
+        return Ok(0);
     }
-    let size = numbers::read_u32(&frame, 1) as usize;
-    if 0x1_0000 < size {
-        return false;
+    let size = numbers::read_u32(cases, 1) as usize;
+    if 0x1_0000 < size || cases.len() - 5 < size {
+        return Ok(0);
     }
-    let mut payload = io::large_buffer();
-    if io::read_full(file, &mut payload[..size]) < size {
-        return false;
-    }
-    answer(frame[0], &payload[..size]);
-    true
+    answer(out, cases[0], &cases[5..5 + size])?;
+    Ok(5 + size)
 }
 
-fn answer(kind: u8, payload: &[u8]) {
+fn answer<W: Write>(out: &mut W, kind: u8, payload: &[u8]) -> io::Result<()> {
     match kind {
-        1 => answers::extent(payload),
-        2 => tables::header(payload, older(Numbering::Restarting)),
-        3 => tables::scan(payload),
-        4 => answers::split(payload),
-        5 => answers::rewrite(payload, Rule::Original),
-        6 => answers::assembly(payload, Rule::Original),
-        7 => answers::search(payload),
-        8 => answers::siz(payload),
-        9 => answers::growth(payload),
-        10 => tables::header_records(payload, older(Numbering::Restarting)),
-        11 => tables::scan_records(payload),
-        12 => answers::component_sizes(payload),
-        13 => answers::rewrite(payload, Rule::AnnexB),
-        14 => answers::assembly(payload, Rule::AnnexB),
-        15 => answers::rewrite(payload, Rule::InPlace),
-        16 => answers::assembly(payload, Rule::InPlace),
-        17 => answers::marker(payload),
-        18 => tables::header(payload, older(Numbering::CarriedOn)),
-        19 => tables::header_records(payload, older(Numbering::CarriedOn)),
-        20 => tables::header(payload, newer()),
-        21 => tables::header_records(payload, newer()),
-        22 => tables::order(payload),
-        23 => tables::order_records(payload),
-        24 => by_tile::rows(payload),
-        25 => by_tile::records(payload),
-        26 => answers::length_table(payload),
-        27 => answers::boxes(payload),
-        _ => print::text(b"unknown kind"),
-    }
-    print::text(b"\n");
+        1 => answers::extent(out, payload),
+        2 => tables::header(out, payload, older(Numbering::Restarting)),
+        3 => tables::scan(out, payload),
+        4 => answers::split(out, payload),
+        5 => answers::rewrite(out, payload, Rule::Original),
+        6 => answers::assembly(out, payload, Rule::Original),
+        7 => answers::search(out, payload),
+        8 => answers::siz(out, payload),
+        9 => answers::growth(out, payload),
+        10 => tables::header_records(out, payload, older(Numbering::Restarting)),
+        11 => tables::scan_records(out, payload),
+        12 => answers::component_sizes(out, payload),
+        13 => answers::rewrite(out, payload, Rule::AnnexB),
+        14 => answers::assembly(out, payload, Rule::AnnexB),
+        15 => answers::rewrite(out, payload, Rule::InPlace),
+        16 => answers::assembly(out, payload, Rule::InPlace),
+        17 => answers::marker(out, payload),
+        18 => tables::header(out, payload, older(Numbering::CarriedOn)),
+        19 => tables::header_records(out, payload, older(Numbering::CarriedOn)),
+        20 => tables::header(out, payload, newer()),
+        21 => tables::header_records(out, payload, newer()),
+        22 => tables::order(out, payload),
+        23 => tables::order_records(out, payload),
+        24 => by_tile::rows(out, payload),
+        25 => by_tile::records(out, payload),
+        26 => answers::length_table(out, payload),
+        27 => answers::boxes(out, payload),
+        _ => print::text(out, b"unknown kind"),
+    }?;
+    print::text(out, b"\n")
+}
+
+// Room for what a case writes.
+pub(crate) fn large_buffer() -> [u8; 65536]
+    ensures { 65536 ≡ length result }
+{
+    [0; 65536]
 }
 
 fn older(numbering: Numbering) -> Reading {

@@ -3,236 +3,256 @@ use header::find::Finding;
 use header::parse::MainHeader;
 use index::extend::Indexed;
 use lengths::check::{Check, Difference, Said};
-use libc::STDOUT_FILENO;
 use parts::scan::Scanned;
 use reader::boxes::Counted;
 use reader::components::{ComponentRead, ComponentsRead};
+use std::io;
+use std::io::Write;
 use tile::rewrite::Written;
 use types::{Area, PartNumbers, ROW, Refusal, TilePartEntry};
 
 // The line but for its entries; gives how many follow.
-pub(crate) fn header(answer: MainHeader, out: &[u8]) -> u64 {
-    text(b"header");
+pub(crate) fn header<W: Write>(out: &mut W, answer: MainHeader, bytes: &[u8]) -> io::Result<u64> {
+    text(out, b"header")?;
     let MainHeader::Header(info) = answer else {
-        text(b" refused");
-        return 0;
+        text(out, b" refused")?;
+        return Ok(0);
     };
     let first_sot = info.first_sot_offset;
-    number(first_sot.0);
-    number(info.decode_header_length);
-    number(info.fillers);
-    hex(out, info.decode_header_length);
+    number(out, first_sot.0)?;
+    number(out, info.decode_header_length)?;
+    number(out, info.fillers)?;
+    hex(out, bytes, info.decode_header_length)?;
     if info.tlm_entries == 0 {
-        text(b" none");
+        text(out, b" none")?;
     }
-    info.tlm_entries
+    Ok(info.tlm_entries)
 }
 
 // The same of a scan.
-pub(crate) fn scan(answer: Scanned) -> u64 {
-    text(b"scan");
+pub(crate) fn scan<W: Write>(out: &mut W, answer: Scanned) -> io::Result<u64> {
+    text(out, b"scan")?;
     let Scanned::Table(count) = answer else {
-        text(b" refused");
-        return 0;
+        text(out, b" refused")?;
+        return Ok(0);
     };
-    number(count);
-    count
+    number(out, count)?;
+    Ok(count)
 }
 
-pub(crate) fn finding(answer: Finding) {
+pub(crate) fn finding<W: Write>(out: &mut W, answer: Finding) -> io::Result<()> {
     match answer {
-        Finding::At(offset) => number(offset.0),
-        Finding::Absent => text(b" none"),
-        Finding::Refused(why) => refused(why),
+        Finding::At(offset) => number(out, offset.0),
+        Finding::Absent => text(out, b" none"),
+        Finding::Refused(why) => refused(out, why),
     }
 }
 
-pub(crate) fn checked(answer: Check) {
+pub(crate) fn checked<W: Write>(out: &mut W, answer: Check) -> io::Result<()> {
     match answer {
-        Check::Passes => text(b" passes"),
-        Check::DiffersAt(difference) => differs(difference),
-        Check::Refused(why) => refused(why),
+        Check::Passes => text(out, b" passes"),
+        Check::DiffersAt(difference) => differs(out, difference),
+        Check::Refused(why) => refused(out, why),
     }
 }
 
-fn differs(at: Difference) {
+fn differs<W: Write>(out: &mut W, at: Difference) -> io::Result<()> {
     let offset = at.offset;
     let listed = at.listed;
     let standing = at.standing;
-    text(b" differs");
-    number(at.number);
-    number(offset.0);
-    text(b", listed");
-    said(listed);
-    text(b", standing");
-    said(standing);
+    text(out, b" differs")?;
+    number(out, at.number)?;
+    number(out, offset.0)?;
+    text(out, b", listed")?;
+    said(out, listed)?;
+    text(out, b", standing")?;
+    said(out, standing)
 }
 
-fn said(what: Said) {
+fn said<W: Write>(out: &mut W, what: Said) -> io::Result<()> {
     match what {
         Said::Part { tile, length } => {
-            number(tile as u64);
-            number(length);
+            number(out, tile as u64)?;
+            number(out, length)
         }
-        Said::Nothing => text(b" none"),
+        Said::Nothing => text(out, b" none"),
     }
 }
 
 // How many boxes there are, and all of the table.
-pub(crate) fn boxes(answer: Counted, table: &[u8]) {
+pub(crate) fn boxes<W: Write>(out: &mut W, answer: Counted, table: &[u8]) -> io::Result<()> {
     match answer {
         Counted::Boxes(count) => {
-            number(count);
-            hex(table, table.len() as u64);
+            number(out, count)?;
+            hex(out, table, table.len() as u64)
         }
-        Counted::Refused(why) => refused(why),
+        Counted::Refused(why) => refused(out, why),
     }
 }
 
-pub(crate) fn written(answer: Written, out: &[u8]) {
+pub(crate) fn written<W: Write>(out: &mut W, answer: Written, bytes: &[u8]) -> io::Result<()> {
     match answer {
-        Written::Bytes(count) => hex(out, count),
-        Written::Refused(why) => refused(why),
+        Written::Bytes(count) => hex(out, bytes, count),
+        Written::Refused(why) => refused(out, why),
     }
 }
 
-pub(crate) fn components(read: ComponentsRead) {
+pub(crate) fn components<W: Write>(out: &mut W, read: ComponentsRead) -> io::Result<()> {
     match read {
         ComponentsRead::Components(info) => {
-            number(info.count as u64);
-            area(info.area);
+            number(out, info.count as u64)?;
+            area(out, info.area)
         }
-        ComponentsRead::Refused(why) => refused(why),
+        ComponentsRead::Refused(why) => refused(out, why),
     }
 }
 
-pub(crate) fn component(read: ComponentRead) {
+pub(crate) fn component<W: Write>(out: &mut W, read: ComponentRead) -> io::Result<()> {
     match read {
         ComponentRead::Component(info) => {
-            number(info.bits as u64);
-            number(if info.is_signed { 1 } else { 0 });
-            number(info.xrsiz as u64);
-            number(info.yrsiz as u64);
-            area(info.area);
+            number(out, info.bits as u64)?;
+            number(out, if info.is_signed { 1 } else { 0 })?;
+            number(out, info.xrsiz as u64)?;
+            number(out, info.yrsiz as u64)?;
+            area(out, info.area)
         }
-        ComponentRead::NoSuch => text(b" none"),
-        ComponentRead::Refused(why) => refused(why),
+        ComponentRead::NoSuch => text(out, b" none"),
+        ComponentRead::Refused(why) => refused(out, why),
     }
 }
 
-fn area(on_grid: Area) {
-    number(on_grid.x0 as u64);
-    number(on_grid.y0 as u64);
-    number(on_grid.x1 as u64);
-    number(on_grid.y1 as u64);
+fn area<W: Write>(out: &mut W, on_grid: Area) -> io::Result<()> {
+    number(out, on_grid.x0 as u64)?;
+    number(out, on_grid.y0 as u64)?;
+    number(out, on_grid.x1 as u64)?;
+    number(out, on_grid.y1 as u64)
 }
 
-fn refused(why: Refusal) {
-    text(b" refused");
-    number(why.number as u64);
-    number(why.place);
+fn refused<W: Write>(out: &mut W, why: Refusal) -> io::Result<()> {
+    text(out, b" refused")?;
+    number(out, why.number as u64)?;
+    number(out, why.place)
 }
 
 // The first rows of a table, which has as many; each with its numbers, or without.
-pub(crate) fn rows(table: &[u8], count: u64, numbered: bool) {
+pub(crate) fn rows<W: Write>(
+    out: &mut W,
+    table: &[u8],
+    count: u64,
+    numbered: bool,
+) -> io::Result<()> {
     let end = numbers::minimum(count, (table.len() / ROW) as u64) as usize;
     for i in 0..end {
-        record(types::read_row(table, i * ROW), numbered);
+        record(out, types::read_row(table, i * ROW), numbered)?;
     }
+    Ok(())
 }
 
 // The first records of a table, which has as many, the same way.
-pub(crate) fn records(table: [TilePartEntry; 2048], count: u64, numbered: bool) {
+pub(crate) fn records<W: Write>(
+    out: &mut W,
+    table: [TilePartEntry; 2048],
+    count: u64,
+    numbered: bool,
+) -> io::Result<()> {
     let end = numbers::minimum(count, 2048) as usize;
     for i in 0..end {
-        record(table[i], numbered);
+        record(out, table[i], numbered)?;
     }
+    Ok(())
 }
 
 // The records of a table that the keys of a run say.
-pub(crate) fn records_of(table: [TilePartEntry; 2048], run: &[u64]) {
+pub(crate) fn records_of<W: Write>(
+    out: &mut W,
+    table: [TilePartEntry; 2048],
+    run: &[u64],
+) -> io::Result<()> {
     for i in 0..run.len() {
         let at = index::keys::number_of(run[i]);
         if at < 2048 {
-            record(table[at as usize], true);
+            record(out, table[at as usize], true)?;
         }
     }
+    Ok(())
 }
 
-fn record(entry: TilePartEntry, numbered: bool) {
+fn record<W: Write>(out: &mut W, entry: TilePartEntry, numbered: bool) -> io::Result<()> {
     let offset = entry.offset;
     let known = entry.numbers;
-    number(entry.tile_index as u64);
-    number(offset.0);
-    number(entry.length);
+    number(out, entry.tile_index as u64)?;
+    number(out, offset.0)?;
+    number(out, entry.length)?;
     if numbered {
-        part_numbers(known);
+        part_numbers(out, known)?;
     }
+    Ok(())
 }
 
-fn part_numbers(known: PartNumbers) {
+fn part_numbers<W: Write>(out: &mut W, known: PartNumbers) -> io::Result<()> {
     match known {
         PartNumbers::Known { tpsot, tnsot } => {
-            number(tpsot as u64);
-            number(tnsot as u64);
+            number(out, tpsot as u64)?;
+            number(out, tnsot as u64)
         }
-        PartNumbers::NotKnown => text(b" not known"),
+        PartNumbers::NotKnown => text(out, b" not known"),
     }
 }
 
 // Whether a tile's tile-parts stand in order.
-pub(crate) fn order(answer: bool) {
+pub(crate) fn order<W: Write>(out: &mut W, answer: bool) -> io::Result<()> {
     if answer {
-        text(b", in order");
+        text(out, b", in order")
     } else {
-        text(b", not in order");
+        text(out, b", not in order")
     }
 }
 
 // What is said of as many entries as follow, without them; gives how many they are.
-pub(crate) fn indexed(word: &[u8], answer: Indexed) -> u64 {
-    text(word);
+pub(crate) fn indexed<W: Write>(out: &mut W, word: &[u8], answer: Indexed) -> io::Result<u64> {
+    text(out, word)?;
     let Indexed::Entries(count) = answer else {
-        text(b" refused");
-        return 0;
+        text(out, b" refused")?;
+        return Ok(0);
     };
-    count
+    Ok(count)
 }
 
 // The keys of an index: the tile and the number of each.
-pub(crate) fn keys(index: &[u64]) {
+pub(crate) fn keys<W: Write>(out: &mut W, index: &[u64]) -> io::Result<()> {
     for i in 0..index.len() {
         let key = index[i];
-        number(index::keys::tile_of(key));
-        number(index::keys::number_of(key));
+        number(out, index::keys::tile_of(key))?;
+        number(out, index::keys::number_of(key))?;
     }
+    Ok(())
 }
 
 // Where a tile's run stands in an index, and how many keys it has.
-pub(crate) fn run(index: &[u64], tile: u16) {
+pub(crate) fn run<W: Write>(out: &mut W, index: &[u64], tile: u16) -> io::Result<()> {
     let mut first: u64 = 0;
     let mut count: u64 = 0;
     index::run::tell(index, tile, &mut first, &mut count);
-    text(b", run");
-    number(first);
-    number(count);
+    text(out, b", run")?;
+    number(out, first)?;
+    number(out, count)
 }
 
 // The first bytes of a buffer, which has as many, after a space.
-pub(crate) fn hex(bytes: &[u8], count: u64) {
+pub(crate) fn hex<W: Write>(out: &mut W, bytes: &[u8], count: u64) -> io::Result<()> {
     let end = numbers::minimum(count, bytes.len() as u64) as usize;
-    text(b" ");
-    for i in 0..end {
-        io::print_hex(STDOUT_FILENO, bytes[i] as u64, 2);
+    text(out, b" ")?;
+    for byte in &bytes[..end] {
+        write!(out, "{byte:02x}")?;
     }
+    Ok(())
 }
 
 // A number, after a space.
-pub(crate) fn number(n: u64) {
-    text(b" ");
-    io::print_decimal(STDOUT_FILENO, n);
+pub(crate) fn number<W: Write>(out: &mut W, n: u64) -> io::Result<()> {
+    write!(out, " {n}")
 }
 
-pub(crate) fn text(word: &[u8]) {
-    io::write_all(STDOUT_FILENO, word);
+pub(crate) fn text<W: Write>(out: &mut W, word: &[u8]) -> io::Result<()> {
+    out.write_all(word)
 }

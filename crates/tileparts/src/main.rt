@@ -2,114 +2,145 @@
 // codestream, main header, TLM entries and tile-parts. A refused stage's line is the last; otherwise `end` is.
 #![tactic(auto)]
 
-ghost use Rattle.std.specs.Prelude.{◌≡◌, length};
+ghost use Rattle.std.specs.Prelude.{◌≡◌, ◌≤◌, IfOk, length};
 
 use header::edition::Edition;
 use header::numbering::Numbering;
 use header::parse::MainHeader;
 use header::reading::Reading;
-use libc::{STDIN_FILENO, STDOUT_FILENO};
 use parts::scan::Scanned;
 use reader::search::Found;
+use std::io;
+use std::io::{BufWriter, Read, Write};
 use types::{CodestreamOffset, Refusal, TilePartEntry};
 
 // The longest input that is listed, in bytes.
 const LONGEST: usize = 65_536;
 
-fn main() {
+fn main(rt: HostRuntime) -> io::Result<()> {
+    let mut out = BufWriter::new(rt.alloc(), io::writer(&rt))?;
     let mut input = new_input();
-    let size = io::read_full(STDIN_FILENO, &mut input);
+    let size = read_full(&mut rt.reader(), &mut input)?;
     if LONGEST < size {
-        return refuse(Refusal {
-            number: 23,
-            place: 65_536,
-        });
+        refuse(
+            &mut out,
+            Refusal {
+                number: 23,
+                place: 65_536,
+            },
+        )?;
+    } else {
+        list(&mut out, &input[..size])?;
     }
-    list(&input[..size]);
+    out.flush()
 }
 
-fn list(file: &[u8]) {
+// Fills the buffer as far as the input reaches, and gives how far that is.
+fn read_full<R: Read>(input: &mut R, buffer: &mut [u8]) -> io::Result<usize>
+    ensures { IfOk result (λ size. size ≤ length buffer.new) }
+{
+    let mut filled: usize = 0;
+    for _ in 0..buffer.len() {
+        let read = input.read(&mut buffer[filled..])?;
+        if read == 0 {
+            break;
+        }
+        filled += read;
+    }
+    Ok(filled)
+}
+
+fn list<W: Write>(out: &mut W, file: &[u8]) -> io::Result<()> {
     match reader::search::find_codestream(file) {
         Found::Codestream(start, size) => {
-            text(b"codestream");
-            number(start.0);
-            number(size);
-            text(b"\n");
-            list_header(reader::search::codestream_of(file));
+            text(out, b"codestream")?;
+            number(out, start.0)?;
+            number(out, size)?;
+            text(out, b"\n")?;
+            list_header(out, reader::search::codestream_of(file))
         }
-        Found::Refused(refusal) => refuse(refusal),
+        Found::Refused(refusal) => refuse(out, refusal),
     }
 }
 
 // Offsets from here on are the codestream's.
-fn list_header(codestream: &[u8]) {
-    let mut out = io::large_buffer();
+fn list_header<W: Write>(out: &mut W, codestream: &[u8]) -> io::Result<()> {
+    let mut decode_header = [0u8; 65536];
     let reading = Reading {
         numbering: Numbering::Restarting,
         edition: Edition::Older,
     };
-    let read = records::tables::header_table(codestream, reading, &mut out);
+    let read = records::tables::header_table(codestream, reading, &mut decode_header);
     let answer = read.answer;
     let table = read.table;
     match answer {
         MainHeader::Header(info) => {
             let first_sot = info.first_sot_offset;
-            text(b"header");
-            number(first_sot.0);
-            number(info.decode_header_length);
-            text(b"\n");
-            rows(b"tlm", table, info.tlm_entries);
-            list_parts(codestream, first_sot);
+            text(out, b"header")?;
+            number(out, first_sot.0)?;
+            number(out, info.decode_header_length)?;
+            text(out, b"\n")?;
+            rows(out, b"tlm", table, info.tlm_entries)?;
+            list_parts(out, codestream, first_sot)
         }
-        MainHeader::Refused(refusal) => refuse(refusal),
+        MainHeader::Refused(refusal) => refuse(out, refusal),
     }
 }
 
-fn list_parts(codestream: &[u8], first_sot: CodestreamOffset) {
+fn list_parts<W: Write>(
+    out: &mut W,
+    codestream: &[u8],
+    first_sot: CodestreamOffset,
+) -> io::Result<()> {
     let scan = records::tables::scan_table(codestream, first_sot);
     let answer = scan.answer;
     let table = scan.table;
     match answer {
         Scanned::Table(count) => {
-            rows(b"part", table, count);
-            text(b"end\n");
+            rows(out, b"part", table, count)?;
+            text(out, b"end\n")
         }
-        Scanned::Refused(refusal) => refuse(refusal),
+        Scanned::Refused(refusal) => refuse(out, refusal),
     }
 }
 
 // The first records of a table, which has as many, a line for each.
-fn rows(word: &[u8], table: [TilePartEntry; 2048], count: u64) {
+fn rows<W: Write>(
+    out: &mut W,
+    word: &[u8],
+    table: [TilePartEntry; 2048],
+    count: u64,
+) -> io::Result<()> {
     let end = numbers::minimum(count, 2048) as usize;
     for i in 0..end {
-        row(word, table[i]);
+        row(out, word, table[i])?;
     }
+    Ok(())
 }
 
-fn row(word: &[u8], entry: TilePartEntry) {
+fn row<W: Write>(out: &mut W, word: &[u8], entry: TilePartEntry) -> io::Result<()> {
     let offset = entry.offset;
-    text(word);
-    number(entry.tile_index as u64);
-    number(offset.0);
-    number(entry.length);
-    text(b"\n");
+    text(out, word)?;
+    number(out, entry.tile_index as u64)?;
+    number(out, offset.0)?;
+    number(out, entry.length)?;
+    text(out, b"\n")
 }
 
-fn refuse(refusal: Refusal) {
-    text(b"refused");
-    number(refusal.number as u64);
-    number(refusal.place);
-    text(b"\n");
+fn refuse<W: Write>(out: &mut W, refusal: Refusal) -> io::Result<()> {
+    text(out, b"refused")?;
+    number(out, refusal.number as u64)?;
+    number(out, refusal.place)?;
+    text(out, b"\n")
 }
 
 // A number, after a space.
-fn number(n: u64) {
-    text(b" ");
-    io::print_decimal(STDOUT_FILENO, n);
+fn number<W: Write>(out: &mut W, n: u64) -> io::Result<()> {
+    write!(out, " {n}")
 }
 
-fn text(word: &[u8]) {
-    io::write_all(STDOUT_FILENO, word);
+fn text<W: Write>(out: &mut W, word: &[u8]) -> io::Result<()> {
+    out.write_all(word)
 }
 
 // Room for one byte more than the longest input, so that a longer one shows.

@@ -9,20 +9,20 @@ use Rattle.types.specs.Offsets.{in_file, in_codestream}
 use Rattle.types.specs.declared.FileOffset.{FileOffset}
 use Rattle.types.specs.declared.CodestreamOffset.{CodestreamOffset}
 use Rattle.types.specs.declared.InFile.{InFile}
-use Rattle.types.specs.declared.InFile.TheVariants as in_file_lem
+use Rattle.types.specs.declared.InFile.TheVariants as file
 use Rattle.types.specs.declared.InCodestream.{InCodestream}
-use Rattle.types.specs.declared.InCodestream.TheVariants as in_codestream_lem
+use Rattle.types.specs.declared.InCodestream.TheVariants as codestream
 
 abbrev pub Sum : ℕ → InFile → Type 0
-Sum n (in_file_lem.At place) = place.0 ≡ n
-Sum n in_file_lem.Past = 2 ^ 64 ≤ n
+Sum n (file.At place) = place.0 ≡ n
+Sum n file.Past = 2 ^ 64 ≤ n
 
 pub in_file_sum : (o : CodestreamOffset) (start : FileOffset) → Sum (start.0 + o.0) (in_file o start)
 in_file_sum o start = by_test (Sum (start.0 + o.0)) (ltb (start.0 + o.0) (2 ^ 64)) (λ _. refl) (λ e. ltb-false _ _ e)
 
 abbrev pub Difference : ℕ → InCodestream → Type 0
-Difference n (in_codestream_lem.At place) = place.0 ≡ n
-Difference n in_codestream_lem.Before = n ≡ 0
+Difference n (codestream.At place) = place.0 ≡ n
+Difference n codestream.Before = n ≡ 0
 
 pub in_codestream_difference : (o start : FileOffset) → Difference (o.0 - start.0) (in_codestream o start)
 in_codestream_difference o start =
