@@ -2425,7 +2425,7 @@ def main():
     arguments.add_argument("names", nargs="*")
     chosen = arguments.parse_args()
     program = Path(chosen.bin).resolve() / "winterhasp"
-    for needed, how in (program, "cargo build --release in rust/cli/"), (LISTING, "rt check tileparts"):
+    for needed, how in (program, "cargo build --release in rust/cli/"), (LISTING, "bash tools/proved.sh tileparts"):
         if not needed.exists():
             print(f"{needed} is not there: {how}", file=sys.stderr)
             return 2

@@ -2,7 +2,7 @@
 """The listing program on the inputs at its edges: tests/listing.py
 
 Each input is built here, so what the listing has to say is known from how it was built. Runs
-target/bin/tileparts (`rt check tileparts` makes it). Status 1 if a listing differs, 2 if there is none to run.
+target/bin/tileparts (`tools/proved.sh tileparts` makes it). Status 1 if a listing differs, 2 if there is none to run.
 """
 
 import struct
@@ -118,7 +118,7 @@ def run(data, piece):
 
 def main():
     if not PROGRAM.exists():
-        print(f"{PROGRAM} is not there: rt check tileparts", file=sys.stderr)
+        print(f"{PROGRAM} is not there: bash tools/proved.sh tileparts", file=sys.stderr)
         return 2
     differed = count = 0
     for name, data, wanted in cases():

@@ -123,7 +123,7 @@ replayed list (README.md) and the modules of `rust/beside/src/functions` that co
 this of the tree, and `.ci/run` sees that it is so. A law file has its definition's name in front: what is said of
 `specs/Scan.antt` stands in `proofs/Scan*.antt`. `Iso*` are the standard's own tables, and the laws that hold ours to them;
 `Base` has the texts that definitions had before one changed, and the laws that hold the new ones to these.
-Proofs of single functions stand in `proofs/MODULE/FUNCTION/Proof.antt`.
+Proofs of single functions stand in `proofs/MODULE/FUNCTION`.
 
 | module | code | definition | laws | must fail | replay | compared |
 |---|---|---|---|---|---|---|
@@ -160,14 +160,14 @@ def row(crate, module):
     names = {file.stem for file in (home / "specs").glob("*.antt")} - {"Lib"}
     others = {named(file.stem) for file in (home / "src").glob("*.rt")}
     own = {named(module), *ALSO.get(f"{crate}/{module}", [])} & names if module else names - others
-    laws = {file.stem for file in (home / "proofs").glob("*.antt")} - {"Lib", "lent", "readings"}
+    laws = {file.stem for file in (home / "proofs").glob("*.antt")} - {"Lib"}
     # a law file goes with the definition or the module whose name it has in front, the longest where several do; the standard's,
     # and one without such a name, with each definition that it cites; and one that cites none with all
     mine = set()
     for law in laws:
         front = max((name for name in names | others if law.startswith(name)), key=len, default="")
         text = (home / "proofs" / f"{law}.antt").read_text()
-        cited = {name for name in names if f"·specs.specs.{name}." in text}
+        cited = {name for name in names if f"Rattle.{crate}.specs.{name}." in text}
         if front in {named(module), *own} or ((not front or front.startswith("Iso")) and (cited & own or not cited)):
             mine.add(law)
     code = f"src/{module or 'lib'}.rt"

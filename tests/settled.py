@@ -16,7 +16,7 @@ ROOT = Path(__file__).resolve().parent.parent
 SETTLED = ROOT / "crates/laws/proofs/Settled.antt"
 
 ITEM = re.compile(r'^impl (?P<type>\w+) \{$|^(?P<end>\})$|^ *pub (?P<c>extern "C" )?fn (?P<name>\w+)(?P<head>.*?)\{$', re.M | re.S)
-ALIAS = re.compile(r"^use Rattle·(\w+)\.proofs as (\w+)$", re.M)
+ALIAS = re.compile(r"^use Rattle\.(\w+)\.specs\.contracts as (\w+)$", re.M)
 THEOREM = re.compile(r"→ (Settles|SettlesAs) M (\S+)\.ended (\S+)\.clauses\b")
 
 

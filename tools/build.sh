@@ -4,7 +4,7 @@
 # packages (tests/debian-crates.sh).
 set -euo pipefail
 cd "$(dirname "$0")/.."
-rt staticlib host
+bash tools/proved.sh host
 . tests/x86.sh
 out_of_packages() {
     # a lock file of another registry would stop it, as one of the packages would stop that

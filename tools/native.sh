@@ -14,7 +14,7 @@ cd "$(dirname "$0")/.."
 processor=$(uname -m)
 if [ "$processor" = x86_64 ]; then
     for name in host probe; do
-        rt staticlib "$name"
+        bash tools/proved.sh "$name"
         cp "target/staticlib/lib$name.a" "$folder/"
     done
     exit
@@ -41,7 +41,7 @@ END
 chmod +x "$work/kit/on/$processor/toolchain/bin/clang"
 
 for name in host probe; do
-    RATTLE_HOME=$work/kit rt staticlib "$name" >"$work/said" || { cat "$work/said"; exit 1; }
+    RATTLE_HOME=$work/kit bash tools/proved.sh "$name" >"$work/said" || { cat "$work/said"; exit 1; }
     # as text, without what it says of x86-64
     "$compiler/clang" --target=x86_64-unknown-linux-gnu --no-default-config -O0 -Xclang -disable-llvm-passes \
         -S -emit-llvm -x ir "$work/module.bc" -o "$work/module.ll"

@@ -31,7 +31,7 @@ fn link(folder: &Path, name: &str) {
     println!("cargo:rerun-if-changed={}", archive.display());
     if !archive.is_file() {
         eprintln!(
-            "{} is not there: run `rt staticlib {name}` in the repository's root, \
+            "{} is not there: run `bash tools/proved.sh {name}` in the repository's root, \
              or set {NAMED} to the folder that has it",
             archive.display()
         );

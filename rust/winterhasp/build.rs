@@ -43,7 +43,7 @@ fn usable(archive: &Path) -> Result<(), String> {
     }
     if !archive.is_file() {
         return Err(format!(
-            "{} is not there: run `rt staticlib host` in the root of the Winterhasp repository, or set \
+            "{} is not there: run `bash tools/proved.sh host` in the root of the Winterhasp repository, or set \
              WINTERHASP_LIB to the folder (an absolute path) that has {ARCHIVE}",
             archive.display()
         ));

@@ -24,6 +24,7 @@ use Rattle.header.specs.declared.numbering.Numbering.TheVariants.{CarriedOn}
 use Rattle.header.specs.Iso.{Segment, segment_bytes, InMain}
 use Rattle.header.specs.IsoTlm.{Pointer, TlmSegment, tlm_rows, TlmRanges, numbered, numbered_on, iso_table, restarted, without_index, InOrder, AllIndexed}
 use Rattle.header.specs.IsoMain.{Piece, tlm, other, piece_bytes, pieces_bytes, main_header, Sound, AllSound, IsMain, tables, pointer_count, without}
+use Rattle.header.specs.declared.step.Marker.{Marker}
 use Rattle.header.specs.declared.walk.Passed.{Passed as Passing}
 use Rattle.header.specs.declared.walk.WalkStep.TheVariants.{Passed}
 use Rattle.header.specs.declared.parse.Front.TheVariants as front
@@ -83,7 +84,9 @@ passing_of at (tlm t) =
 pub piece_passed : (front : List ℕ) (p : Piece) (rest : List ℕ) → Sound p → walk_step_at (front ++ (piece_bytes p ++ rest)) (length front) ≡ Passed (passing_of (length front) p)
 unfolding Sound piece_bytes passing_of tlm_step
 piece_passed front (other g) rest h = walk_segment _ _ _ (segment_standard front g rest h.0) ∙ pass_other _ _ _ h.1
-piece_passed front (tlm t) rest h = walk_segment _ _ _ (tlm_step_lem front t rest h) ∙ pass_tlm _ _ _ refl ∙ ap (tlm_step _) (tlm_read front t rest h)
+piece_passed front (tlm t) rest h =
+    let m : Marker = record { code = TLM; high_ff = true; next = length front + length (bytes_of_rows (tlm_rows t)) } in
+    walk_segment _ _ m (tlm_step_lem front t rest h) ∙ pass_tlm _ _ m refl ∙ ap (tlm_step m) (tlm_read front t rest h)
 
 -- the number behind a segment is the standard's
 carries_on : (front : List ℕ) (t : TlmSegment) (rest : List ℕ) → TlmRanges t → (k : ℕ)

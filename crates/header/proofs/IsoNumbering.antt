@@ -3,7 +3,7 @@
 use Prim.Native.Nat.{ℕ, ◌+◌, ◌≤◌, ◌<◌}
 use native.Mathlib.Nat.{add-zero, add_assoc}
 use native.Mathlib.Omega.{arith}
-use mathlib.Core.Path.{◌≡◌, refl, sym, ap, ◌∙◌}
+use mathlib.Core.Path.{◌≡◌, refl, sym, ap, ◌∙◌, subst}
 use mathlib.Core.Bool.{cond}
 use mathlib.Core.List.{List, [], ◌∷◌, ◌++◌, append_assoc, append-nil}
 use lib.ListN.{length, length-append}
@@ -78,8 +78,10 @@ unfolding AllSound pieces_bytes end_on
 ends_over n front [] tail h k = refl
 ends_over n front (p ∷ ps) tail h k =
     let after : List ℕ = pieces_bytes ps ++ tail in
-    rw (append_assoc (piece_bytes p) (pieces_bytes ps) tail)
-    (end_past n front p ps after h.0 (end_from n (front ++ (piece_bytes p ++ after)))
+    let s : List ℕ = front ++ (piece_bytes p ++ after) in
+    let whole : s ≡ front ++ (pieces_bytes (p ∷ ps) ++ tail) = ap (λ (xs : List ℕ). front ++ xs) (sym (append_assoc (piece_bytes p) (pieces_bytes ps) tail)) in
+    subst (λ (xs : List ℕ). end_from n xs k (length front) ≡ end_on n (end_from n xs) k (length front) (p ∷ ps)) whole
+    (end_past n front p ps after h.0 (end_from n s)
     (rw (← append_assoc front (piece_bytes p) after, ← length-append front (piece_bytes p)) (ends_over n (front ++ piece_bytes p) ps tail h.1))
     k)
 
@@ -125,7 +127,7 @@ module _ (g : Segment) (ps : List Piece) (tail : List ℕ) (m : IsMain g ps) (sh
 
   judged_ends : (n : Numbering) (ended : WalkEnd) → end_on n (end_from n s) 0 (2 + length (segment_bytes g)) ps ≡ ended
       → judged_by n (main_header g ps ++ tail) ≡ read_as (main_header g ps ++ tail) (walk_from (main_header g ps ++ tail) 2) ended
-  unfolding s end_on bytes_of pieces_bytes piece_bytes AllSound Sound
+  unfolding s end_on bytes_of main_header pieces_bytes piece_bytes AllSound Sound
   judged_ends n ended e =
       let over : end_from n s 0 2 ≡ end_on n (end_from n s) 0 2 (other g ∷ ps) =
       rw (split_main g ps tail, ← append_assoc (segment_bytes g) (pieces_bytes ps) tail)

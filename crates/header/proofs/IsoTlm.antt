@@ -142,7 +142,7 @@ numbered_indexed ST k n (p ∷ more) h = rw (ne_eqb ST 0 h, numbered_indexed ST 
 on_indexed : (k : ℕ) (ts : List TlmSegment) → AllIndexed ts → restarted ts ≡ numbered_on k ts
 unfolding restarted numbered_on AllIndexed
 on_indexed k [] a = refl
-on_indexed k (t ∷ more) a = ap₂ ◌++◌ (numbered_indexed t.ST 0 k t.pointers a.0) (on_indexed _ more a.1)
+on_indexed k (t ∷ more) a = ap₂ ◌++◌ (numbered_indexed t.ST 0 k t.pointers a.0) (on_indexed (cond (eqb t.ST 0) (k + length t.pointers) k) more a.1)
 
 -- Restarting it is the standard's for indexed segments in the order of Ztlm, and for a single segment.
 pub restarted_indexed : (ts : List TlmSegment) → InOrder ts → AllIndexed ts → restarted ts ≡ iso_table ts

@@ -15,6 +15,7 @@ use Rattle.numbers.proofs.Choice.{by_test, by_bool}
 use Rattle.numbers.specs.Bytes.{be}
 use Rattle.types.specs.Markers.{SOT}
 use Rattle.header.specs.Step.{delimits, high_ff, is_filler, segment_end, passing, step_at}
+use Rattle.header.specs.declared.step.Marker.{Marker}
 use Rattle.header.specs.declared.step.HeaderStep.{HeaderStep}
 use Rattle.header.specs.declared.step.HeaderStep.TheVariants.{Sot, Delimiter, Segment, CutShort}
 
@@ -102,3 +103,10 @@ only_cut Sot k g = absurd (⊎_elim (λ e. omega arith) (⊎_elim (λ e. omega a
 only_cut (Delimiter n) k g = absurd (⊎_elim (λ e. omega arith) (λ e. omega arith) k)
 only_cut (Segment n) k g = absurd (⊎_elim (λ e. omega arith) (λ e. omega arith) k)
 only_cut CutShort k g = refl
+
+-- a step that is no segment, no delimiter and no SOT is cut short
+pub cut_else : (found : HeaderStep) → ((m : Marker) → found ≡ Segment m → ⊥) → ((m : Marker) → found ≡ Delimiter m → ⊥) → (found ≡ Sot → ⊥) → found ≡ CutShort
+cut_else Sot segment delimiter sot = absurd (sot refl)
+cut_else (Delimiter m) segment delimiter sot = absurd (delimiter m refl)
+cut_else (Segment m) segment delimiter sot = absurd (segment m refl)
+cut_else CutShort segment delimiter sot = refl

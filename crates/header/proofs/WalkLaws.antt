@@ -206,6 +206,18 @@ walk_none s at k = by (walk_step_at s at) refl k
     by FirstSot e k = ap (λ (c : Chain WalkEnd). c.visits) (walk_found s at e)
     by (Refused r) e k = ap (λ (c : Chain WalkEnd). c.visits) (walk_refused s at r e)
 
+-- the same, of what the step was found to be
+pub walk_else : (s : List ℕ) (at : ℕ) (found : WalkStep) → found ≡ walk_step_at s at → ((p : Passing) → found ≡ Passed p → ⊥) → (walk_from s at).visits ≡ []
+walk_else s at (Passed p) e none = absurd (none p refl)
+walk_else s at FirstSot e none = ap (λ (c : Chain WalkEnd). c.visits) (walk_found s at (sym e))
+walk_else s at (Refused r) e none = ap (λ (c : Chain WalkEnd). c.visits) (walk_refused s at r (sym e))
+
+-- a step that passes nothing and refuses nothing found an SOT
+pub sot_else : (found : WalkStep) → ((p : Passing) → found ≡ Passed p → ⊥) → ((r : Refusal) → found ≡ Refused r → ⊥) → found ≡ FirstSot
+sot_else (Passed p) passed refusal = absurd (passed p refl)
+sot_else FirstSot passed refusal = refl
+sot_else (Refused r) passed refusal = absurd (refusal r refl)
+
 -- neither something passed nor a refusal
 pub only_found : (found : WalkStep) → OneOf (1 ∷ 2 ∷ []) (tag_of the_type found) → OneOf (0 ∷ 1 ∷ []) (tag_of the_type found) → found ≡ FirstSot
 only_found (Passed p) k g = absurd (⊎_elim (λ e. omega arith) (λ e. omega arith) k)

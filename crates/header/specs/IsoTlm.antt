@@ -74,7 +74,7 @@ iso_table ts = numbered_on 0 (ordered ts)
 
 -- ---- where our table is the same
 
--- ours (docs/RULES.md, "TLM") is in file order: carried on it is `numberedOn 0`, and restarting it is numbered from 0 in each segment
+-- ours (docs/RULES.md, "TLM") is in file order: carried on it is `numbered_on 0`, and restarting it is numbered from 0 in each segment
 unfoldable pub restarted : List TlmSegment → List Entry
 restarted [] = []
 restarted (t ∷ more) = numbered t.ST 0 t.pointers ++ restarted more
