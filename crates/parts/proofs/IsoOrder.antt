@@ -33,7 +33,7 @@ swapped (inr b) = inl b
 
 counted_indexed : {n k : ℕ} (ts : List TilePart) → Counted n k (map numbered ts) → Indexed n k ts
 counted_indexed [] c = last
-counted_indexed (t ∷ ts) (more m rest) = next refl (swapped m) (rw add-one at (counted_indexed ts rest))
+counted_indexed (t ∷ ts) (more m rest) = next refl (swapped m) (rw add-one at (counted_indexed {k = t.TPsot + 1} ts rest))
 
 indexed_counted : {n k : ℕ} {ts : List TilePart} → Indexed n k ts → Counted n k (map numbered ts)
 indexed_counted last = none

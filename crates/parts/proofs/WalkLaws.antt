@@ -16,7 +16,6 @@ use Rattle.types.specs.declared.TilePartEntry.{TilePartEntry}
 use Rattle.parts.specs.Scan.{part_at, scan_step_at, ScanEnd, ended, move_at, scan_from, recorded, entries_from, ended_as, judged}
 use Rattle.parts.specs.Walk.{Reached, Halved, quarters_by, Quartered, stride_up, stride_of, turns_of, place_of, quarters_of, walked_as}
 use Rattle.parts.specs.declared.scan.Scanned.{Scanned}
-use Rattle.parts.specs.declared.walk.Passed.{Passed}
 use Rattle.parts.specs.declared.walk.Quarters.{Quarters}
 use Rattle.parts.specs.declared.walk.Walked.{Walked}
 use Rattle.parts.specs.declared.step.ScanStep.TheVariants as found
