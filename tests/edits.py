@@ -10,35 +10,40 @@ A file of crates/*/must-fail has several wrong programs, which are tried togethe
     old: ..
     new: ..
 
-WHERE is a function, as header::parse::tell, whose proof no longer closes, or a law, as proofs/IsoTlm.antt tlm-entries. This
-reads what the prover said of each file, in target/must-fail after `rt ci` or `rt must-fail`, and holds it to these lines: what
-fails, by a fact of its own and not since something that it cites has failed, is what the programs of the file name, no more and
-no less. An error of form, of a name that is not there or of a place that the proof file does not have, is no fact. Nor is it one
-that the search for an equation (`cc`) met a bound of its own: a program of which the log says nothing else has a line `# at a
-bound`, and is named at the end. Status 1 if anything differs.
+WHERE is a function, as header::parse::tell, whose proof no longer closes, or a law, as proofs/IsoTlm.antt tlm_entries. Each file
+is applied to a copy of the tree, and `rt check` is run there; what it says is kept in target/must-fail/CRATE/NAME.log and is held
+to these lines: what fails, by a fact of its own and not since something that it cites has failed, is what the programs of the file
+name, no more and no less. An error of form, of a name that is not there or of a place that the proof file does not have, is no
+fact. Nor is it one that a search met a bound of its own: a program of which the log says nothing else has a line `# at a bound`,
+and is named at the end. Status 1 if anything differs.
 """
 
+import os
 import re
+import shutil
+import subprocess
 import sys
+import tempfile
+from concurrent.futures import ThreadPoolExecutor
 from pathlib import Path
+from queue import Queue
 
 from verdict import verdict
 
 ROOT = Path(__file__).resolve().parent.parent
 LOGS = ROOT / "target/must-fail"
 
-ERROR = re.compile(r"^(\S+\.antt):\d+:\d+: error: (.*(?:\n  has no .*)?)$", re.M)
-UNPROVED = re.compile(r"^fn (\S+): no proof: .*does not close", re.M)
+ERROR = re.compile(r"^\./(proofs/\S+\.antt):\d+:\d+: error: (.*(?:\n  has no .*)?)$", re.M)
+# A goal for which there is no answer, and which the search no longer proves.
+UNPROVED = re.compile(r"^fn (\S+): .*`search` did not prove", re.M)
 # What fails since something that it cites has failed.
-FOLLOWS = re.compile(r"was not admitted|were not admitted")
+FOLLOWS = re.compile(r"was not admitted|were not admitted|which was rejected|which were rejected")
 FORM = re.compile(r"not in scope|has no field|module `[^`]+` has no|that can be named|no such|not a function|unknown name|cannot be named|is not defined")
-# A place of the program, or what is needed there, beside another: said on any line of an error.
-PLACE = re.compile(
-    r"expected type `tie\.Need-|(?:one|other) has `(?:[^`\s]+\.)?(?:After|At|In|Start|Then\d+|Else\d+|Joined\d+)(?:-[^`\s]+)?`"
-)
+# What the compiler refuses before anything is proved.
+UNREAD = re.compile(r"^(?:src/\S+: error.*|\./(?:src|specs)/\S+: error.*)$", re.M)
 LINES = re.compile(r"(?:\n  .*)*")
-BOUND = "\n  `cc` met a bound of its own"
-PROOF = re.compile(r"proofs/(.+)/Proof\.antt")
+BOUND = re.compile(r"met a bound of its own|at the step limit|gave up at one of its limits")
+PROOF = re.compile(r"proofs/(.+)/(?:Answers|Invariants|Proof)\.antt")
 
 
 def programs(text):
@@ -56,28 +61,44 @@ def bounded(text):
     return set(re.findall(r"^## (.*)\n(?:#.*\n)*# at a bound$", text, re.M))
 
 
-def failed(crate, log, folder):
+def edited(text, home):
+    """The texts of the files that the programs change, by their path in the crate."""
+    texts, path, old = {}, "", ""
+    for line in text.split("\n"):
+        if line.startswith("file: "):
+            path = line.removeprefix("file: ").strip()
+        elif line.startswith("old: "):
+            old = line.removeprefix("old: ")
+        elif line.startswith("new:"):
+            now = texts.get(path) or (home / path).read_text()
+            if now.count(old) != 1:
+                raise ValueError(f"{path} has {now.count(old)} times: {old}")
+            texts[path] = now.replace(old, line.removeprefix("new:").removeprefix(" "))
+    return texts
+
+
+def failed(crate, log):
     """Where the prover's refusals stand, those that follow from others left out, and of these where a fact is named; and the errors
     of form."""
-    where, form = set(UNPROVED.findall(log)), []
+    where, form = set(UNPROVED.findall(log)), UNREAD.findall(log)
     facts = set(where)
     for error in ERROR.finditer(log):
-        path, message = error.groups()
+        file, message = error.groups()
         if FOLLOWS.search(message):
             continue
-        file = path.removeprefix(f"{folder}/")
         proof = PROOF.fullmatch(file)
         law = re.match(r"`([^`]+)`", message)
         place = "::".join([crate, *proof[1].split("/")]) if proof else f"{file} {law[1] if law else ''}".strip()
         where.add(place)
-        if not log.startswith(BOUND, error.end()):
+        said = message + LINES.match(log, error.end())[0]
+        if not BOUND.search(said):
             facts.add(place)
-        if FORM.search(message) or PLACE.search(message + LINES.match(log, error.end())[0]):
+        if FORM.search(message):
             form.append(f"{file}: {message}")
     return where, facts, form
 
 
-def faults(crate, name, text, log, folder):
+def faults(crate, name, text, log):
     known = programs(text)
     said = [f"{program} does not say where it is refused" for program, where in known.items() if not where]
     if not known or len(re.findall(r"^## ", text, re.M)) != len(known):
@@ -85,38 +106,79 @@ def faults(crate, name, text, log, folder):
     if len(re.findall(r"^new:", text, re.M)) < len(known):
         said.append("a program without a change")
     wanted = set().union(*known.values()) if known else set()
-    where, facts, form = failed(crate, log, folder)
+    where, facts, form = failed(crate, log)
     at_bound = {program for program, places in known.items() if places & where - facts}
     said += [f"{one} is refused at a bound, and names no fact" for one in sorted(at_bound - bounded(text))]
     said += [f"{one} says that it is refused at a bound, and names a fact" for one in sorted(bounded(text) - at_bound)]
     said += [f"{one} is not refused" for one in sorted(wanted - where)]
     said += [f"{one} is refused, and no program says so" for one in sorted(where - wanted)]
     said += [f"an error of form: {one}" for one in form]
+    if not re.search(r"^logic=", log, re.M):
+        said.append("the check came to no end")
     return [f"{crate}/{name}: {line}" for line in said]
+
+
+def copy_tree(to):
+    """The crates without what was built of them."""
+    for file in "crates.txt", "HANDLES":
+        if (ROOT / file).exists():
+            shutil.copy(ROOT / file, to)
+    for home in sorted((ROOT / "crates").iterdir()):
+        for part in "src", "specs", "proofs":
+            if (home / part).is_dir():
+                shutil.copytree(home / part, to / "crates" / home.name / part)
+
+
+def tried(edit, copies):
+    """What the prover says of the crate with the programs of a file."""
+    crate = edit.parts[-3]
+    copy = copies.get()
+    home = copy / "crates" / crate
+    try:
+        texts = edited(edit.read_text(), home)
+        kept = {path: (home / path).read_text() for path in texts}
+        for path, text in texts.items():
+            (home / path).write_text(text)
+        ran = subprocess.run(["rt", "check", "--jobs", "1"], cwd=home, stdout=subprocess.PIPE, stderr=subprocess.STDOUT, text=True, errors="replace")
+        for path, text in kept.items():
+            (home / path).write_text(text)
+        return ran.stdout
+    except (OSError, ValueError) as error:
+        return f"./src/{error}: error: it can't be applied\n"
+    finally:
+        copies.put(copy)
+
+
+def logs(edits):
+    """What the prover says of each, so many at a time as there are processors."""
+    with tempfile.TemporaryDirectory() as folder:
+        copies = Queue()
+        for number in range(os.cpu_count() or 1):
+            copy = Path(folder) / str(number)
+            copy.mkdir()
+            copy_tree(copy)
+            copies.put(copy)
+        with ThreadPoolExecutor(copies.qsize()) as pool:
+            yield from zip(edits, pool.map(lambda edit: tried(edit, copies), edits))
 
 
 def main():
     said, files, count, at_bound = [], 0, 0, []
-    # a place beside another is seen, whatever line says it
-    for line in "expected type `tie.Need-a`, but this has type `tie.Need-b`", "(expected) and the other has `a.Lts.After-b` (found)":
-        if not failed("a", f"/a/proofs/A.antt:1:1: error: `a`: the two types differ\n  {line}\n", "/a")[2]:
-            said.append(f"this check does not see {line}")
-    for edit in sorted(ROOT.glob("crates/*/must-fail/*.edit")):
-        crate, name = edit.parts[-3], edit.stem
-        if sys.argv[1:] and crate not in sys.argv[1:]:
-            continue
-        folder = LOGS / crate / name
-        log = folder / ".log"
-        if not log.exists():
-            said.append(f"{crate}/{name} was not tried")
-            continue
-        text = edit.read_text()
-        said += faults(crate, name, text, log.read_text(), folder)
+    edits = [edit for edit in sorted(ROOT.glob("crates/*/must-fail/*.edit")) if not sys.argv[1:] or edit.parts[-3] in sys.argv[1:]]
+    # what stands unchanged is proved once, for all copies
+    for crate in sorted({edit.parts[-3] for edit in edits}):
+        if subprocess.run(["rt", "check"], cwd=ROOT / "crates" / crate, stdout=subprocess.DEVNULL).returncode:
+            said.append(f"{crate} is not proved as it stands")
+    for edit, log in logs(edits):
+        crate, name, text = edit.parts[-3], edit.stem, edit.read_text()
+        (LOGS / crate).mkdir(parents=True, exist_ok=True)
+        (LOGS / crate / f"{name}.log").write_text(log)
+        said += faults(crate, name, text, log)
         # it is seen where a program is refused at one place less, or at one more
         for where in sorted(set().union(*programs(text).values())):
             for other in "", f"{where}, {crate}::nothing":
                 changed = re.sub(rf"(^# refused:.*?){re.escape(where)}(?=,|$)", rf"\g<1>{other}", text, flags=re.M)
-                if not faults(crate, name, changed, log.read_text(), folder):
+                if not faults(crate, name, changed, log):
                     said.append(f"{crate}/{name}: this check does not see {where}")
         at_bound += [f"{crate}/{program}" for program in sorted(bounded(text))]
         files += 1
