@@ -16,8 +16,13 @@ to these lines: what fails, by a fact of its own and not since something that it
 name, no more and no less. An error of form, of a name that is not there or of a place that the proof file does not have, is no
 fact. Nor is it one that a search met a bound of its own: a program of which the log says nothing else has a line `# at a bound`,
 and is named at the end. Status 1 if anything differs.
+
+Goals and steps are named by the code's own text, as returns-then-a-b in `if a < b`, so a program that changes a condition changes
+such names. Before the check the function's proof file is fitted to them, place by place as `rt names` tells them of the code before
+and after: what then fails is a fact.
 """
 
+import json
 import os
 import re
 import shutil
@@ -43,6 +48,7 @@ FORM = re.compile(r"not in scope|has no field|module `[^`]+` has no|that can be 
 UNREAD = re.compile(r"^(?:src/\S+: error.*|\./(?:src|specs)/\S+: error.*)$", re.M)
 LINES = re.compile(r"(?:\n  .*)*")
 BOUND = re.compile(r"met a bound of its own|at the step limit|gave up at one of its limits")
+NAME = re.compile(r"(?<![^\s(){}\[\].;,@:])[^\s(){}\[\].;,@:]+")
 PROOF = re.compile(r"proofs/(.+)/(?:Answers|Invariants|Proof)\.antt")
 
 
@@ -118,6 +124,11 @@ def faults(crate, name, text, log):
     return [f"{crate}/{name}: {line}" for line in said]
 
 
+def write(home, texts):
+    for path, text in texts.items():
+        (home / path).write_text(text)
+
+
 def copy_tree(to):
     """The crates without what was built of them."""
     for file in "crates.txt", "HANDLES":
@@ -129,19 +140,55 @@ def copy_tree(to):
                 shutil.copytree(home / part, to / "crates" / home.name / part)
 
 
+def names(home):
+    """The names that proof files cite, as `rt names` writes them: of each function, by the place in its code."""
+    with tempfile.TemporaryDirectory() as folder:
+        subprocess.run(["rt", "names", folder], cwd=home, stdout=subprocess.DEVNULL, stderr=subprocess.DEVNULL)
+        file = Path(folder) / "names.json"
+        return json.loads(file.read_text()) if file.exists() else {}
+
+
+def by_place(told):
+    """Of one function: each goal, step, arm and place, by where it stands."""
+    found = {("goal", old): new for old, new in told["needs"]}
+    for place, name, arm in zip(told["places"], told["places_by_name"], told["arms"]):
+        found["step", place[0]], found["place", place[0]] = place[2][1], name
+        if arm:
+            found["arm", place[0]] = arm[0]
+    return found
+
+
+def fitted(crate, home, before):
+    """The proof files of functions whose names the programs change, with the names of the changed code."""
+    texts = {}
+    for key, told in names(home).items():
+        function = re.fullmatch(rf"Rattle-{crate}-proofs\.(.+)\.Lts", key)
+        if not function or key not in before:
+            continue
+        was, now = by_place(before[key]), by_place(told)
+        other = {was[place]: now[place] for place in was if was[place] != now.get(place, was[place])}
+        for file in "Answers", "Invariants":
+            path = f"proofs/{function[1].replace('.', '/')}/{file}.antt"
+            if other and (home / path).exists():
+                texts[path] = NAME.sub(lambda name: other.get(name[0], name[0]), (home / path).read_text())
+    return texts
+
+
 def tried(edit, copies):
     """What the prover says of the crate with the programs of a file."""
     crate = edit.parts[-3]
     copy = copies.get()
     home = copy / "crates" / crate
     try:
+        before = names(home)
         texts = edited(edit.read_text(), home)
         kept = {path: (home / path).read_text() for path in texts}
-        for path, text in texts.items():
-            (home / path).write_text(text)
+        write(home, texts)
+        texts = fitted(crate, home, before)
+        kept |= {path: (home / path).read_text() for path in texts if path not in kept}
+        write(home, texts)
         ran = subprocess.run(["rt", "check", "--jobs", "1"], cwd=home, stdout=subprocess.PIPE, stderr=subprocess.STDOUT, text=True, errors="replace")
-        for path, text in kept.items():
-            (home / path).write_text(text)
+        write(home, kept)
         return ran.stdout
     except (OSError, ValueError) as error:
         return f"./src/{error}: error: it can't be applied\n"

@@ -1,6 +1,6 @@
 -- The laws of the index by tile, each in the request's words (docs/changes/W-206.md): what a lookup gives, that every entry stands in it once, that its keys
 -- ascend, and that an index extended is one made afresh.
-use Prim.Native.Nat.{ℕ, zero, suc, ◌+◌, ◌-◌, ◌≤◌, ◌<◌}
+use Prim.Native.Nat.{ℕ, zero, suc, ◌+◌, ◌≤◌, ◌<◌}
 use native.Mathlib.Nat.{add-zero, zero-add}
 use native.Mathlib.Omega.{arith}
 use mathlib.Core.Path.{◌≡◌, refl, sym, ap, ap₂, ◌∙◌}

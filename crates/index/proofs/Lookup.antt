@@ -14,7 +14,7 @@ use Rattle.types.specs.declared.TilePartEntry.{TilePartEntry}
 use Rattle.parts.specs.Tiles.{of_tile}
 use Rattle.index.specs.Index.{numbered, tile_of, run_from, runs_below, index_from, index_of}
 use Rattle.index.specs.Run.{middle, halved, first_from, run_in}
-use Rattle.index.proofs.Each.{Each, none, more, each_map, each_append, each_at, Tile, Below, From, run_tile, runs_below_lem}
+use Rattle.index.proofs.Each.{Each, none, each_map, each_append, each_at, Tile, Below, From, run_tile, runs_below_lem}
 use Rattle.index.proofs.SortLaws.{runs_fit}
 use Rattle.index.proofs.RunLaws.{halved_end, halved_right, halved_left}
 

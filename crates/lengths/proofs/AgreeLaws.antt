@@ -75,6 +75,13 @@ module _ (e : Entry) where
   agreed_none step.Ended k = refl
   agreed_none (step.Refused r) k = refl
 
+  -- the same, where the step is known to be no tile-part
+  pub agreed_else : (found : ScanStep) → ((p : TilePartEntry) → found ≡ step.Part p → ⊥) → agreed_by e found ≡ Not
+  unfolding agreed_by
+  agreed_else (step.Part p) none = absurd (none p refl)
+  agreed_else step.Ended none = refl
+  agreed_else (step.Refused r) none = refl
+
 -- ---- what stands there
 
 module _ (s : List ℕ) (at : ℕ) where

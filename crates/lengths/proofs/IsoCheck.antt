@@ -25,7 +25,7 @@ use Rattle.header.proofs.IsoMain.{front_main, up_to_sot, stopped_main, ended_mai
 use Rattle.parts.specs.Scan.{scan_from}
 use Rattle.parts.specs.Iso.{TilePart, sot_rows, part_bytes, length_of, AllRanges, parts_bytes, listed_from}
 use Rattle.parts.proofs.Iso.{scan_standard}
-use Rattle.lengths.specs.Segments.{tlms_of, once, ordered, numbers_end}
+use Rattle.lengths.specs.Segments.{tlms_of, once, numbers_end}
 use Rattle.lengths.specs.Check.{pair_of, standing, compared, behind_scan, behind_table, behind_header, checked}
 use Rattle.lengths.specs.Iso.{Distinct, part_entries, codestream}
 use Rattle.lengths.specs.declared.check.Check.TheVariants.{Passes}

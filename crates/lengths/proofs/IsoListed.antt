@@ -32,7 +32,7 @@ use Rattle.header.proofs.Numberings.{none_past, few_before}
 use Rattle.header.proofs.IsoTlm.{tlm_marker, tlm_count, tlm_numbered, tlm_unindexed}
 use Rattle.header.proofs.IsoMain.{marker_read, passing_of, piece_passed, siz_main, split_main, up_to_sot}
 use Rattle.lengths.specs.Segments.{tlms_in, tlms_of, is_in, once, insert, ordered, numbers_end}
-use Rattle.lengths.specs.Check.{listed, same}
+use Rattle.lengths.specs.Check.{listed}
 use Rattle.lengths.specs.Iso.{Apart, Distinct}
 use Rattle.lengths.proofs.PlacesFound.{ahead, ahead_plain, ahead_tlm}
 
