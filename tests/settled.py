@@ -1,8 +1,9 @@
 #!/usr/bin/env python3
-"""Each entry point has its theorem in crates/laws/proofs/Settled.antt: tests/settled.py
+"""Each entry point has its theorem in a file Settled.antt: tests/settled.py
 
-An entry point is a public function of a library that requires nothing, or any that is exported for C. The prover holds a
-theorem to the function's own contract; what it can't see is a function that has none. Status 1 if there is one, or if a
+An entry point is a public function of a library that requires nothing, or any that is exported for C. Crate laws has the theorems,
+and each archive (host_c, probe_c) its own. The prover holds a theorem to the function's own contract; what it can't see is a function
+that has none. Status 1 if there is one, or if a
 theorem looks at less than the whole answer though the answer is no part of a lent slice.
 """
 
@@ -13,11 +14,11 @@ from pathlib import Path
 from verdict import verdict
 
 ROOT = Path(__file__).resolve().parent.parent
-SETTLED = ROOT / "crates/laws/proofs/Settled.antt"
+SETTLED = [ROOT / f"crates/{crate}/proofs/Settled.antt" for crate in ("laws", "host_c", "probe_c")]
 
 ITEM = re.compile(r'^impl (?P<type>\w+) \{$|^(?P<end>\})$|^ *pub (?P<c>extern "C" )?fn (?P<name>\w+)(?P<head>.*?)\{$', re.M | re.S)
 ALIAS = re.compile(r"^use Rattle\.(\w+)\.specs\.contracts as (\w+)$", re.M)
-THEOREM = re.compile(r"→ (Settles|SettlesAs) M (\S+)\.ended (\S+)\.clauses\b")
+THEOREM = re.compile(r"→ (Settles|SettlesAs) M (\S+)\.ended \(λ 𝓤\. (\S+)\.clauses\)")
 
 
 def entry_points(crate, module, source):
@@ -57,7 +58,7 @@ def main():
         for file in sorted(library.parent.glob("*.rt")):
             module = None if file == library else file.stem
             points |= entry_points(library.parts[-3], module, file.read_text())
-    settled = SETTLED.read_text()
+    settled = "\n".join(file.read_text() for file in SETTLED)
     said = faults(points, settled)
     # it is seen where a theorem is missing, is of two functions, or looks at a part
     for path, part in points.items():

@@ -4,6 +4,8 @@ ghost use Rattle.types.specs.Row.{row_bytes};
 ghost use Rattle.header.specs.Reading.{by_default, reading_of};
 ghost use Rattle.header.specs.Parse.{parsed, table_after, out_after, header_number, header_first, header_length, header_entries, header_fillers};
 
+use header::reading::ReadingNumbers;
+
 // TLM entries without an index are numbered on over the segments, and CAP is passed over as any segment. `table` gets a row of 21 bytes for each TLM entry, `out` the decode header. `first_sot`: the first SOT's offset, or a refusal's
 // place; `decode_length`: the decode header's length; `entries`: the rows; `fillers`: the delimiters whose high byte is not FF.
 #[unsafe(no_mangle)]

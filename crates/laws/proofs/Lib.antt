@@ -15,7 +15,6 @@ pub mod Demand3Order
 pub mod Demand3
 pub mod Region
 pub mod Rows
-pub mod Settling
 pub mod Settled
 pub mod Demand3Premises
 pub mod RegionPremises

@@ -1,5 +1,4 @@
 pub mod Sample
 pub mod Demand3
-pub mod Settles
 pub mod Region
 pub mod ByIndex

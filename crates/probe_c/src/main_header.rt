@@ -7,6 +7,8 @@ ghost use Rattle.header.specs.Parse.{parsed, out_after, header_number, header_fi
 ghost use Rattle.records.specs.MainHeader.{records_after};
 ghost use Rattle.probe.specs.Own.{held, own};
 
+use header::reading::ReadingNumbers;
+
 // With as many records as `table` has rows, 2,048 at most. `first_sot`: the first SOT's offset, or a refusal's place;
 // `decode_length`: the decode header's length; `entries`: the records; `fillers`: the delimiters whose high byte is not FF.
 #[unsafe(no_mangle)]

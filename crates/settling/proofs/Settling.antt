@@ -2,7 +2,7 @@
 use mathlib.Core.Path.{◌≡◌, sym, ap, ◌∙◌}
 use base.Logic.{SProp, ent, sep, emp, id⊢, via, snd∗}
 use contract.Monad.{conj, conj_l, conj_r, fact, fact_i, fact_use, fact∗}
-use Rattle.laws.specs.Settles.{Model}
+use Rattle.settling.specs.Settles.{Model}
 
 settled : {A : Type 0} {x y z : A} → x ≡ z → y ≡ z → x ≡ y
 settled p q = p ∙ sym q

@@ -1,5 +1,6 @@
--- What it is that a contract settles the outcome. The contract is a function's own `clauses`, its `requires` and `ensures` by the name that its theorem's
--- proof has for them: a theorem that cites it holds no copy of them.
+-- What it is that a contract settles the outcome. The contract is a function's own `clauses`, its `requires` and `ensures` by the name that the prover has
+-- for them: a theorem that cites it holds no copy of them. What is proved of the function is its `spec`, which computes to these clauses, closed
+-- (`denote.Triple.Clauses.closing`).
 use Rattle.std.specs.Prelude.{◌≡◌}
 use seplogic.Ra.Ura.{Ura}
 use base.Logic.{SProp, ent, emp}
@@ -19,7 +20,7 @@ pub record Model (M : Type 1) : Type 2 where
   pub run : Routine → Fun 𝓤
 
 abbrev pub Contract : Type 1 → Ended → Type 2
-Contract M T = (𝓤 : Ura M) → (𝓛 : Logic 𝓤) → (Memory → SProp 𝓤) → (Routine → Fun 𝓤) → Clauses 𝓤 T
+Contract M T = (𝓤 : Ura M) → Logic 𝓤 → (Memory → SProp 𝓤) → (Routine → Fun 𝓤) → Clauses 𝓤 T
 
 -- the lifetimes of a call
 abbrev pub Lives : Ended → Type 0
@@ -32,7 +33,7 @@ Outcome T κs a = Res T.signature κs × Lasts T κs a
 
 module _ (M : Type 1) (T : Ended) (c : Contract M T) where
   abbrev pub at : (m : Model M) → Clauses m.𝓤 T
-  at m = c m.𝓤 m m.mem m.run
+  at m = c m.𝓤 m.𝓛 m.mem m.run
 
   -- what the `ensures` say of an outcome
   abbrev pub Ensured : (m : Model M) (κs : Lives T) (a : Args T.signature κs) → (at m κs a).ghost → Outcome T κs a → SProp m.𝓤
