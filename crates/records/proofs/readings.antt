@@ -1,4 +1,0 @@
-pub mod by_tile
-pub mod main_header
-pub mod order
-pub mod scan

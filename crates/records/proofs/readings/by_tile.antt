@@ -1,4 +1,0 @@
-pub mod append
-pub mod extend_index
-pub mod fill
-pub mod index_tiles

@@ -1,1 +1,0 @@
-pub mod tile_in_order
