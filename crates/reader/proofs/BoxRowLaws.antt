@@ -1,11 +1,11 @@
 -- Laws of a box's 29 bytes: five writes make them, and rows stand one after the other.
 use Prim.Native.Nat.{ℕ, ◌+◌, ◌*◌, ◌≤◌}
 use native.Mathlib.Omega.{arith}
-use mathlib.Core.Path.{◌≡◌, refl, sym, ap, ◌∙◌}
+use mathlib.Core.Path.{◌≡◌, refl, sym, ap}
 use mathlib.Core.List.{List, [], ◌∷◌, ◌++◌, append_assoc}
 use lib.ListN.{length, set, length-append}
 use Rattle.numbers.specs.Bytes.{bytes_of, put}
-use Rattle.numbers.proofs.BytesLaws.{length_bytes, put_put, put_one, length_put, put_none}
+use Rattle.numbers.proofs.BytesLaws.{length_bytes, put_put, put_one}
 use Rattle.reader.specs.declared.box_row.BoxEntry.{BoxEntry}
 use Rattle.reader.specs.BoxRow.{row_of, rows_of}
 

@@ -10,9 +10,7 @@ use Rattle.reader.specs.BoxStep.{step_at}
 use Rattle.reader.specs.Boxes.{Listing, boxes, refused, boxes_in, contents_of, counted, entries_of}
 use Rattle.reader.specs.declared.box_row.BoxEntry.{BoxEntry}
 use Rattle.reader.specs.declared.box_step.ListStep.TheVariants as step
-use Rattle.reader.specs.declared.boxes.Counted.{Counted}
 use Rattle.reader.specs.declared.boxes.Counted.TheVariants.{Boxes, Refused}
-use Rattle.reader.proofs.BoxStepLaws.{plain_stands, superbox_stands}
 use Rattle.reader.proofs.BoxesLaws.{Passed, none_passed, all_passed, stops, pass_plain, stops_inside, pass_superbox}
 
 -- ---- what a count says of the listing

@@ -13,7 +13,7 @@ use Rattle.reader.specs.Boxes.{Listing, boxes, refused, before, boxes_in, conten
 use Rattle.reader.specs.declared.box_row.BoxEntry.{BoxEntry}
 use Rattle.reader.specs.declared.box_step.ListStep.TheVariants.{Plain, Superbox, End, Refused}
 use Rattle.reader.proofs.BoxesLaws.{Passed, none_passed, all_passed, stops, pass_plain, stops_inside, pass_superbox}
-use Rattle.reader.proofs.BoxRowLaws.{length_row, length_rows, rows_append, rows_one, rows_none}
+use Rattle.reader.proofs.BoxRowLaws.{length_rows, rows_append, rows_one, rows_none}
 
 -- ---- what stands in a table
 

@@ -7,11 +7,11 @@ use lib.ListN.{length, take, length-take, length-append}
 use Rattle.types.specs.declared.Refusal.{Refusal}
 use Rattle.reader.specs.BoxRow.{end_of}
 use Rattle.reader.specs.BoxStep.{step_at}
-use Rattle.reader.specs.Boxes.{Listing, boxes, refused, before, then, on_step, list_from, superbox, boxes_in, contents_of, entries_of, Accepted}
+use Rattle.reader.specs.Boxes.{Listing, boxes, refused, before, then, on_step, list_from, superbox, boxes_in, contents_of, entries_of}
 use Rattle.reader.specs.declared.box_row.BoxEntry.{BoxEntry}
 use Rattle.reader.specs.declared.box_step.ListStep.{ListStep}
 use Rattle.reader.specs.declared.box_step.ListStep.TheVariants.{Plain, Superbox, End, Refused}
-use Rattle.reader.proofs.BoxStepLaws.{Stands, plain_stands, superbox_stands}
+use Rattle.reader.proofs.BoxStepLaws.{plain_stands, superbox_stands}
 
 -- ---- one turn, by what the step finds
 

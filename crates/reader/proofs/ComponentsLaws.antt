@@ -80,6 +80,9 @@ module _ (s : List ℕ) where
         no_other : OneOf (0 ∷ 1 ∷ 3 ∷ []) 2 → ⊥
         no_other k = ⊎_elim (λ z. omega arith) (λ k. ⊎_elim (λ z. omega arith) (λ z. omega arith) k) k
 
+    pub segment_else : (found : HeaderStep) → found ≡ step_at s marker → ((m : Marker) → found ≡ Segment m → ⊥) → siz_whole s ≡ false
+    segment_else found e none = by_bool (siz_whole s) (λ t. absurd (none _ (e ∙ whole_segment t))) (λ t. t)
+
   -- ---- the count
 
   pub count_short : lsiz s marker < 41 → count_held s ≡ false

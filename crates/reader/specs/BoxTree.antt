@@ -1,6 +1,6 @@
 -- What the rows of a listing say, without the file: boxes that adjoin and fill an extent, in file order, each once; a superbox is followed by the list that fills its content.
 -- And which of them holds the codestream.
-use Rattle.std.specs.Prelude.{ℕ, ◌+◌, ◌-◌, ◌≤◌, ◌<◌, true, false, cond, ◌&&◌, ◌≡◌, List, [], ◌∷◌, ◌++◌, eqb}
+use Rattle.std.specs.Prelude.{ℕ, ◌+◌, ◌-◌, ◌≤◌, ◌<◌, true, cond, ◌&&◌, ◌≡◌, List, [], ◌∷◌, ◌++◌, eqb}
 use Rattle.types.specs.Refusals.{refusal}
 use Rattle.reader.specs.Search.{JP2C, box_at}
 use Rattle.reader.specs.BoxRow.{end_of}

@@ -1,0 +1,12 @@
+-- The search from the present position ends as the search from 2 does; each turn is one step of the chain, and what is left of the codestream falls.
+use Prim.Native.Nat.{◌-◌}
+use mathlib.Core.Path.{◌≡◌}
+use lib.ListN.{length}
+use Rattle.reader.specs.Siz.{siz_from, siz_read}
+use Rattle.reader.proofs.siz.parse_siz_marker.Given as goal
+
+abbrev pub invariant-loop-read : goal.invariant-loop-read
+invariant-loop-read l = siz_from l.codestream l.at ≡ siz_read l.codestream
+
+abbrev pub decreases-loop-read : goal.decreases-loop-read
+decreases-loop-read l = length l.codestream - l.at
