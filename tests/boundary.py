@@ -1,7 +1,7 @@
 #!/usr/bin/env python3
 """The boundary for C: tests/boundary.py
 
-Holds include/winterhasp.h and the declarations in rust/ to the functions that crates/host and crates/probe export, name by
+Holds include/winterhasp.h and the declarations in rust/ to the functions that crates/host_c and crates/probe_c export, name by
 name and type by type, a struct that is passed to its fields, and both to what the archives in target/staticlib define; then compiles the C programs of tests/c with
 every warning an error, links the archive, and runs them on sample A. Status 1 if anything differs. CC names the C compiler.
 """
@@ -131,7 +131,7 @@ def run(name, folder):
 
 
 def main():
-    host, probe = exports("host"), exports("probe")
+    host, probe = exports("host_c"), exports("probe_c")
     header = HEADER.read_text()
     rust = {crate: file.read_text() for crate, file in RUST.items()}
     said = texts(host, probe, header, rust)

@@ -167,10 +167,13 @@ def fitted(crate, home, before):
             continue
         was, now = by_place(before[key]), by_place(told)
         other = {was[place]: now[place] for place in was if was[place] != now.get(place, was[place])}
+        # a branch is spelled like its place, and what an arm leaves to later ones like the arm
+        other |= {old[0].lower() + old[1:]: new[0].lower() + new[1:] for old, new in other.items()}
+        other |= {old.replace("in-", "not-", 1): new.replace("in-", "not-", 1) for old, new in other.items() if old.startswith("in-")}
         for file in "Answers", "Invariants":
             path = f"proofs/{function[1].replace('.', '/')}/{file}.antt"
             if other and (home / path).exists():
-                texts[path] = NAME.sub(lambda name: other.get(name[0], name[0]), (home / path).read_text())
+                texts[path] = NAME.sub(lambda name: "+".join(other.get(part, part) for part in name[0].split("+")), (home / path).read_text())
     return texts
 
 

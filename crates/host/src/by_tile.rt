@@ -41,12 +41,7 @@ pub fn winterhasp_extend_index(
 }
 
 // A tile's run: 1, and 0 where it has no entry. `first` is where the run stands in the index, and `count` how many keys it has.
-pub fn winterhasp_tile_run(
-    index: &[u64],
-    tile: u16,
-    first: &mut u64,
-    count: &mut u64,
-) -> u32
+pub fn winterhasp_tile_run(index: &[u64], tile: u16, first: &mut u64, count: &mut u64) -> u32
     ensures value { result ≡ some_number (run_in index.now tile) }
     ensures first_after { first.new ≡ first_from index.now tile 0 }
     ensures count_after { count.new ≡ length (run_in index.now tile) }

@@ -44,13 +44,7 @@ pub extern "C" fn winterhasp_read_components_in_tile(
     ensures y1_after { y1.new ≡ read_end bottom (components_in_tile AnnexB codestream.now tile) y1.old }
 {
     host::components::winterhasp_read_components_in_tile(
-        codestream,
-        tile,
-        components,
-        x0,
-        y0,
-        x1,
-        y1,
+        codestream, tile, components, x0, y0, x1, y1,
     )
 }
 
@@ -74,14 +68,7 @@ pub extern "C" fn winterhasp_read_components_in_tile_by_rule(
     ensures y1_after { y1.new ≡ read_end bottom (components_in_tile (rule_of rule) codestream.now tile) y1.old }
 {
     host::components::winterhasp_read_components_in_tile_by_rule(
-        codestream,
-        tile,
-        rule,
-        components,
-        x0,
-        y0,
-        x1,
-        y1,
+        codestream, tile, rule, components, x0, y0, x1, y1,
     )
 }
 
@@ -111,16 +98,7 @@ pub extern "C" fn winterhasp_component(
     ensures y1_after { y1.new ≡ one_value (λ i. bottom i.area) (component_of codestream.now number) y1.old }
 {
     host::components::winterhasp_component(
-        codestream,
-        number,
-        bits,
-        signed,
-        xrsiz,
-        yrsiz,
-        x0,
-        y0,
-        x1,
-        y1,
+        codestream, number, bits, signed, xrsiz, yrsiz, x0, y0, x1, y1,
     )
 }
 
@@ -150,17 +128,7 @@ pub extern "C" fn winterhasp_component_in_tile(
     ensures y1_after { y1.new ≡ one_value (λ i. bottom i.area) (component_in_tile AnnexB codestream.now tile number) y1.old }
 {
     host::components::winterhasp_component_in_tile(
-        codestream,
-        tile,
-        number,
-        bits,
-        signed,
-        xrsiz,
-        yrsiz,
-        x0,
-        y0,
-        x1,
-        y1,
+        codestream, tile, number, bits, signed, xrsiz, yrsiz, x0, y0, x1, y1,
     )
 }
 
@@ -191,18 +159,7 @@ pub extern "C" fn winterhasp_component_in_tile_by_rule(
     ensures y1_after { y1.new ≡ one_value (λ i. bottom i.area) (component_in_tile (rule_of rule) codestream.now tile number) y1.old }
 {
     host::components::winterhasp_component_in_tile_by_rule(
-        codestream,
-        tile,
-        rule,
-        number,
-        bits,
-        signed,
-        xrsiz,
-        yrsiz,
-        x0,
-        y0,
-        x1,
-        y1,
+        codestream, tile, rule, number, bits, signed, xrsiz, yrsiz, x0, y0, x1, y1,
     )
 }
 
@@ -235,19 +192,7 @@ pub extern "C" fn winterhasp_component_within(
     ensures y1_after { y1.new ≡ one_value (λ i. bottom i.area) (component_in codestream.now (record { x0 = area_x0; y0 = area_y0; x1 = area_x1; y1 = area_y1 }) number) y1.old }
 {
     host::components::winterhasp_component_within(
-        codestream,
-        area_x0,
-        area_y0,
-        area_x1,
-        area_y1,
-        number,
-        bits,
-        signed,
-        xrsiz,
-        yrsiz,
-        x0,
-        y0,
-        x1,
-        y1,
+        codestream, area_x0, area_y0, area_x1, area_y1, number, bits, signed, xrsiz, yrsiz, x0, y0,
+        x1, y1,
     )
 }

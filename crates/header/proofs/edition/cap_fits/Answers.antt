@@ -14,7 +14,6 @@ pub read_u32-requires : goal.read_u32-requires
 unfolding segment_end
 read_u32-requires c = omega (arith, c.requires.ends, c.read_u16-lcap.ensures, c.if-lcap-lt6.false)
 
-
 pub returns : goal.returns
 returns c =
     let bytes : (i : ℕ) → get_or c.args.codestream.now i 0 < 256 = λ i. omega (arith, c.type_inv.codestream i) in

@@ -11,8 +11,8 @@ loop-i-preserved c =
     -- the key here was looked up
     let told : Told c.args.tile c.args.table.now c.args.run.now c.loop-i.i c.is_there.result = record { inside = c.loop-i-test.true; is = c.is_there.ensures } in
     elim c.if-is_there.branch [
-      then-is_there w ↦ one_counted told w.if-is_there.true w.n-is c.loop-i.invariant
-    | else-is_there w ↦ skip_counted told w.if-is_there.false w.n-is c.loop-i.invariant
+      | then-is_there w ↦ one_counted told w.if-is_there.true w.n-is c.loop-i.invariant
+      | else-is_there w ↦ skip_counted told w.if-is_there.false w.n-is c.loop-i.invariant
     ]
 
 pub returns : goal.returns

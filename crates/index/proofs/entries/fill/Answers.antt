@@ -28,9 +28,9 @@ pub loop-i-preserved : goal.loop-i-preserved
 loop-i-preserved c =
     let t = told (goal.at.loop-i-preserved c).After-is_there in
     elim c.if-is_there.branch [
-      then-is_there w ↦
+      | then-is_there w ↦
           one_filled t w.if-is_there.true w.number_of-number.ensures w.read_row-entry.ensures (w.out-is ∙ w.write_row.ensures) w.at-is c.loop-i.invariant
-    | else-is_there w ↦ skip_filled t w.if-is_there.false w.out-is w.at-is c.loop-i.invariant
+      | else-is_there w ↦ skip_filled t w.if-is_there.false w.out-is w.at-is c.loop-i.invariant
     ]
 
 pub returns : goal.returns

@@ -19,12 +19,11 @@ pub loop-i-smaller : goal.loop-i-smaller
 loop-i-smaller c = omega arith
 
 pub loop-i-preserved : goal.loop-i-preserved
-loop-i-preserved c =
-    (
-      omega arith,
-      length-set c.loop-i.table c.loop-i.i 0 ∙ c.loop-i.invariant.1,
-      cleared_more c.args.table.now c.loop-i.table c.loop-i.i (omega arith) c.loop-i.invariant.2,
-    )
+loop-i-preserved c = (
+  omega arith,
+  length-set c.loop-i.table c.loop-i.i 0 ∙ c.loop-i.invariant.1,
+  cleared_more c.args.table.now c.loop-i.table c.loop-i.i (omega arith) c.loop-i.invariant.2,
+)
 
 pub returns : goal.returns
 returns c =

@@ -75,9 +75,9 @@ halving : (c : Joined-used-eq64)
     → (c.if-used-eq64.used < 64) × Going c.args.codestream.now c.args.start c.if-used-eq64.marks c.if-used-eq64.used c.if-used-eq64.stride c.loop-used.at c.loop-used.count
 halving c =
     elim c.if-used-eq64.branch [
-      then-used-eq64 w ↦
+      | then-used-eq64 w ↦
           (omega arith, rw (w.marks-is, w.used-is, w.stride-is) (halved (omega arith) w.halve.ensures (rw w.if-used-eq64.true at c.loop-used.invariant)))
-    | else-used-eq64 w ↦ (omega arith, rw (w.marks-is, w.used-is, w.stride-is) c.loop-used.invariant)
+      | else-used-eq64 w ↦ (omega arith, rw (w.marks-is, w.used-is, w.stride-is) c.loop-used.invariant)
     ]
 
 -- a full pass
