@@ -20,7 +20,8 @@ use Rattle.header.specs.IsoTlm.{Pointer, TlmSegment, tlm_rows, Held, TlmRanges, 
 use Rattle.header.specs.IsoMain.{Piece, tlm, piece_bytes, pieces_bytes, main_header, Sound, AllSound, IsMain, tables, pointer_count, without}
 use Rattle.header.specs.Parse.{judged, judged_by}
 use Rattle.header.specs.declared.numbering.Numbering.TheVariants.{CarriedOn, Restarting}
-use Rattle.header.specs.Step.{delimits, segment_end}
+use Rattle.header.specs.Step.{delimits, passing, segment_end}
+use Rattle.header.specs.declared.step.Marker.{Marker}
 use Rattle.header.specs.Tlm.{Entry, index_size, tlm_at}
 use Rattle.header.specs.Walk.{cut_at, tlm_step, walk_step_at, walk_from}
 use Rattle.header.specs.Numbering.{entries_by}
@@ -200,9 +201,10 @@ module _ (front : List ℕ) where
       let long : length s ≡ length front + length tail = length-append front tail in
       let marker : be 2 s (length front) ≡ TLM = be_behind 2 front tail ∙ is in
       let size : be 2 s (length front + 2) ≡ be 2 tail 2 = be_rest 2 front tail 2 in
-      walk_segment s (length front) _ (step_segment s (length front) (omega arith) (λ e. omega arith) (rw marker) (omega arith) (omega arith))
-      ∙ pass_tlm s (length front) _ marker
-      ∙ ap (tlm_step _) found
+      let m : Marker = passing (be 2 s (length front)) (segment_end s (length front)) in
+      walk_segment s (length front) m (step_segment s (length front) (omega arith) (λ e. omega arith) (rw marker) (omega arith) (omega arith))
+      ∙ pass_tlm s (length front) m marker
+      ∙ ap (tlm_step m) found
 
   pub ltlm_3_there : walk_step_at (front ++ ltlm_3) (length front) ≡ walk.Refused (refusal 4 (length front))
   unfolding be
