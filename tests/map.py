@@ -134,7 +134,8 @@ Over all of them stands crate `laws`, with no code: `proofs/Demand3*.antt` (what
 the tiles cut out of it), `proofs/Sample*.antt` (sample A and the edges of the rules), `proofs/Settled.antt` (each entry point's
 contract settles its outcome), `proofs/Rows.antt` (tables of rows and of records agree), `proofs/Region*.antt` (how much header
 is enough) and `proofs/OrderPremises.antt` (what the laws on the order of tile-parts ask for). Crate `chain`, with no code either,
-says what a walk is: `specs/Chain.antt`, `proofs/ChainLaws.antt`.
+says what a walk is: `specs/Chain.antt`, `proofs/ChainLaws.antt`; and crate `settling` what it is that a contract settles its outcome: `specs/Settles.antt`,
+`proofs/Settling.antt`. The archives for C are `host_c` and `probe_c`: thin calls of `host` and `probe`, and `proofs/Settled.antt`.
 """
 
 
