@@ -1,0 +1,12 @@
+-- What was written and the records that lie ahead make up the table at every turn.
+use Prim.Native.Nat.{◌-◌}
+use lib.ListN.{length}
+use Rattle.types.proofs.RowStanding.{records}
+use Rattle.header.proofs.ParseFilling.{Filling}
+use Rattle.records.proofs.main_header.fill_table.Given as goal
+
+abbrev pub invariant-loop-passed : goal.invariant-loop-passed
+invariant-loop-passed l = Filling records l.numbering l.codestream l.initial.table l.initial.offset.0 l.table l.row l.offset.0 l.first l.at
+
+abbrev pub decreases-loop-passed : goal.decreases-loop-passed
+decreases-loop-passed l = length l.codestream - l.at
