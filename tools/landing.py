@@ -7,11 +7,12 @@ BEFORE and AFTER are commits (AFTER is HEAD unless given). Of the crates it tell
   constant of src/;
 - each promise: what a function takes and gives with its `requires` and `ensures`;
 - each proof file that is new, gone or another;
-- the lines of code, definitions and proof before and after. What tools/twin.py makes is counted by itself.
+- the lines of code, definitions and proof before and after. What commits up to November 2026 have of a tool's (derivations) is
+  counted by itself.
 
-With --time both are checked from nothing, BEFORE first: in a clean clone `rt check` of all crates, one crate at a time
-(RT_JOBS=1), on a machine that should do nothing else. All crates: seconds by the clock, the programs' runs included. A crate that
-moved: the seconds that rt gives. Differences of 2 s or a twentieth are noise.
+With --time both are checked, BEFORE first: in a clean clone `rt check` of each crate in the order of crates.txt, one job each, on a
+machine that should do nothing else. Seconds by the clock. They are those of a check from nothing only where the machine has kept
+nothing of these crates: `rt check` begins with what it kept in other copies. Differences of 2 s or a twentieth are noise.
 """
 
 import argparse
@@ -30,7 +31,6 @@ DEFINED = re.compile(r"^ *(?:unfoldable |abbrev |opaque )*(?:record |data )?(?:p
 DECLARED = re.compile(r"^ *(?:pub(?:\(crate\))? )?(struct|enum|const) (\w+)")
 METHODS = re.compile(r"^impl (\w+) \{$")
 FUNCTION = re.compile(r'^( *)(?:pub(?:\(crate\))? )?(?:extern "C" )?fn (\w+)')
-PROVED = re.compile(r"^rt: (\w+) proved \((\d+) s\)$", re.M)
 
 
 def git(*words):
@@ -135,18 +135,19 @@ def tell(what, before, after):
 
 
 def checked(commit):
-    """Seconds of a check from nothing: of all crates, and of each."""
+    """Seconds of a check, of all crates and of each."""
+    seconds = {}
     with tempfile.TemporaryDirectory() as folder:
         clone = Path(folder) / "clone"
         subprocess.run(["git", "clone", "-q", ROOT, clone], check=True)
         subprocess.run(["git", "-C", clone, "checkout", "-q", commit], check=True)
-        start = time.monotonic()
-        environment = os.environ | {"RT_JOBS": "1"}
-        said = subprocess.run(["rt", "check"], cwd=clone, env=environment, capture_output=True, text=True)
-        whole = time.monotonic() - start
-    if said.returncode != 0:
-        raise SystemExit(f"{commit} is not proved:\n{said.stdout[-2000:]}{said.stderr[-2000:]}")
-    return whole, {name: int(seconds) for name, seconds in PROVED.findall(said.stdout + said.stderr)}
+        for crate in re.findall(r"^(\w+)[^:#\n]*:", (clone / "crates.txt").read_text(), re.M):
+            start = time.monotonic()
+            said = subprocess.run(["rt", "check", "--jobs", "1"], cwd=clone / "crates" / crate, capture_output=True, text=True)
+            seconds[crate] = round(time.monotonic() - start)
+            if said.returncode != 0:
+                raise SystemExit(f"{commit}: {crate} is not proved:\n{said.stdout[-2000:]}{said.stderr[-2000:]}")
+    return sum(seconds.values()), seconds
 
 
 def main():
