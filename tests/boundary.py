@@ -32,7 +32,7 @@ WORDS = {"u8": "uint8_t", "u16": "uint16_t", "u32": "uint32_t", "u64": "uint64_t
 # A struct that is passed by value, as C and Rust name it.
 READING = "ReadingNumbers"
 IN_C, IN_RUST = {READING: "winterhasp_reading"}, {READING: "Reading"}
-EXPORTED_FIELDS = re.compile(rf"^#\[repr\(C\)\]\npub struct {READING} \{{\n(.*?)^\}}$", re.M | re.S)
+EXPORTED_FIELDS = re.compile(rf"^#\[repr\(C\)\]\n(?:#\[.*\]\n)*pub struct {READING} \{{\n(.*?)^\}}$", re.M | re.S)
 C_FIELDS = re.compile(rf"^typedef struct {IN_C[READING]} \{{\n(.*?)^\}} {IN_C[READING]};$", re.M | re.S)
 RUST_FIELDS = re.compile(rf"^#\[repr\(C\)\]\n(?:#\[.*\]\n)*pub struct {IN_RUST[READING]} \{{\n(.*?)^\}}$", re.M | re.S)
 # What C has another use for.
