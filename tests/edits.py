@@ -13,8 +13,8 @@ A file of crates/*/must-fail has several wrong programs, which are tried togethe
 WHERE is a function, as header::parse::tell, whose proof no longer closes, or a law, as proofs/IsoTlm.antt tlm_entries. Each file
 is applied to a copy of the tree, and `rt check` is run there; what it says is kept in target/must-fail/CRATE/NAME.log and is held
 to these lines: what fails, by a fact of its own and not since something that it cites has failed, is what the programs of the file
-name, no more and no less. An error of form, of a name that is not there or of a place that the proof file does not have, is no
-fact. Nor is it one that a search met a bound of its own: a program of which the log says nothing else has a line `# at a bound`,
+name, no more and no less. An error of form, or of a name that is not there, is no fact.
+Nor is it one that a search met a bound of its own: a program of which the log says nothing else has a line `# at a bound`,
 and is named at the end. Status 1 if anything differs.
 
 Goals and steps are named by the code's own text, as returns-then-a-b in `if a < b`, so a program that changes a condition changes

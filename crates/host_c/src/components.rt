@@ -186,7 +186,7 @@ pub extern "C" fn winterhasp_component_within(
     ensures signed_after { signed.new ≡ one_value sign_of (component_in codestream.now (record { x0 = area_x0; y0 = area_y0; x1 = area_x1; y1 = area_y1 }) number) signed.old }
     ensures xrsiz_after { xrsiz.new ≡ one_value (λ i. i.xrsiz) (component_in codestream.now (record { x0 = area_x0; y0 = area_y0; x1 = area_x1; y1 = area_y1 }) number) xrsiz.old }
     ensures yrsiz_after { yrsiz.new ≡ one_value (λ i. i.yrsiz) (component_in codestream.now (record { x0 = area_x0; y0 = area_y0; x1 = area_x1; y1 = area_y1 }) number) yrsiz.old }
-    ensures x0_value { x0.exit.now ≡ one_value (λ i. left i.area) (component_in codestream.now (record { x0 = area_x0; y0 = area_y0; x1 = area_x1; y1 = area_y1 }) number) x0.entry.now }
+    ensures x0_after { x0.new ≡ one_value (λ i. left i.area) (component_in codestream.now (record { x0 = area_x0; y0 = area_y0; x1 = area_x1; y1 = area_y1 }) number) x0.old }
     ensures y0_after { y0.new ≡ one_value (λ i. top i.area) (component_in codestream.now (record { x0 = area_x0; y0 = area_y0; x1 = area_x1; y1 = area_y1 }) number) y0.old }
     ensures x1_after { x1.new ≡ one_value (λ i. right i.area) (component_in codestream.now (record { x0 = area_x0; y0 = area_y0; x1 = area_x1; y1 = area_y1 }) number) x1.old }
     ensures y1_after { y1.new ≡ one_value (λ i. bottom i.area) (component_in codestream.now (record { x0 = area_x0; y0 = area_y0; x1 = area_x1; y1 = area_y1 }) number) y1.old }

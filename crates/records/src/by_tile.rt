@@ -1,7 +1,5 @@
 // The index by tile of a slice of records lent by the caller (docs/RULES.md, "An index by tile"): the same keys as of a table of rows,
 // since they hold numbers of entries.
-// Over a slice of records: a change of a function here is made in twins/records.twin too, then `python3 tools/twin.py records` (README.md,
-// "For the next developer").
 ghost use Rattle.std.specs.Prelude.{◌≡◌, ◌+◌, ◌≤◌, length, take, drop};
 ghost use Rattle.index.specs.Index.{index_from};
 ghost use Rattle.index.specs.Merge.{merged};

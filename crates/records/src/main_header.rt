@@ -1,7 +1,5 @@
 // The reading of a main header whose TLM records go to a slice of records lent by the caller. It decides everything
 // first, then writes. A refusal leaves table and output as they were.
-// Over a slice of records: a change of a function here is made in twins/records.twin too, then `python3 tools/twin.py records` (README.md,
-// "For the next developer").
 ghost use Rattle.std.specs.Prelude.{◌≡◌, ◌+◌, ◌*◌, ◌≤◌, ◌<◌, ◌^◌, length};
 ghost use Rattle.numbers.specs.Bytes.{put};
 ghost use Rattle.header.specs.Tlm.{Accepted, entry_count, unindexed, entries_on, placed, total};

@@ -1,6 +1,4 @@
 // Whether the tile-parts of one tile stand in order in a slice of records lent by the caller (docs/RULES.md, "Tile-parts in order").
-// Over a slice of records: a change of a function here is made in twins/records.twin too, then `python3 tools/twin.py records` (README.md,
-// "For the next developer").
 ghost use Rattle.std.specs.Prelude.{◌≡◌};
 ghost use Rattle.parts.specs.Order.{in_order};
 

@@ -1,6 +1,4 @@
 // The tile-parts of a codestream, one record each, in a slice of records lent by the caller (docs/RULES.md, "SOT scan").
-// Over a slice of records: a change of a function here is made in twins/records.twin too, then `python3 tools/twin.py records` (README.md,
-// "For the next developer").
 ghost use Rattle.std.specs.Prelude.{◌≡◌, ◌+◌, ◌*◌, ◌≤◌, ◌<◌, ◌∷◌, [], length, take, drop};
 ghost use Rattle.numbers.specs.Bytes.{put};
 ghost use Rattle.parts.specs.Sot.{psot};

@@ -1,6 +1,4 @@
 // Tables of a program's own: 2,048 records (docs/RULES.md, "Tables of records"), filled here and handed back with the answer.
-// Over a slice of records: a change of a function here is made in twins/records.twin too, then `python3 tools/twin.py records` (README.md,
-// "For the next developer").
 ghost use Rattle.std.specs.Prelude.{◌≡◌, min, ◌++◌, length, take, drop};
 ghost use Rattle.header.specs.Parse.{parsed, out_after};
 ghost use Rattle.index.specs.Extend.{old_of, extended, index_after, scratch_after};
