@@ -1,7 +1,7 @@
 /*
  * Winterhasp: JPEG 2000 main headers and tile-parts, read by a proved library.
  *
- * `bash tools/proved.sh host` writes target/staticlib/libhost.a, for x86-64: cc program.c target/staticlib/libhost.a
+ * `bash tools/proved.sh host` writes target/staticlib/libhost.a, for x86-64 from x86-64-v2 on: cc program.c target/staticlib/libhost.a
  *
  * What is lent. Bytes, and the keys of an index, are lent as a pointer and their number; where that is 0 the
  * pointer may be NULL. What is `const` is read, the rest is written to. Nothing that is written may overlap

@@ -27,7 +27,7 @@
 //! that takes no [`Reading`] numbers on over a length table's segments, by the older edition.
 //!
 //! The archive is linked from the folder that `WINTERHASP_LIB` names, or from the repository's
-//! `target/staticlib`, where `tools/proved.sh host` writes it. It is for x86-64.
+//! `target/staticlib`, where `tools/proved.sh host` writes it. It is for x86-64, from x86-64-v2 on.
 
 #![deny(unsafe_code)]
 #![warn(missing_docs)]
