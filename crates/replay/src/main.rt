@@ -14,43 +14,56 @@ mod tables;
 use header::edition::Edition;
 use header::numbering::Numbering;
 use header::reading::Reading;
-use std::io::{BufWriter, Write};
+use std::io::{Read, Write};
 use std::{fs, io};
 use tile::rules::Rule;
 
 fn main(rt: HostRuntime) -> io::Result<()> {
-    let cases = fs::read(&rt, "cases")?;
-    let mut out = BufWriter::new(rt.alloc(), io::writer(&rt))?;
-    answer_all(&mut out, &cases)?;
-    out.flush()
+    let mut cases = fs::open(&rt, "cases")?;
+    answer_all(&mut io::writer(&rt), &mut cases)
 }
 
-// A turn for each byte is more than there are cases.
-fn answer_all<W: Write>(out: &mut W, cases: &[u8]) -> io::Result<()> {
-    let mut at: usize = 0;
-    for _ in 0..cases.len() {
-        let size = answer_next(out, &cases[at..])?;
-        if size == 0 {
+// Nothing says that a file ends, so the turns are counted up to a number that no run uses up.
+fn answer_all<W: Write, R: Read>(out: &mut W, cases: &mut R) -> io::Result<()> {
+    for _ in 0..u64::MAX {
+        if !answer_next(out, cases)? {
             break;
         }
-        at += size;
     }
     Ok(())
 }
 
-// One case, and how many bytes it has; 0 where the list has ended.
-fn answer_next<W: Write>(out: &mut W, cases: &[u8]) -> io::Result<usize>
-    ensures { IfOk result (λ size. size ≤ length cases.now) }
+// One case, or false where the list has ended.
+fn answer_next<W: Write, R: Read>(out: &mut W, cases: &mut R) -> io::Result<bool> {
+    let mut frame = [0u8; 5];
+    if read_full(cases, &mut frame)? < 5 {
+        return Ok(false);
+    }
+    let size = numbers::read_u32(&frame, 1) as usize;
+    if 0x1_0000 < size {
+        return Ok(false);
+    }
+    let mut payload = large_buffer();
+    if read_full(cases, &mut payload[..size])? < size {
+        return Ok(false);
+    }
+    answer(out, frame[0], &payload[..size])?;
+    Ok(true)
+}
+
+// Fills the buffer as far as the input reaches, and gives how far that is.
+fn read_full<R: Read>(input: &mut R, buffer: &mut [u8]) -> io::Result<usize>
+    ensures { IfOk result (λ size. size ≤ length buffer.new) }
 {
-    if cases.len() < 5 {
-        return Ok(0);
+    let mut filled: usize = 0;
+    for _ in 0..buffer.len() {
+        let read = input.read(&mut buffer[filled..])?;
+        if read == 0 {
+            break;
+        }
+        filled += read;
     }
-    let size = numbers::read_u32(cases, 1) as usize;
-    if 0x1_0000 < size || cases.len() - 5 < size {
-        return Ok(0);
-    }
-    answer(out, cases[0], &cases[5..5 + size])?;
-    Ok(5 + size)
+    Ok(filled)
 }
 
 fn answer<W: Write>(out: &mut W, kind: u8, payload: &[u8]) -> io::Result<()> {

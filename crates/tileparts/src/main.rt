@@ -11,28 +11,26 @@ use header::reading::Reading;
 use parts::scan::Scanned;
 use reader::search::Found;
 use std::io;
-use std::io::{BufWriter, Read, Write};
+use std::io::{Read, Write};
 use types::{CodestreamOffset, Refusal, TilePartEntry};
 
 // The longest input that is listed, in bytes.
 const LONGEST: usize = 65_536;
 
 fn main(rt: HostRuntime) -> io::Result<()> {
-    let mut out = BufWriter::new(rt.alloc(), io::writer(&rt))?;
+    let mut out = io::writer(&rt);
     let mut input = new_input();
     let size = read_full(&mut rt.reader(), &mut input)?;
     if LONGEST < size {
-        refuse(
+        return refuse(
             &mut out,
             Refusal {
                 number: 23,
                 place: 65_536,
             },
-        )?;
-    } else {
-        list(&mut out, &input[..size])?;
+        );
     }
-    out.flush()
+    list(&mut out, &input[..size])
 }
 
 // Fills the buffer as far as the input reaches, and gives how far that is.
