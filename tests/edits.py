@@ -13,8 +13,8 @@ A file of crates/*/must-fail has several wrong programs, which are tried togethe
 WHERE is a function, as header::parse::tell, whose proof no longer closes, or a law, as proofs/IsoTlm.antt tlm_entries. Each file
 is applied to a copy of the tree, and `rt check` is run there; what it says is kept in target/must-fail/CRATE/NAME.log and is held
 to these lines: what fails, by a fact of its own and not since something that it cites has failed, is what the programs of the file
-name, no more and no less. An error of form, or of a name that is not there, is no fact.
-Nor is it one that a search met a bound of its own: a program of which the log says nothing else has a line `# at a bound`,
+name, no more and no less. An error of form, of a name that is not there, or
+of a place that the proof file does not have, is no fact. Nor is it one that a search met a bound of its own: a program of which the log says nothing else has a line `# at a bound`,
 and is named at the end. Status 1 if anything differs.
 
 Goals and steps are named by the code's own text, as returns-then-a-b in `if a < b`, so a program that changes a condition changes
@@ -44,6 +44,8 @@ UNPROVED = re.compile(r"^fn (\S+): .*`search` did not prove", re.M)
 # What fails since something that it cites has failed.
 FOLLOWS = re.compile(r"was not admitted|were not admitted|which was rejected|which were rejected")
 FORM = re.compile(r"not in scope|has no field|module `[^`]+` has no|that can be named|no such|not a function|unknown name|cannot be named|is not defined")
+# A place of the program, or what is needed there, beside another: said on any line of an error.
+PLACE = re.compile(r"(?:expected type|has type|a value of) `(?:goal\.|\S+\.(?:Lts|Goals)\.)(?:View\.)?(?:After|At|In|Start|Then|Else|Joined|Step|Arm|Own|Past|Asks)\b")
 # What the compiler refuses before anything is proved.
 UNREAD = re.compile(r"^(?:src/\S+: error.*|\./(?:src|specs)/\S+: error.*)$", re.M)
 LINES = re.compile(r"(?:\n  .*)*")
@@ -99,7 +101,7 @@ def failed(crate, log):
         said = message + LINES.match(log, error.end())[0]
         if not BOUND.search(said):
             facts.add(place)
-        if FORM.search(message):
+        if FORM.search(message) or PLACE.search(said):
             form.append(f"{file}: {message}")
     return where, facts, form
 
@@ -214,6 +216,10 @@ def logs(edits):
 
 def main():
     said, files, count, at_bound = [], 0, 0, []
+    # a place beside another is seen, whatever line says it
+    for line in "expected type `A.Lts.View.In-In-Part`, but this has type `B`", "a value of `A.Lts.View.Asks-returns B` has to be a record":
+        if not failed("a", f"./proofs/A.antt:1:1: error: `a`: the two types differ\n  {line}\n")[2]:
+            said.append(f"this check does not see {line}")
     edits = [edit for edit in sorted(ROOT.glob("crates/*/must-fail/*.edit")) if not sys.argv[1:] or edit.parts[-3] in sys.argv[1:]]
     # what stands unchanged is proved once, for all copies
     for crate in sorted({edit.parts[-3] for edit in edits}):
