@@ -3,8 +3,8 @@
 
 The table of "Refusals" there says of each number its name, when it is given, its place and what that counts from, what is
 wrong and what to do. Held to it are the README's table, the header for C, the texts of the Rust crate, the labels of the
-comparisons, which have to name every number, and the numbers in the Rattle code, which have to give every number. Status 1
-if anything differs, or if this check does not see a change.
+comparisons, which have to name every number, and the enum of reasons in the Rattle code, which has to have every number under
+its name, and of which the code has to give every reason. Status 1 if anything differs, or if this check does not see a change.
 """
 
 import re
@@ -17,9 +17,6 @@ from verdict import verdict
 ROOT = Path(__file__).resolve().parent.parent
 # the listing program's own: no comparison meets it, and tests/listing.py has to
 LISTING = 23
-# what is returned and is no refusal: a call accepts, or there is nothing; there is no such component, or no such marker; a length
-# table differs
-NOT_REFUSED = {0, 256, 257, 258}
 UNUSED = 1000
 
 RULES = "docs/RULES.md"
@@ -44,8 +41,9 @@ TEXTS = re.compile(r"\bREFUSALS:\s*&\[Words\]\s*=\s*&\[(.*?)\n?\s*\];", re.S)
 LABEL = re.compile(r'"refused (\d+)"')
 LABELS = re.compile(r"\blabels!\[([\d\s]*)\]")
 LISTS = re.compile(r"\brefused\(.*?, (\d+), ")
-GIVEN = re.compile(r"\bRefusal\s*\{\s*number:\s*(\d+)|\brefuse\(\s*(\d+)[,)]")
-RETURNED = re.compile(r"\breturn (\d+);")
+REASONS = re.compile(r"^pub enum Reason \{\n(.*?)^\}", re.M | re.S)
+REASON = re.compile(r"^ +(\w+) = (\d+),$", re.M)
+GIVEN = re.compile(r"\bReason::(\w+)")
 
 
 class Refusal(NamedTuple):
@@ -203,10 +201,21 @@ def in_listing(known, text):
     return unknown(LISTED, named, known) + unnamed(LISTED, named, {LISTING})
 
 
+def reason(refusal):
+    """Its name as the code's enum has it."""
+    return "".join(word.capitalize() for word in refusal.name.split("_"))
+
+
 def in_code(known, text):
     where = "the Rattle code"
-    given = numbers(GIVEN, text)
-    return unknown(where, given | numbers(RETURNED, text) - NOT_REFUSED, known) + unnamed(where, given, of(known))
+    found = REASONS.search(text)
+    if not found:
+        return [f"{where}: no enum Reason"]
+    saw, twice = by_number(where, ((int(number), name) for name, number in REASON.findall(found[1])))
+    wanted = {refusal.number: [reason(refusal)] for refusal in known}
+    given = set(GIVEN.findall(text))
+    ungiven = [f"{where}: {reason(refusal)} is never given" for refusal in known if reason(refusal) not in given]
+    return twice + differ(where, saw, wanted) + ungiven
 
 
 class Held(NamedTuple):
@@ -224,7 +233,7 @@ HELD = [
     Held(in_model, [MODEL], ["number"]),
     Held(in_comparisons, RUNS, ["number"]),
     Held(in_listing, [LISTED], ["number"]),
-    Held(in_code, CODE, ["number"]),
+    Held(in_code, CODE, ["number", "name"]),
 ]
 
 
@@ -259,6 +268,8 @@ def blind(held, known, text):
         for other in "", UNUSED:
             if not held.check(known, re.sub(rf"\b{number}\b", str(other), text)):
                 yield f"{name} does not see that {number} becomes {other or 'nothing'} in the text"
+        if held.check is in_code and not held.check(known, text.replace(f"Reason::{reason(refusal)}", "")):
+            yield f"{name} does not see that {reason(refusal)} is given no more"
 
 
 def main():

@@ -1,10 +1,11 @@
 #!/usr/bin/env python3
 """Each entry point has its theorem in a file Settled.antt: tests/settled.py
 
-An entry point is a public function of a library that requires nothing, or any that is exported for C. Crate laws has the theorems,
-and each archive (host_c, probe_c) its own. The prover holds a theorem to the function's own contract; what it can't see is a function
-that has none. Status 1 if there is one, or if a
-theorem looks at less than the whole answer though the answer is no part of a lent slice.
+An entry point is a public function of a library that requires nothing, a conversion (`From`) too, or any that is exported for C. Crate
+laws has the theorems, and each archive (host_c, probe_c) its own. A generic function is none, since its contract also asks that the
+type outlives the call: each instance of it that is called is an entry point with its theorem. The prover holds a theorem to the
+function's own contract; what it can't see is a function that has none. Status 1 if there is one, or if a theorem looks at less than
+the whole answer though the answer is no part of a lent slice.
 """
 
 import re
@@ -16,7 +17,10 @@ from verdict import verdict
 ROOT = Path(__file__).resolve().parent.parent
 SETTLED = [ROOT / f"crates/{crate}/proofs/Settled.antt" for crate in ("laws", "host_c", "probe_c")]
 
-ITEM = re.compile(r'^impl (?P<type>\w+) \{$|^(?P<end>\})$|^ *pub (?P<c>extern "C" )?fn (?P<name>\w+)(?P<head>.*?)\{$', re.M | re.S)
+ITEM = re.compile(
+    r'^impl (?:From<(?P<source>\w+)> for )?(?P<type>\w+) \{$|^(?P<end>\})$|^ *(?:pub (?P<c>extern "C" )?|(?=fn from\())fn (?P<name>\w+)(?P<head>.*?)\{$',
+    re.M | re.S,
+)
 ALIAS = re.compile(r"^use Rattle\.(\w+)\.specs\.contracts as (\w+)$", re.M)
 THEOREM = re.compile(r"→ (Settles|SettlesAs) M (\S+)\.ended \(λ 𝓤\. (\S+)\.clauses\)")
 
@@ -27,10 +31,10 @@ def entry_points(crate, module, source):
     owner = None
     for item in ITEM.finditer(source):
         if item["type"]:
-            owner = item["type"]
+            owner = item["type"] + (f"From{item['source'][0].upper()}{item['source'][1:]}" if item["source"] else "")
         elif item["end"]:
             owner = None
-        elif item["c"] or not re.search(r"^ *requires\b", item["head"], re.M):
+        elif item["c"] or not (item["head"].startswith("<") or re.search(r"^ *requires\b", item["head"], re.M)):
             path = ".".join(part for part in (crate, module, owner, item["name"]) if part)
             found[path] = re.search(r"-> &", item["head"]) is not None
     return found

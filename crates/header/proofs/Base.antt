@@ -8,6 +8,7 @@ use mathlib.Core.List.{List, ◌++◌}
 use lib.ListN.{length, drop}
 use lib.Dec.{leb, eqb}
 use borrow.Author.Tests.{ne_eqb}
+use Rattle.std.specs.Prelude.{Option, Some, None, Result, Ok, Err, ⊤}
 use Rattle.numbers.specs.Bytes.{be}
 use Rattle.numbers.proofs.Choice.{by_bool}
 use Rattle.types.specs.Markers.{SOC, SOT, TLM}
@@ -24,22 +25,15 @@ use Rattle.header.specs.Parse.{read_as, front_of, behind_front, judged, with_roo
 use Rattle.header.specs.declared.step.Marker.{Marker}
 use Rattle.header.specs.declared.step.HeaderStep.{HeaderStep}
 use Rattle.header.specs.declared.step.HeaderStep.TheVariants.{Sot, Delimiter, Segment, CutShort}
-use Rattle.header.specs.declared.tlm.Tlm.{Tlm}
-use Rattle.header.specs.declared.walk.WalkStep.{WalkStep}
-use Rattle.header.specs.declared.parse.Front.{Front}
 use Rattle.header.specs.declared.parse.MainHeaderInfo.{MainHeaderInfo}
-use Rattle.header.specs.declared.parse.MainHeader.{MainHeader}
-use Rattle.header.specs.declared.extent.MainHeaderExtent.TheVariants.{Truncated}
 use Rattle.header.proofs.StepLaws.{Told, step_told}
 use Rattle.header.specs.declared.numbering.Numbering.TheVariants.{Restarting}
 use Rattle.header.proofs.EditionLaws.{as_older}
 use Rattle.header.proofs.NumberingLaws.{judged_restart, table_restart}
 use Rattle.header.proofs.WalkLaws.{not_true_false, tlm_no_delimiter}
-use Rattle.header.specs.declared.tlm.Tlm.TheVariants as tlm
-use Rattle.header.specs.declared.walk.WalkStep.TheVariants as walk
-use Rattle.header.specs.declared.parse.Front.TheVariants as front
-use Rattle.header.specs.declared.parse.MainHeader.TheVariants as main
 use Rattle.header.specs.Base as base
+use Rattle.header.specs.declared.walk.Passed.{Passed as Passing}
+use Rattle.types.specs.declared.Refusal.{Refusal}
 
 -- ---- the step
 
@@ -70,16 +64,16 @@ unfolding steps_from base.steps_from
 steps_base s at = λ i. chain cut (λ here. move_base s here i) (length s) at
 
 -- the extent's words have not changed
-pub extent_base : (s : List ℕ) → extent_of s ≡ cond (leb 4 (length s)) (cond (eqb (be 2 s 0) SOC) (extent_end (base.steps_from s 2)) Truncated) Truncated
+pub extent_base : (s : List ℕ) → extent_of s ≡ cond (leb 4 (length s)) (cond (eqb (be 2 s 0) SOC) (extent_end (base.steps_from s 2)) None) None
 unfolding extent_of
-extent_base s = λ i. cond (leb 4 (length s)) (cond (eqb (be 2 s 0) SOC) (extent_end (steps_base s 2 i)) Truncated) Truncated
+extent_base s = λ i. cond (leb 4 (length s)) (cond (eqb (be 2 s 0) SOC) (extent_end (steps_base s 2 i)) None) None
 
 -- ---- the walk
 
-tlm_base : (m : Marker) (t : Tlm) → base.without_code (tlm_step m t) ≡ base.tlm_step m.next t
+tlm_base : (m : Marker) (t : Result ℕ Refusal) → base.without_code (tlm_step m t) ≡ base.tlm_step m.next t
 unfolding tlm_step base.tlm_step base.without_code
-tlm_base m (tlm.Entries n) = refl
-tlm_base m (tlm.Refused r) = refl
+tlm_base m (Ok n) = refl
+tlm_base m (Err r) = refl
 
 -- no delimiter is TLM, so that one was passed without that test changes nothing
 passed_base : (s : List ℕ) (at : ℕ) (found : HeaderStep) → Told s at found
@@ -101,10 +95,10 @@ module _ (s : List ℕ) (at : ℕ) where
   unfolding walk_at walk_move base.walk_move base.without_code
   walk_move_base = by (walk_step_at s at) ∙ ap base.walk_move walk_step_base
     where
-      by : (found : WalkStep) → walk_move found ≡ base.walk_move (base.without_code found)
-      by (walk.Passed p) = refl
-      by walk.FirstSot = refl
-      by (walk.Refused r) = refl
+      by : (found : Result (Option Passing) Refusal) → walk_move found ≡ base.walk_move (base.without_code found)
+      by (Ok (Some p)) = refl
+      by (Ok None) = refl
+      by (Err r) = refl
 
 pub walk_base : (s : List ℕ) (at : ℕ) → walk_from s at ≡ base.walk_from s at
 unfolding walk_from base.walk_from
@@ -125,29 +119,29 @@ unfolding read_as base.read_as base.without_fillers
 read_base s w at_first_sot = refl
 read_base s w (refused r) = refl
 
-behind_base : (s : List ℕ) (f : Front) → base.without_fillers (behind_front s f) ≡ base.behind_front s f
+behind_base : (s : List ℕ) (f : Result ⊤ Refusal) → base.without_fillers (behind_front s f) ≡ base.behind_front s f
 unfolding behind_front base.behind_front base.without_fillers
-behind_base s front.Sound = read_base s (walk_from s 2) (walk_from s 2).ended ∙ (λ i. base.read_as s (walk_base s 2 i) (walk_base s 2 i).ended)
-behind_base s (front.Refused r) = refl
+behind_base s (Ok tt) = read_base s (walk_from s 2) (walk_from s 2).ended ∙ (λ i. base.read_as s (walk_base s 2 i) (walk_base s 2 i).ended)
+behind_base s (Err r) = refl
 
 pub judged_base : (s : List ℕ) → base.without_fillers (judged s) ≡ base.behind_front s (front_of s)
 unfolding judged
 judged_base s = behind_base s (front_of s)
 
-room_base : (rows room : ℕ) (answer : MainHeader) → base.without_fillers (with_room rows room answer) ≡ base.with_room rows room (base.without_fillers answer)
+room_base : (rows room : ℕ) (answer : Result MainHeaderInfo Refusal) → base.without_fillers (with_room rows room answer) ≡ base.with_room rows room (base.without_fillers answer)
 unfolding with_room base.with_room base.without_fillers
-room_base rows room (main.Header h) =
+room_base rows room (Ok h) =
     by_bool (leb h.tlm_entries rows)
     (λ e₁. by_bool (leb h.decode_header_length room) (λ e₂. rw (e₁, e₂)) (λ e₂. rw (e₁, e₂)))
     (λ e₁. rw e₁)
-room_base rows room (main.Refused r) = refl
+room_base rows room (Err r) = refl
 
 pub parsed_base : (s : List ℕ) (rows room : ℕ) → base.without_fillers (parsed (older_by Restarting) s rows room) ≡ base.with_room rows room (base.behind_front s (front_of s))
 unfolding parsed
 parsed_base s rows room =
-    ap (λ (m : MainHeader). base.without_fillers (with_room rows room m)) (as_older (older_by Restarting) s refl ∙ judged_restart s) ∙ room_base rows room (judged s) ∙ ap (base.with_room rows room) (judged_base s)
+    ap (λ (m : Result MainHeaderInfo Refusal). base.without_fillers (with_room rows room m)) (as_older (older_by Restarting) s refl ∙ judged_restart s) ∙ room_base rows room (judged s) ∙ ap (base.with_room rows room) (judged_base s)
 
 -- what is left in the table, numbered from 0 in each segment: the old text
-pub after_base : (h : MainHeaderInfo) (s table : List ℕ) → table_after Restarting (main.Header h) s table ≡ rows_of (tlm_table s) ++ drop (row_bytes * h.tlm_entries) table
+pub after_base : (h : MainHeaderInfo) (s table : List ℕ) → table_after Restarting (Ok h) s table ≡ rows_of (tlm_table s) ++ drop (row_bytes * h.tlm_entries) table
 unfolding table_after
 after_base h s table = ap (λ (es : List TilePartEntry). rows_of es ++ drop (row_bytes * h.tlm_entries) table) (table_restart s)

@@ -5,6 +5,7 @@ use mathlib.Core.Path.{◌≡◌, ap}
 use mathlib.Core.List.{List}
 use lib.ListN.{length}
 use borrow.Author.Tests.{le-leb, lt-leb, eq-eqb, ne_eqb}
+use Rattle.std.specs.Prelude.{Some, None}
 use Rattle.numbers.specs.Bytes.{be}
 use Rattle.types.specs.Markers.{SOC}
 use Rattle.chain.specs.Chain.{end, on, Rises, also}
@@ -14,7 +15,6 @@ use Rattle.header.specs.Extent.{ended_as, extent_end, extent_of}
 use Rattle.header.specs.declared.step.Marker.{Marker}
 use Rattle.header.specs.declared.step.HeaderStep.{HeaderStep}
 use Rattle.header.specs.declared.step.HeaderStep.TheVariants.{Sot, Delimiter, Segment, CutShort}
-use Rattle.header.specs.declared.extent.MainHeaderExtent.TheVariants.{Complete, Truncated}
 use Rattle.header.proofs.StepLaws.{Told, step_told}
 
 moved : (s : List ℕ) (at next : ℕ) (found : HeaderStep) → Told s at found → move_of found ≡ on next → (at < next) × (next ≤ length s)
@@ -56,21 +56,21 @@ pub extent_on : (s : List ℕ) (at next : ℕ) → move_at s at ≡ on next → 
 unfolding extent_end also
 extent_on s at next e = ap extent_end (steps_on s at next e)
 
-pub extent_sot : (s : List ℕ) (at : ℕ) → step_at s at ≡ Sot → extent_end (steps_from s at) ≡ Complete (record { 0 = at })
+pub extent_sot : (s : List ℕ) (at : ℕ) → step_at s at ≡ Sot → extent_end (steps_from s at) ≡ Some (record { 0 = at })
 unfolding extent_end ended_as move_at move_of
 extent_sot s at e = ap extent_end (steps_end s at sot (ap move_of e))
 
-pub extent_cut : (s : List ℕ) (at : ℕ) → step_at s at ≡ CutShort → extent_end (steps_from s at) ≡ Truncated
+pub extent_cut : (s : List ℕ) (at : ℕ) → step_at s at ≡ CutShort → extent_end (steps_from s at) ≡ None
 unfolding extent_end ended_as move_at move_of
 extent_cut s at e = ap extent_end (steps_end s at cut (ap move_of e))
 
 -- ---- the extent's own tests
 
-pub extent_few : (s : List ℕ) → length s < 4 → extent_of s ≡ Truncated
+pub extent_few : (s : List ℕ) → length s < 4 → extent_of s ≡ None
 unfolding extent_of
 extent_few s h = rw (lt-leb _ _ h)
 
-pub extent_no_soc : (s : List ℕ) → 4 ≤ length s → (be 2 s 0 ≡ SOC → ⊥) → extent_of s ≡ Truncated
+pub extent_no_soc : (s : List ℕ) → 4 ≤ length s → (be 2 s 0 ≡ SOC → ⊥) → extent_of s ≡ None
 unfolding extent_of
 extent_no_soc s h e = rw (le-leb _ _ h, ne_eqb _ _ e)
 

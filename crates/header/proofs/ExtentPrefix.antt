@@ -8,6 +8,7 @@ use mathlib.Core.List.{List, ◌++◌}
 use lib.ListN.{length, take, drop, length-append, length-take, take-append-drop}
 use lib.Dec.{leb, eqb}
 use borrow.Author.Tests.{leb-true, leb-false, eqb-true}
+use Rattle.std.specs.Prelude.{Option, Some, None}
 use Rattle.numbers.specs.Bytes.{be}
 use Rattle.numbers.proofs.BytesLaws.{be_front}
 use Rattle.numbers.proofs.Choice.{by_test, by_bool}
@@ -19,8 +20,6 @@ use Rattle.header.specs.Step.{delimits, segment_end, passing, step_at, HeaderEnd
 use Rattle.header.specs.Extent.{ended_as, extent_end, extent_of, told_by}
 use Rattle.header.specs.declared.step.HeaderStep.{HeaderStep}
 use Rattle.header.specs.declared.step.HeaderStep.TheVariants.{Sot, Delimiter, Segment, CutShort}
-use Rattle.header.specs.declared.extent.MainHeaderExtent.{MainHeaderExtent}
-use Rattle.header.specs.declared.extent.MainHeaderExtent.TheVariants.{Complete, Truncated}
 use Rattle.header.proofs.StepLaws.{Told, step_told, step_sot, step_delimiter, step_segment, sot_no_delimiter}
 use Rattle.header.proofs.ExtentLaws.{rises, extent_steps}
 use Rattle.header.proofs.WalkLaws.{not_true_false}
@@ -53,14 +52,14 @@ ends_sot s at e = by (step_at s at) (step_told s at) e
     by CutShort told e = absurd (let z : ◌≡◌ {A = ℕ} 0 1 = cc in omega arith)
 
 module _ (s : List ℕ) where
-  pub reached_complete : {at : ℕ} → Reached s at → extent_of s ≡ Complete (record { 0 = at })
+  pub reached_complete : {at : ℕ} → Reached s at → extent_of s ≡ Some (record { 0 = at })
   unfolding extent_end ended_as steps_from
   reached_complete r =
       extent_steps s (reached_four r) r.soc ∙ ap extent_end (run_chain cut (move_at s) (length s) (rises s) sot r.run (sot_ends s _ r.inside r.sot))
 
-  abbrev Says : MainHeaderExtent → Type 0
-  Says (Complete at) = Reached s at.0
-  Says Truncated = Unit {0}
+  abbrev Says : Option CodestreamOffset → Type 0
+  Says (Some at) = Reached s at.0
+  Says None = Unit {0}
 
   says : Says (extent_of s)
   unfolding extent_of extent_end ended_as steps_from
@@ -77,7 +76,7 @@ module _ (s : List ℕ) where
           record { soc = soc; visits = (steps_from s 2).visits; run = chain_run cut (move_at s) (length s) (rises s) 2; inside = there.0; sot = there.1 }
       by soc cut e = tt
 
-  pub complete_reached : (at : CodestreamOffset) → extent_of s ≡ Complete at → Reached s at.0
+  pub complete_reached : (at : CodestreamOffset) → extent_of s ≡ Some at → Reached s at.0
   complete_reached at e = rw e at says
 
 -- ---- a step in a prefix
@@ -164,38 +163,38 @@ module _ (q t : List ℕ) where
 
 -- ---- the law
 
-complete_same : {a b : CodestreamOffset} → Complete a ≡ Complete b → a ≡ b
+complete_same : {a b : CodestreamOffset} → Some a ≡ Some b → a ≡ b
 complete_same e = cc
 
 -- a first SOT stays with more bytes behind it
-pub extent_more : (q t : List ℕ) (at : CodestreamOffset) → extent_of q ≡ Complete at → extent_of (q ++ t) ≡ Complete at
+pub extent_more : (q t : List ℕ) (at : CodestreamOffset) → extent_of q ≡ Some at → extent_of (q ++ t) ≡ Some at
 extent_more q t at e = reached_complete (q ++ t) (reached_more q t (complete_reached q at e))
 
 module _ (s : List ℕ) (n : ℕ) where
   -- a first SOT of the prefix is the whole's, and its marker is among the n bytes
-  prefix_told : (at : CodestreamOffset) → extent_of (take n s) ≡ Complete at → (extent_of s ≡ Complete at) × (at.0 + 2 ≤ n)
+  prefix_told : (at : CodestreamOffset) → extent_of (take n s) ≡ Some at → (extent_of s ≡ Some at) × (at.0 + 2 ≤ n)
   prefix_told at e =
       (ap extent_of (sym (take-append-drop n s)) ∙ extent_more (take n s) (drop n s) at e, omega (arith, (complete_reached (take n s) at e).inside, length-take n s))
 
   -- the other way round
-  pub extent_less : (at : CodestreamOffset) → extent_of s ≡ Complete at → at.0 + 2 ≤ n → extent_of (take n s) ≡ Complete at
+  pub extent_less : (at : CodestreamOffset) → extent_of s ≡ Some at → at.0 + 2 ≤ n → extent_of (take n s) ≡ Some at
   extent_less at e h =
       let r = complete_reached (take n s ++ drop n s) at (ap extent_of (take-append-drop n s) ∙ e) in
       let whole = (complete_reached s at e).inside in
       reached_complete (take n s) (reached_less (take n s) (drop n s) r (omega (arith, whole, length-take n s)))
 
-  by_extents : (whole part : MainHeaderExtent) → extent_of s ≡ whole → extent_of (take n s) ≡ part → extent_of (take n s) ≡ told_by n whole
+  by_extents : (whole part : Option CodestreamOffset) → extent_of s ≡ whole → extent_of (take n s) ≡ part → extent_of (take n s) ≡ told_by n whole
   unfolding told_by
-  by_extents (Complete at) part e k =
+  by_extents (Some at) part e k =
       by_bool (leb (at.0 + 2) n)
       (λ h. rw h (extent_less at e (leb-true (at.0 + 2) n h)))
       (λ h. rw h (k ∙ short part k (leb-false (at.0 + 2) n h)))
     where
-      short : (part : MainHeaderExtent) → extent_of (take n s) ≡ part → n < at.0 + 2 → part ≡ Truncated
-      short (Complete b) k h = let told = prefix_told b k in let same : b ≡ at = complete_same (sym told.0 ∙ e) in absurd (omega (arith, told.1, ap (λ (a : CodestreamOffset). a.0) same))
-      short Truncated k h = refl
-  by_extents Truncated (Complete b) e k = absurd (let told = sym (prefix_told b k).0 ∙ e in let z : ◌≡◌ {A = ℕ} 0 1 = cc in omega arith)
-  by_extents Truncated Truncated e k = k
+      short : (part : Option CodestreamOffset) → extent_of (take n s) ≡ part → n < at.0 + 2 → part ≡ None
+      short (Some b) k h = let told = prefix_told b k in let same : b ≡ at = complete_same (sym told.0 ∙ e) in absurd (omega (arith, told.1, ap (λ (a : CodestreamOffset). a.0) same))
+      short None k h = refl
+  by_extents None (Some b) e k = absurd (let told = sym (prefix_told b k).0 ∙ e in let z : ◌≡◌ {A = ℕ} 0 1 = cc in omega arith)
+  by_extents None None e k = k
 
   -- the extent of each prefix, by the whole's
   pub extent_prefix : extent_of (take n s) ≡ told_by n (extent_of s)

@@ -9,6 +9,7 @@ use mathlib.Core.List.{List, [], ◌∷◌, ◌++◌, append_assoc}
 use lib.ListN.{length, get_or, take, drop, length-append}
 use lib.Dec.{leb, eqb}
 use borrow.Author.Tests.{le-leb, eq-eqb, eqb-true, eqb-false}
+use Rattle.std.specs.Prelude.{Ok, Err}
 use Rattle.numbers.specs.Bits.{bit, ones}
 use Rattle.numbers.specs.Bytes.{be, bytes_of}
 use Rattle.numbers.specs.Rows.{Row, row, bytes_of_rows, widths}
@@ -28,13 +29,13 @@ use Rattle.header.specs.IsoMain.{Piece, tlm, other, piece_bytes, pieces_bytes, S
 use Rattle.header.specs.IsoCap.{Capability, unused, used, pcap_of, ccap_rows, cap_segment, WordsHeld, IsCap, rsiz, caps_of, Announced, with, without}
 use Rattle.header.specs.declared.numbering.Numbering.{Numbering}
 use Rattle.header.specs.declared.parse.MainHeaderInfo.{MainHeaderInfo}
-use Rattle.header.specs.declared.parse.MainHeader.TheVariants.{Header, Refused}
 use Rattle.header.proofs.StepLaws.{step_sot}
 use Rattle.header.proofs.WalkLaws.{not_true_false, walk_sot, walk_found}
 use Rattle.header.proofs.EditionLaws.{caps_from, caps_here, caps_later, capped_missing, capped_none, capped_fits, as_newer}
 use Rattle.header.proofs.Iso.{segment_marker}
 use Rattle.header.proofs.IsoTlm.{tlm_marker}
 use Rattle.header.proofs.IsoMain.{passing_of, piece_passed, siz_main, split_main, up_to_sot}
+use Rattle.types.specs.declared.Reason.TheVariants.{CapOutOfPlace}
 
 -- ---- Pcap and Ccap
 
@@ -219,23 +220,23 @@ stand_none : {s places : List ℕ} → Stand s [] places → places ≡ []
 stand_none none = refl
 
 stand_cap : (s places : List ℕ) (h : MainHeaderInfo) (parts : List Capability) → IsCap parts → Stand s (cap_segment parts ∷ []) places
-    → capped true s places h ≡ Header h
+    → capped true s places h ≡ Ok h
 stand_cap s places h parts is (one front rest e none) = capped_fits s h (length front) (rw e (cap_standard front parts rest is))
 
 module _ (n : Numbering) (g : Segment) (ps : List Piece) (rest : List ℕ) (m : IsMain g ps) (long : 2 ≤ length g.parameters) where
   -- by bit 14 and what the walk meets
-  answered : (h : MainHeaderInfo) → judged_by n (up_to_sot g ps rest) ≡ Header h → (b : ℕ) → bit 14 (rsiz g) ≡ b
+  answered : (h : MainHeaderInfo) → judged_by n (up_to_sot g ps rest) ≡ Ok h → (b : ℕ) → bit 14 (rsiz g) ≡ b
       → judged_as (newer_by n) (up_to_sot g ps rest) ≡ capped (eqb b 1) (up_to_sot g ps rest) (caps_from (up_to_sot g ps rest) 2) h
   answered h judged b e =
       as_newer (newer_by n) (up_to_sot g ps rest) refl h judged
       ∙ ap (λ (wanted : Bool). capped wanted (up_to_sot g ps rest) (caps_from (up_to_sot g ps rest) 2) h) (announced_main g ps rest long ∙ ap (λ (v : ℕ). eqb v 1) e)
 
   -- with CAP as SIZ announces it, a header is accepted in the newer edition as in the older
-  pub newer_standard : Announced g ps → (h : MainHeaderInfo) → judged_by n (up_to_sot g ps rest) ≡ Header h → judged_as (newer_by n) (up_to_sot g ps rest) ≡ Header h
+  pub newer_standard : Announced g ps → (h : MainHeaderInfo) → judged_by n (up_to_sot g ps rest) ≡ Ok h → judged_as (newer_by n) (up_to_sot g ps rest) ≡ Ok h
   newer_standard (with parts is set caps) h judged = answered h judged 1 set ∙ stand_cap _ _ h parts is (rw caps at (caps_main g ps rest m))
   newer_standard (without clear caps) h judged = answered h judged 0 clear ∙ rw (stand_none (rw caps at (caps_main g ps rest m))) (capped_none _ h)
 
   -- without the CAP that SIZ announces it is refused
-  pub newer_missing : bit 14 (rsiz g) ≡ 1 → caps_of ps ≡ [] → (h : MainHeaderInfo) → judged_by n (up_to_sot g ps rest) ≡ Header h
-      → judged_as (newer_by n) (up_to_sot g ps rest) ≡ Refused (refusal 33 2)
+  pub newer_missing : bit 14 (rsiz g) ≡ 1 → caps_of ps ≡ [] → (h : MainHeaderInfo) → judged_by n (up_to_sot g ps rest) ≡ Ok h
+      → judged_as (newer_by n) (up_to_sot g ps rest) ≡ Err (refusal CapOutOfPlace 2)
   newer_missing set caps h judged = answered h judged 1 set ∙ rw (stand_none (rw caps at (caps_main g ps rest m))) (capped_missing _ h)

@@ -9,6 +9,7 @@ use mathlib.Core.List.{List, [], ◌∷◌, ◌++◌, append_assoc}
 use lib.ListN.{length, take, drop, length-append}
 use lib.Dec.{eqb}
 use lib.Seq.{take_at, drop_at}
+use Rattle.std.specs.Prelude.{Some, Ok}
 use Rattle.numbers.specs.Bytes.{be, bytes_of}
 use Rattle.numbers.specs.Rows.{bytes_of_rows, widths}
 use Rattle.numbers.proofs.BytesLaws.{length_bytes, be_front, be_bytes_of}
@@ -26,9 +27,6 @@ use Rattle.header.specs.IsoTlm.{Pointer, TlmSegment, tlm_rows, TlmRanges, number
 use Rattle.header.specs.IsoMain.{Piece, tlm, other, piece_bytes, pieces_bytes, main_header, Sound, AllSound, IsMain, tables, pointer_count, without}
 use Rattle.header.specs.declared.step.Marker.{Marker}
 use Rattle.header.specs.declared.walk.Passed.{Passed as Passing}
-use Rattle.header.specs.declared.walk.WalkStep.TheVariants.{Passed}
-use Rattle.header.specs.declared.parse.Front.TheVariants as front
-use Rattle.header.specs.declared.parse.MainHeader.TheVariants.{Header}
 use Rattle.header.proofs.StepLaws.{step_sot}
 use Rattle.header.proofs.WalkLaws.{pass_other, pass_tlm, walk_segment, walk_sot, walk_found}
 use Rattle.header.proofs.WalkVisited.{stopped_on, ended_on, kept_from, entries_from, fillers_from, fillers_on, kept_plain, entries_plain, kept_tlm, entries_tlm}
@@ -79,9 +77,9 @@ at_sot front rest =
 unfoldable pub passing_of : ℕ → Piece → Passing
 passing_of at (other g) = plain (record { code = g.marker; high_ff = true; next = at + length (segment_bytes g) }) false
 passing_of at (tlm t) =
-    record { next = at + length (bytes_of_rows (tlm_rows t)); code = TLM; is_filler = false; is_tlm = true; entries = length t.pointers }
+    record { next = at + length (bytes_of_rows (tlm_rows t)); code = TLM; is_filler = false; tlm = Some (length t.pointers) }
 
-pub piece_passed : (front : List ℕ) (p : Piece) (rest : List ℕ) → Sound p → walk_step_at (front ++ (piece_bytes p ++ rest)) (length front) ≡ Passed (passing_of (length front) p)
+pub piece_passed : (front : List ℕ) (p : Piece) (rest : List ℕ) → Sound p → walk_step_at (front ++ (piece_bytes p ++ rest)) (length front) ≡ Ok (Some (passing_of (length front) p))
 unfolding Sound piece_bytes passing_of tlm_step
 piece_passed front (other g) rest h = walk_segment _ _ _ (segment_standard front g rest h.0) ∙ pass_other _ _ _ h.1
 piece_passed front (tlm t) rest h =
@@ -104,7 +102,7 @@ past front (other g) ps rest h w =
     let s : List ℕ = front ++ (segment_bytes g ++ rest) in
     let at : ℕ = length front in
     let p : Passing = passing_of at (other g) in
-    let found : walk_step_at s at ≡ Passed p = piece_passed front (other g) rest h in
+    let found : walk_step_at s at ≡ Ok (Some p) = piece_passed front (other g) rest h in
     record {
       stopped = stopped_on s at p found ∙ w.stopped ∙ omega (arith, length-append (segment_bytes g) (pieces_bytes ps));
       ended = ended_on s at p found ∙ w.ended;
@@ -119,7 +117,7 @@ past front (tlm t) ps rest h w =
     let s : List ℕ = front ++ (bytes ++ rest) in
     let at : ℕ = length front in
     let p : Passing = passing_of at (tlm t) in
-    let found : walk_step_at s at ≡ Passed p = piece_passed front (tlm t) rest h in
+    let found : walk_step_at s at ≡ Ok (Some p) = piece_passed front (tlm t) rest h in
     record {
       stopped = stopped_on s at p found ∙ w.stopped ∙ omega (arith, length-append bytes (pieces_bytes ps));
       ended = ended_on s at p found ∙ w.ended;
@@ -162,7 +160,7 @@ unfolding main_header
 split_main g ps tail = simp append_assoc
 
 pub front_main : (g : Segment) (ps : List Piece) (tail : List ℕ) → IsMain g ps → length (main_header g ps ++ tail) ≤ 0xffff_ffff
-    → front_of (main_header g ps ++ tail) ≡ front.Sound
+    → front_of (main_header g ps ++ tail) ≡ Ok tt
 unfolding bytes_of segment_bytes widths
 front_main g ps tail m short =
     let s : List ℕ = main_header g ps ++ tail in
@@ -230,7 +228,7 @@ module _ (g : Segment) (ps : List Piece) (rest : List ℕ) (m : IsMain g ps) whe
   -- The main header is accepted, with the first SOT behind its last segment.
   pub main_standard : length (up_to_sot g ps rest) ≤ 0xffff_ffff
       → judged (up_to_sot g ps rest)
-      ≡ Header
+      ≡ Ok
       (record {
         first_sot_offset = record { 0 = length (main_header g ps) };
         decode_header_length = length (main_header g (without ps));
@@ -243,4 +241,4 @@ module _ (g : Segment) (ps : List Piece) (rest : List ℕ) (m : IsMain g ps) whe
       let entries : length (tlm_entries s (walk_from s 2).visits) ≡ pointer_count (tables ps) = ap length entries_main ∙ length_restarted (tables ps) in
       judged_sound s (front_main g ps (bytes_of 2 SOT ++ rest) m short)
       ∙ ap (read_as s (walk_from s 2)) ended_main
-      ∙ (λ i. Header (record { first_sot_offset = record { 0 = stopped_main i }; decode_header_length = length (decode_main i); tlm_entries = entries i; fillers = fillers_main i }))
+      ∙ (λ i. Ok (record { first_sot_offset = record { 0 = stopped_main i }; decode_header_length = length (decode_main i); tlm_entries = entries i; fillers = fillers_main i }))

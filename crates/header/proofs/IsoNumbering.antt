@@ -9,6 +9,7 @@ use mathlib.Core.List.{List, [], ◌∷◌, ◌++◌, append_assoc, append-nil}
 use lib.ListN.{length, length-append}
 use lib.Dec.{leb, eqb}
 use borrow.Author.Tests.{le-leb, lt-leb, leb-true, leb-false, eq-eqb}
+use Rattle.std.specs.Prelude.{Err}
 use Rattle.numbers.specs.Bytes.{bytes_of}
 use Rattle.numbers.specs.Rows.{bytes_of_rows}
 use Rattle.numbers.proofs.BytesLaws.{length_bytes}
@@ -25,13 +26,12 @@ use Rattle.header.specs.IsoTlm.{TlmSegment, tlm_rows, TlmRanges, without_index}
 use Rattle.header.specs.IsoMain.{Piece, tlm, other, piece_bytes, pieces_bytes, main_header, Sound, AllSound, IsMain, tables}
 use Rattle.header.specs.declared.numbering.Numbering.{Numbering}
 use Rattle.header.specs.declared.numbering.Numbering.TheVariants.{CarriedOn, Restarting}
-use Rattle.header.specs.declared.walk.WalkStep.TheVariants as walk
-use Rattle.header.specs.declared.parse.MainHeader.TheVariants.{Refused}
 use Rattle.header.proofs.WalkLaws.{walk_refused}
 use Rattle.header.proofs.NumberingLaws.{end_from, end_plain, end_tlm, end_26, by_sound}
 use Rattle.header.proofs.Numberings.{carried_accepts}
 use Rattle.header.proofs.IsoTlm.{tlm_unindexed}
 use Rattle.header.proofs.IsoMain.{passing_of, piece_passed, up_to_sot, siz_main, split_main, front_main, many_main}
+use Rattle.types.specs.declared.Reason.TheVariants.{TlmTooManyEntries}
 
 -- ---- how the walk over pieces ends
 
@@ -45,7 +45,7 @@ end_on : Numbering → (ℕ → ℕ → WalkEnd) → ℕ → ℕ → List Piece 
 end_on n rest k at [] = rest k at
 end_on n rest k at (other g ∷ ps) = end_on n rest k (at + length (segment_bytes g)) ps
 end_on n rest k at (tlm t ∷ ps) =
-    cond (leb (iso_next n k t) 65_535) (end_on n rest (iso_next n k t) (at + length (bytes_of_rows (tlm_rows t))) ps) (refused (refusal 26 at))
+    cond (leb (iso_next n k t) 65_535) (end_on n rest (iso_next n k t) (at + length (bytes_of_rows (tlm_rows t))) ps) (refused (refusal TlmTooManyEntries at))
 
 next_iso : (n : Numbering) (front : List ℕ) (t : TlmSegment) (rest : List ℕ) → TlmRanges t → (k : ℕ)
     → next_number n (front ++ (bytes_of_rows (tlm_rows t) ++ rest)) (length front) k ≡ iso_next n k t
@@ -135,7 +135,7 @@ module _ (g : Segment) (ps : List Piece) (tail : List ℕ) (m : IsMain g ps) (sh
       by_sound n s (front_main g ps tail m short) ∙ ap (read_as s (walk_from s 2)) (over ∙ e)
 
   -- the walk's own refusal behind them stands
-  module _ (r : Refusal) (found : walk_step_at (main_header g ps ++ tail) (length (main_header g ps)) ≡ walk.Refused r) where
+  module _ (r : Refusal) (found : walk_step_at (main_header g ps ++ tail) (length (main_header g ps)) ≡ Err r) where
     at_end : (n : Numbering) (k : ℕ) → end_from n s k (2 + length (segment_bytes g) + length (pieces_bytes ps)) ≡ refused r
     unfolding s main_header ended_by
     at_end n k =
@@ -143,7 +143,7 @@ module _ (g : Segment) (ps : List Piece) (tail : List ℕ) (m : IsMain g ps) (sh
         omega (arith, length-append (bytes_of 2 SOC) (segment_bytes g ++ pieces_bytes ps), length-append (segment_bytes g) (pieces_bytes ps), length_bytes 2 SOC) in
         rw place (ap (λ (c : Chain WalkEnd). ended_by n s k c.visits c.ended) (walk_refused s (length (main_header g ps)) r found))
 
-    pub own_carried : without_index (tables ps) ≤ 65_535 → judged_by CarriedOn (main_header g ps ++ tail) ≡ Refused r
+    pub own_carried : without_index (tables ps) ≤ 65_535 → judged_by CarriedOn (main_header g ps ++ tail) ≡ Err r
     unfolding read_as s end_on
     own_carried few =
         judged_ends CarriedOn (refused r)
@@ -151,7 +151,7 @@ module _ (g : Segment) (ps : List Piece) (tail : List ℕ) (m : IsMain g ps) (sh
         ∙ end_behind (end_from CarriedOn s) 0 (2 + length (segment_bytes g)) ps [] (omega arith)
         ∙ at_end CarriedOn (0 + without_index (tables ps)))
 
-    pub own_restarting : judged_by Restarting (main_header g ps ++ tail) ≡ Refused r
+    pub own_restarting : judged_by Restarting (main_header g ps ++ tail) ≡ Err r
     unfolding read_as s
     own_restarting = judged_ends Restarting (refused r) (end_restarting (end_from Restarting s) 0 (2 + length (segment_bytes g)) ps (refused r) (at_end Restarting))
 
@@ -159,12 +159,12 @@ module _ (g : Segment) (ps : List Piece) (tail : List ℕ) (m : IsMain g ps) (sh
 pub past_standard : (g : Segment) (before : List Piece) (t : TlmSegment) (after : List Piece) (tail : List ℕ) → IsMain g (before ++ (tlm t ∷ after))
     → length (main_header g (before ++ (tlm t ∷ after)) ++ tail) ≤ 0xffff_ffff → without_index (tables before) ≤ 65_535 → t.ST ≡ 0
     → 65_535 < without_index (tables before) + length t.pointers
-    → judged_by CarriedOn (main_header g (before ++ (tlm t ∷ after)) ++ tail) ≡ Refused (refusal 26 (length (main_header g before)))
+    → judged_by CarriedOn (main_header g (before ++ (tlm t ∷ after)) ++ tail) ≡ Err (refusal TlmTooManyEntries (length (main_header g before)))
 unfolding read_as s end_on iso_next main_header
 past_standard g before t after tail m short few none many =
     let place : 2 + length (segment_bytes g) + length (pieces_bytes before) ≡ length (main_header g before) =
     omega (arith, length-append (bytes_of 2 SOC) (segment_bytes g ++ pieces_bytes before), length-append (segment_bytes g) (pieces_bytes before), length_bytes 2 SOC) in
     let rest = end_from CarriedOn (main_header g (before ++ (tlm t ∷ after)) ++ tail) in
-    judged_ends g (before ++ (tlm t ∷ after)) tail m short CarriedOn (refused (refusal 26 (length (main_header g before))))
+    judged_ends g (before ++ (tlm t ∷ after)) tail m short CarriedOn (refused (refusal TlmTooManyEntries (length (main_header g before))))
     (end_behind rest 0 (2 + length (segment_bytes g)) before (tlm t ∷ after) (omega arith)
-    ∙ rw (eq-eqb _ _ none, lt-leb (0 + without_index (tables before) + length t.pointers) 65_535 (omega arith)) (λ i. refused (refusal 26 (place i))))
+    ∙ rw (eq-eqb _ _ none, lt-leb (0 + without_index (tables before) + length t.pointers) 65_535 (omega arith)) (λ i. refused (refusal TlmTooManyEntries (place i))))

@@ -10,6 +10,7 @@ use mathlib.Core.List.{List, [], ◌∷◌, ◌++◌, append_assoc}
 use lib.ListN.{length, take, length-append}
 use lib.Dec.{eqb}
 use borrow.Author.Tests.{le-leb, ne_eqb}
+use Rattle.std.specs.Prelude.{Ok}
 use Rattle.numbers.specs.Bytes.{be}
 use Rattle.numbers.specs.Rows.{row, bytes_of_rows, widths}
 use Rattle.numbers.proofs.BytesLaws.{be_rest}
@@ -19,7 +20,6 @@ use Rattle.header.specs.Step.{delimits, high_ff, segment_end, step_at}
 use Rattle.header.specs.Tlm.{ltlm, stlm, index_size, length_size, entry_count, tlm_at, entry_in, entries_in, unindexed, entry_on, entries_on}
 use Rattle.header.specs.IsoTlm.{Pointer, TlmSegment, pointer_width, pointer_rows, tlm_rows, Held, TlmRanges, numbered, numbered_on, insert, ordered, iso_table, restarted, InOrder, AllIndexed}
 use Rattle.header.specs.declared.step.HeaderStep.TheVariants.{Segment}
-use Rattle.header.specs.declared.tlm.Tlm.TheVariants.{Entries}
 use Rattle.header.proofs.StepLaws.{step_segment}
 use Rattle.header.proofs.TlmLaws as tlms
 
@@ -103,8 +103,8 @@ module _ (front : List ℕ) (t : TlmSegment) (rest : List ℕ) (r : TlmRanges t)
   unfolding entry_count
   tlm_count = rw (length_field, narrow, wide, add-sub_cancel_left 4) (mul-div_cancel (length t.pointers) (omega arith))
 
-  pub tlm_read : tlm_at (front ++ (bytes_of_rows (tlm_rows t) ++ rest)) (length front) ≡ Entries (length t.pointers)
-  tlm_read = tlms.tlm_entries_lem _ _ (omega (arith, length_field)) (λ e. omega (arith, narrow)) ∙ ap Entries tlm_count
+  pub tlm_read : tlm_at (front ++ (bytes_of_rows (tlm_rows t) ++ rest)) (length front) ≡ Ok (length t.pointers)
+  tlm_read = tlms.tlm_entries_lem _ _ (omega (arith, length_field)) (λ e. omega (arith, narrow)) ∙ ap Ok tlm_count
 
   pub tlm_numbered : (k : ℕ) → entries_on (front ++ (bytes_of_rows (tlm_rows t) ++ rest)) (length front) k 0 (length t.pointers) ≡ numbered t.ST k t.pointers
   unfolding tlm_rows bytes_of_rows widths

@@ -4,11 +4,11 @@ use Prim.Native.Nat.{ℕ, ◌+◌, ◌≤◌, ◌<◌}
 use native.Mathlib.Nat.{zero-add}
 use native.Mathlib.Omega.{arith}
 use mathlib.Core.Path.{◌≡◌, refl, sym, ap, ap₂, ◌∙◌}
-use mathlib.Core.Bool.{true, false}
 use mathlib.Core.List.{List, [], ◌∷◌, ◌++◌}
 use lib.ListN.{length, get_or, length-append}
 use lib.Dec.{leb}
 use borrow.Author.Tests.{eq-eqb, ne_eqb, le-leb, lt-leb, leb-true, leb-false}
+use Rattle.std.specs.Prelude.{Some, Result, Ok, Err, ⊤, None}
 use Rattle.numbers.specs.Bytes.{be}
 use Rattle.numbers.proofs.Choice.{by_bool}
 use Rattle.types.specs.Markers.{TLM}
@@ -23,20 +23,17 @@ use Rattle.header.specs.Parse.{read_as, front_of, behind_front, judged, behind_f
 use Rattle.header.specs.declared.numbering.Numbering.{Numbering}
 use Rattle.header.specs.declared.numbering.Numbering.TheVariants.{CarriedOn, Restarting}
 use Rattle.header.specs.declared.walk.Passed.{Passed as Passing}
-use Rattle.header.specs.declared.walk.WalkStep.TheVariants.{Passed}
-use Rattle.header.specs.declared.parse.Front.{Front}
-use Rattle.header.specs.declared.parse.Front.TheVariants as front
 use Rattle.header.specs.declared.parse.MainHeaderInfo.{MainHeaderInfo}
-use Rattle.header.specs.declared.parse.MainHeader.TheVariants as main
 use Rattle.header.proofs.TlmLaws.{length_entries, length_on, entries_from_0, unindexed_all, unindexed_none}
 use Rattle.header.proofs.TlmFill.{unindexed_bound}
 use Rattle.header.proofs.WalkLaws.{passed_is}
 use Rattle.header.proofs.WalkVisited.{visits_on, ended_on}
+use Rattle.types.specs.declared.Reason.TheVariants.{TlmTooManyEntries}
 
 pub refused_first : {r : Refusal} → refused r ≡ at_first_sot → ⊥
 refused_first e = let z : ◌≡◌ {A = ℕ} 0 1 = cc in omega arith
 
-pub refused_header : {r : Refusal} {h : MainHeaderInfo} → main.Refused r ≡ main.Header h → ⊥
+pub refused_header : {r : Refusal} {h : MainHeaderInfo} → Err r ≡ Ok h → ⊥
 refused_header e = let z : ◌≡◌ {A = ℕ} 0 1 = cc in omega arith
 
 -- ---- the next number
@@ -62,11 +59,11 @@ by_from n s k at = entries_by n s k (walk_from s at).visits
 abbrev pub end_from : Numbering → List ℕ → ℕ → ℕ → WalkEnd
 end_from n s k at = ended_by n s k (walk_from s at).visits (walk_from s at).ended
 
-module _ (n : Numbering) (s : List ℕ) (k at : ℕ) (p : Passing) (found : walk_step_at s at ≡ Passed p) where
+module _ (n : Numbering) (s : List ℕ) (k at : ℕ) (p : Passing) (found : walk_step_at s at ≡ Ok (Some p)) where
   end_there : end_from n s k at ≡ ended_by n s k (record { at = at; next = p.next } ∷ (walk_from s p.next).visits) (walk_from s p.next).ended
   end_there = ap₂ (ended_by n s k) (visits_on s at p found) (ended_on s at p found)
 
-  module _ (plain : p.is_tlm ≡ false) where
+  module _ (plain : p.tlm ≡ None) where
     other : be 2 s at ≡ TLM → ⊥
     other = (passed_is s at p found).plain plain
 
@@ -78,19 +75,19 @@ module _ (n : Numbering) (s : List ℕ) (k at : ℕ) (p : Passing) (found : walk
     unfolding ended_by
     end_plain = end_there ∙ rw (ne_eqb _ _ other)
 
-  module _ (is : p.is_tlm ≡ true) where
-    pub by_tlm : by_from n s k at ≡ entries_on s at k 0 p.entries ++ by_from n s (next_number n s at k) p.next
+  module _ {count : ℕ} (is : p.tlm ≡ Some count) where
+    pub by_tlm : by_from n s k at ≡ entries_on s at k 0 count ++ by_from n s (next_number n s at k) p.next
     unfolding entries_by
-    by_tlm = let told = (passed_is s at p found).tlm is in ap (entries_by n s k) (visits_on s at p found) ∙ rw (eq-eqb _ _ told.marker, told.count)
+    by_tlm = let told = (passed_is s at p found).tlm _ is in ap (entries_by n s k) (visits_on s at p found) ∙ rw (eq-eqb _ _ told.marker, told.count)
 
     -- the numbers do not pass, or this is where they do
     pub end_tlm : next_number n s at k ≤ 65_535 → end_from n s k at ≡ end_from n s (next_number n s at k) p.next
     unfolding ended_by
-    end_tlm h = end_there ∙ rw (eq-eqb _ _ ((passed_is s at p found).tlm is).marker, le-leb _ _ h)
+    end_tlm h = end_there ∙ rw (eq-eqb _ _ ((passed_is s at p found).tlm _ is).marker, le-leb _ _ h)
 
-    pub end_26 : 65_535 < next_number n s at k → end_from n s k at ≡ refused (refusal 26 at)
+    pub end_26 : 65_535 < next_number n s at k → end_from n s k at ≡ refused (refusal TlmTooManyEntries at)
     unfolding ended_by
-    end_26 h = end_there ∙ rw (eq-eqb _ _ ((passed_is s at p found).tlm is).marker, lt-leb _ _ h)
+    end_26 h = end_there ∙ rw (eq-eqb _ _ ((passed_is s at p found).tlm _ is).marker, lt-leb _ _ h)
 
     -- where the walk ends at the first SOT, no number of this segment passes
     pub next_few : end_from n s k at ≡ at_first_sot → next_number n s at k ≤ 65_535
@@ -101,14 +98,14 @@ module _ (n : Numbering) (s : List ℕ) (k at : ℕ) (p : Passing) (found : walk
 
 -- ---- how many have no index
 
-module _ (s : List ℕ) (at : ℕ) (p : Passing) (found : walk_step_at s at ≡ Passed p) where
-  pub count_plain : p.is_tlm ≡ false → unindexed_in s (walk_from s at).visits ≡ unindexed_in s (walk_from s p.next).visits
+module _ (s : List ℕ) (at : ℕ) (p : Passing) (found : walk_step_at s at ≡ Ok (Some p)) where
+  pub count_plain : p.tlm ≡ None → unindexed_in s (walk_from s at).visits ≡ unindexed_in s (walk_from s p.next).visits
   unfolding unindexed_in
   count_plain plain = ap (unindexed_in s) (visits_on s at p found) ∙ rw (ne_eqb _ _ ((passed_is s at p found).plain plain)) (zero-add _)
 
-  pub count_tlm : p.is_tlm ≡ true → unindexed_in s (walk_from s at).visits ≡ unindexed s at + unindexed_in s (walk_from s p.next).visits
+  pub count_tlm : {count : ℕ} → p.tlm ≡ Some count → unindexed_in s (walk_from s at).visits ≡ unindexed s at + unindexed_in s (walk_from s p.next).visits
   unfolding unindexed_in
-  count_tlm is = ap (unindexed_in s) (visits_on s at p found) ∙ rw (eq-eqb _ _ ((passed_is s at p found).tlm is).marker)
+  count_tlm is = ap (unindexed_in s) (visits_on s at p found) ∙ rw (eq-eqb _ _ ((passed_is s at p found).tlm _ is).marker)
 
 -- ---- the number from which a segment's entries are numbered
 
@@ -160,28 +157,28 @@ module _ (n : Numbering) (s : List ℕ) where
       (λ h. absurd (refused_first (rw (t, h) at e))))
       (λ t. ended_first k rest ended (rw t at e))
 
-  pub by_refused : (r : Refusal) → front_of s ≡ front.Refused r → judged_by n s ≡ main.Refused r
+  pub by_refused : (r : Refusal) → front_of s ≡ Err r → judged_by n s ≡ Err r
   unfolding judged_by behind_front_by
   by_refused r e = ap (behind_front_by n s) e
 
-  pub by_sound : front_of s ≡ front.Sound → judged_by n s ≡ read_as s (walk_from s 2) (end_from n s 0 2)
+  pub by_sound : front_of s ≡ Ok tt → judged_by n s ≡ read_as s (walk_from s 2) (end_from n s 0 2)
   unfolding judged_by behind_front_by
   by_sound e = ap (behind_front_by n s) e
 
   -- a header that is accepted by a numbering is accepted by the walk, which says the same of it
-  pub by_accepted : (h : MainHeaderInfo) → judged_by n s ≡ main.Header h → (judged s ≡ main.Header h) × (end_from n s 0 2 ≡ at_first_sot)
+  pub by_accepted : (h : MainHeaderInfo) → judged_by n s ≡ Ok h → (judged s ≡ Ok h) × (end_from n s 0 2 ≡ at_first_sot)
   unfolding judged_by behind_front_by judged behind_front read_as
   by_accepted h = by (front_of s)
     where
-      walked : (ended : WalkEnd) → end_from n s 0 2 ≡ ended → read_as s (walk_from s 2) ended ≡ main.Header h
-          → (read_as s (walk_from s 2) (walk_from s 2).ended ≡ main.Header h) × (end_from n s 0 2 ≡ at_first_sot)
+      walked : (ended : WalkEnd) → end_from n s 0 2 ≡ ended → read_as s (walk_from s 2) ended ≡ Ok h
+          → (read_as s (walk_from s 2) (walk_from s 2).ended ≡ Ok h) × (end_from n s 0 2 ≡ at_first_sot)
       walked at_first_sot e accepted =
           (ap (read_as s (walk_from s 2)) (ended_first 0 (walk_from s 2).visits (walk_from s 2).ended e) ∙ accepted, e)
       walked (refused r) e accepted = absurd (refused_header accepted)
 
-      by : (f : Front) → behind_front_by n s f ≡ main.Header h → (behind_front s f ≡ main.Header h) × (end_from n s 0 2 ≡ at_first_sot)
-      by front.Sound e = walked (end_from n s 0 2) refl e
-      by (front.Refused r) e = absurd (refused_header e)
+      by : (f : Result ⊤ Refusal) → behind_front_by n s f ≡ Ok h → (behind_front s f ≡ Ok h) × (end_from n s 0 2 ≡ at_first_sot)
+      by (Ok tt) e = walked (end_from n s 0 2) refl e
+      by (Err r) e = absurd (refused_header e)
 
 -- ---- numbered from 0 in each segment, all is as the walk and the segments have it
 
@@ -203,9 +200,9 @@ module _ (s : List ℕ) where
   unfolding judged_by behind_front_by judged behind_front
   judged_restart = by (front_of s)
     where
-      by : (f : Front) → behind_front_by Restarting s f ≡ behind_front s f
-      by front.Sound = ap (read_as s (walk_from s 2)) (ended_restart 0 (walk_from s 2).visits (walk_from s 2).ended)
-      by (front.Refused r) = refl
+      by : (f : Result ⊤ Refusal) → behind_front_by Restarting s f ≡ behind_front s f
+      by (Ok tt) = ap (read_as s (walk_from s 2)) (ended_restart 0 (walk_from s 2).visits (walk_from s 2).ended)
+      by (Err r) = refl
 
   pub table_restart : table_by Restarting s ≡ tlm_table s
   unfolding table_by tlm_table

@@ -9,9 +9,10 @@ use mathlib.Core.List.{List, [], ◌∷◌, ◌++◌}
 use lib.ListN.{length, get_or}
 use lib.Dec.{leb, eqb}
 use borrow.Author.Tests.{le-leb, lt-leb, leb-true, leb-false, eqb-true, eqb-false}
+use Rattle.std.specs.Prelude.{Option, Some, None, Result, Ok, Err, ⊤}
 use Rattle.numbers.proofs.Choice.{by_bool, by_test}
 use Rattle.types.specs.Markers.{TLM}
-use Rattle.types.specs.Refusals.{refusal}
+use Rattle.types.specs.Refusals.{refusal, refusal_number}
 use Rattle.types.specs.declared.Refusal.{Refusal}
 use Rattle.chain.specs.Chain.{Move, end, on, Visit, Run, stay, step}
 use Rattle.chain.proofs.ChainLaws.{end_on}
@@ -25,17 +26,13 @@ use Rattle.header.specs.declared.numbering.Numbering.{Numbering}
 use Rattle.header.specs.declared.numbering.Numbering.TheVariants.{CarriedOn, Restarting}
 use Rattle.header.specs.declared.step.HeaderStep.{HeaderStep}
 use Rattle.header.specs.declared.step.HeaderStep.TheVariants as found
-use Rattle.header.specs.declared.tlm.Tlm.{Tlm}
-use Rattle.header.specs.declared.walk.WalkStep.{WalkStep}
-use Rattle.header.specs.declared.walk.WalkStep.TheVariants as walk
-use Rattle.header.specs.declared.parse.Front.{Front}
-use Rattle.header.specs.declared.parse.Front.TheVariants as front
-use Rattle.header.specs.declared.parse.MainHeader.{MainHeader}
-use Rattle.header.specs.declared.parse.MainHeader.TheVariants.{Header, Refused}
 use Rattle.header.proofs.TlmLaws.{entries_indexed, unindexed_all}
 use Rattle.header.proofs.TlmFill.{unindexed_bound}
 use Rattle.header.proofs.WalkLaws.{walk_run, walk_stops}
 use Rattle.header.proofs.NumberingLaws.{refused_first, end_from, by_sound, judged_restart}
+use Rattle.header.specs.declared.walk.Passed.{Passed as Passing}
+use Rattle.header.specs.declared.parse.MainHeaderInfo.{MainHeaderInfo}
+use Rattle.types.specs.declared.Reason.TheVariants.{TlmTooManyEntries}
 
 -- ---- no number passes, or one does
 
@@ -55,7 +52,7 @@ module _ (s : List ℕ) where
 
   -- they are many: some segment is refused
   some_past : (k : ℕ) (vs : List Visit) (ended : WalkEnd) → k ≤ 65_535 → 65_535 < k + unindexed_in s vs
-      → (p : ℕ) × (ended_by CarriedOn s k vs ended ≡ refused (refusal 26 p))
+      → (p : ℕ) × (ended_by CarriedOn s k vs ended ≡ refused (refusal TlmTooManyEntries p))
   unfolding ended_by next_number unindexed_in
   some_past k [] ended small h = absurd (omega arith)
   some_past k (v ∷ rest) ended small h =
@@ -102,12 +99,12 @@ module _ (s : List ℕ) where
   unfolding judged_by behind_front_by judged behind_front
   carried_accepts h = by (front_of s)
     where
-      by : (f : Front) → behind_front_by CarriedOn s f ≡ behind_front s f
-      by front.Sound = ap (read_as s (walk_from s 2)) (none_past 0 (walk_from s 2).visits (walk_from s 2).ended (omega arith))
-      by (front.Refused r) = refl
+      by : (f : Result ⊤ Refusal) → behind_front_by CarriedOn s f ≡ behind_front s f
+      by (Ok tt) = ap (read_as s (walk_from s 2)) (none_past 0 (walk_from s 2).visits (walk_from s 2).ended (omega arith))
+      by (Err r) = refl
 
   -- more: 26
-  pub carried_refuses : front_of s ≡ front.Sound → 65_535 < unindexed_in s (walk_from s 2).visits → (p : ℕ) × (judged_by CarriedOn s ≡ Refused (refusal 26 p))
+  pub carried_refuses : front_of s ≡ Ok tt → 65_535 < unindexed_in s (walk_from s 2).visits → (p : ℕ) × (judged_by CarriedOn s ≡ Err (refusal TlmTooManyEntries p))
   unfolding read_as
   carried_refuses sound h =
       let past = some_past 0 (walk_from s 2).visits (walk_from s 2).ended (omega arith) (omega arith) in
@@ -116,10 +113,10 @@ module _ (s : List ℕ) where
 -- ---- which segment is refused
 
 -- the walk's own refusals have the numbers 3 to 6
-abbrev Own : WalkStep → Type 0
-Own (walk.Passed p) = Unit {0}
-Own walk.FirstSot = Unit {0}
-Own (walk.Refused r) = r.number ≤ 6
+abbrev Own : Result (Option Passing) Refusal → Type 0
+Own (Ok (Some p)) = Unit {0}
+Own (Ok None) = Unit {0}
+Own (Err r) = refusal_number r ≤ 6
 
 own_step : (s : List ℕ) (at : ℕ) (h : HeaderStep) → Own (walk_step_of s at h)
 unfolding walk_step_of passed_at tlm_step tlm_at cut_at
@@ -127,39 +124,39 @@ own_step s at found.Sot = tt
 own_step s at (found.Delimiter m) = tt
 own_step s at (found.Segment m) =
     by_test Own (eqb m.code TLM)
-    (λ _. by_test (λ (t : Tlm). Own (tlm_step m t)) (leb 4 (ltlm s at))
-    (λ _. by_test (λ (t : Tlm). Own (tlm_step m t)) (eqb (index_size (stlm s at)) 3) (λ _. omega arith) (λ _. tt))
+    (λ _. by_test (λ (t : Result ℕ Refusal). Own (tlm_step m t)) (leb 4 (ltlm s at))
+    (λ _. by_test (λ (t : Result ℕ Refusal). Own (tlm_step m t)) (eqb (index_size (stlm s at)) 3) (λ _. omega arith) (λ _. tt))
     (λ _. omega arith))
     (λ _. tt)
-own_step s at found.CutShort = by_test (λ (r : Refusal). r.number ≤ 6) (leb (at + 2) (length s)) (λ _. omega arith) (λ _. omega arith)
+own_step s at found.CutShort = by_test (λ (r : Refusal). refusal_number r ≤ 6) (leb (at + 2) (length s)) (λ _. omega arith) (λ _. omega arith)
 
 ending : WalkEnd → Move WalkEnd → WalkEnd
 ending other (end a) = a
 ending other (on next) = other
 
-number_of : WalkEnd → ℕ
-number_of at_first_sot = 0
-number_of (refused r) = r.number
+number_same : WalkEnd → ℕ
+number_same at_first_sot = 0
+number_same (refused r) = refusal_number r
 
 place_of : WalkEnd → ℕ
 place_of at_first_sot = 0
 place_of (refused r) = r.place
 
-own_end : (s : List ℕ) (at : ℕ) (r : Refusal) → (walk_from s at).ended ≡ refused r → r.number ≤ 6
-unfolding walk_at walk_move walk_step_at ending number_of
+own_end : (s : List ℕ) (at : ℕ) (r : Refusal) → (walk_from s at).ended ≡ refused r → refusal_number r ≤ 6
+unfolding walk_at walk_move walk_step_at ending number_same
 own_end s at r e = by (walk_step_at s stop) (own_step s stop (step_at s stop)) (walk_stops s at)
   where
     stop : ℕ
     stop = (walk_from s at).stopped
 
-    by : (w : WalkStep) → Own w → walk_move w ≡ end (walk_from s at).ended → r.number ≤ 6
-    by (walk.Passed p) own m = absurd (end_on (sym m))
-    by walk.FirstSot own m = absurd (refused_first (sym (ap (ending at_first_sot) m ∙ e)))
-    by (walk.Refused q) own m = omega (arith, ap number_of (ap (ending at_first_sot) m ∙ e))
+    by : (w : Result (Option Passing) Refusal) → Own w → walk_move w ≡ end (walk_from s at).ended → refusal_number r ≤ 6
+    by (Ok (Some p)) own m = absurd (end_on (sym m))
+    by (Ok None) own m = absurd (refused_first (sym (ap (ending at_first_sot) m ∙ e)))
+    by (Err q) own m = omega (arith, ap number_same (ap (ending at_first_sot) m ∙ e))
 
 -- what comes behind a position is refused there by no numbering
 later : (n : Numbering) (s : List ℕ) (k p : ℕ) (ended : WalkEnd) {at stop : ℕ} {vs : List Visit} → Run (walk_at s) at vs stop → p < at
-    → ended_by n s k vs ended ≡ refused (refusal 26 p) → ended ≡ refused (refusal 26 p)
+    → ended_by n s k vs ended ≡ refused (refusal TlmTooManyEntries p) → ended ≡ refused (refusal TlmTooManyEntries p)
 unfolding ended_by place_of
 later n s k p ended stay h e = e
 later n s k p ended (step {at = at} {next = next} {rest = rest} found past run) h e =
@@ -177,9 +174,9 @@ run_behind : (s : List ℕ) {at stop : ℕ} (before : List Visit) (v : Visit) (a
 run_behind s [] v after (step found past run) = (past, run)
 run_behind s (u ∷ before) v after (step found past run) = run_behind s before v after run
 
-read_end : MainHeader → WalkEnd
-read_end (Header h) = at_first_sot
-read_end (Refused r) = refused r
+read_end : Result MainHeaderInfo Refusal → WalkEnd
+read_end (Ok h) = at_first_sot
+read_end (Err r) = refused r
 
 read_end_lem : (s : List ℕ) (ended : WalkEnd) → read_end (read_as s (walk_from s 2) ended) ≡ ended
 unfolding read_as read_end
@@ -188,7 +185,7 @@ read_end_lem s (refused r) = refl
 
 -- A segment among those that the walk visits, and so passed by 3, 4 and 5; the front is sound, and carrying on refuses none before it.
 module _ (s : List ℕ) (before : List Visit) (v : Visit) (after : List Visit) (met : (walk_from s 2).visits ≡ before ++ (v ∷ after))
-    (sound : front_of s ≡ front.Sound) (none : ended_by CarriedOn s 0 before at_first_sot ≡ at_first_sot) (tlm : is_tlm s v ≡ true) where
+    (sound : front_of s ≡ Ok tt) (none : ended_by CarriedOn s 0 before at_first_sot ≡ at_first_sot) (tlm : is_tlm s v ≡ true) where
   count : ℕ
   count = unindexed_in s before
 
@@ -197,7 +194,7 @@ module _ (s : List ℕ) (before : List Visit) (v : Visit) (after : List Visit) (
   few = few_before s before none
 
   ends_here : end_from CarriedOn s 0 2
-      ≡ cond (leb (count + unindexed s v.at) 65_535) (ended_by CarriedOn s (count + unindexed s v.at) after (walk_from s 2).ended) (refused (refusal 26 v.at))
+      ≡ cond (leb (count + unindexed s v.at) 65_535) (ended_by CarriedOn s (count + unindexed s v.at) after (walk_from s 2).ended) (refused (refusal TlmTooManyEntries v.at))
   unfolding count ended_by next_number
   ends_here =
       ap (λ (vs : List Visit). ended_by CarriedOn s 0 vs (walk_from s 2).ended) met
@@ -205,22 +202,22 @@ module _ (s : List ℕ) (before : List Visit) (v : Visit) (after : List Visit) (
       ∙ rw (zero-add (unindexed_in s before), tlm)
 
   -- It is refused by 26 there exactly when the number of one of its entries without an index would pass 65,534.
-  pub past_refused : (i : ℕ) → i < unindexed s v.at → 65_534 < unindexed_in s before + i → judged_by CarriedOn s ≡ Refused (refusal 26 v.at)
+  pub past_refused : (i : ℕ) → i < unindexed s v.at → 65_534 < unindexed_in s before + i → judged_by CarriedOn s ≡ Err (refusal TlmTooManyEntries v.at)
   unfolding count read_as
   past_refused i h many =
-      let there : end_from CarriedOn s 0 2 ≡ refused (refusal 26 v.at) = ends_here ∙ rw (lt-leb (count + unindexed s v.at) 65_535 (omega arith)) in
+      let there : end_from CarriedOn s 0 2 ≡ refused (refusal TlmTooManyEntries v.at) = ends_here ∙ rw (lt-leb (count + unindexed s v.at) 65_535 (omega arith)) in
       by_sound CarriedOn s sound ∙ ap (read_as s (walk_from s 2)) there
 
-  pub refused_past : judged_by CarriedOn s ≡ Refused (refusal 26 v.at) → (i : ℕ) × (i < unindexed s v.at) × (65_534 < unindexed_in s before + i)
+  pub refused_past : judged_by CarriedOn s ≡ Err (refusal TlmTooManyEntries v.at) → (i : ℕ) × (i < unindexed s v.at) × (65_534 < unindexed_in s before + i)
   unfolding count read_end
   refused_past e =
       by_bool (leb (count + unindexed s v.at) 65_535)
       (λ t.
-      let there : end_from CarriedOn s 0 2 ≡ refused (refusal 26 v.at) =
+      let there : end_from CarriedOn s 0 2 ≡ refused (refusal TlmTooManyEntries v.at) =
       sym (read_end_lem s (end_from CarriedOn s 0 2)) ∙ ap read_end (sym (by_sound CarriedOn s sound) ∙ e) in
       let run = run_behind s before v after (rw met at (walk_run s 2)) in
       let own = later CarriedOn s (count + unindexed s v.at) v.at (walk_from s 2).ended run.1 run.0 (rw t at (sym ends_here ∙ there)) in
-      absurd (omega (arith, own_end s 2 (refusal 26 v.at) own)))
+      absurd (omega (arith, own_end s 2 (refusal TlmTooManyEntries v.at) own)))
       (λ f. let many = leb-false (count + unindexed s v.at) 65_535 f in let small = few in (65_535 - count, omega arith, omega arith))
 
 -- ---- where the two agree

@@ -8,6 +8,7 @@ use mathlib.Core.List.{List, []}
 use lib.ListN.{length, take, drop, length-append, length-take}
 use mir.Val.{bool_byte, Fits}
 use mir.Syntax.{w64}
+use Rattle.std.specs.Prelude.{Some, None, Ok, Err}
 use Rattle.types.specs.Refusals.{refusal}
 use Rattle.types.specs.declared.Refusal.{Refusal}
 use Rattle.chain.specs.Chain.{Chain}
@@ -18,12 +19,11 @@ use Rattle.header.specs.Numbering.{next_number, ended_by}
 use Rattle.header.specs.Parse.{read_as}
 use Rattle.header.specs.declared.numbering.Numbering.{Numbering}
 use Rattle.header.specs.declared.walk.Passed.{Passed as Passing}
-use Rattle.header.specs.declared.walk.WalkStep.TheVariants.{Passed, FirstSot, Refused}
 use Rattle.header.proofs.TlmLaws.{length_entries}
 use Rattle.header.proofs.WalkLaws.{passed_is, walk_found, walk_refused}
 use Rattle.header.proofs.NumberingLaws.{end_from, end_plain, end_tlm, end_26}
 use Rattle.header.proofs.WalkVisited.{stopped_on, kept_from, entries_from, fillers_from, fillers_on, kept_plain, entries_plain, kept_tlm, entries_tlm, entries_few, length_visited}
-use Rattle.header.specs.declared.parse.MainHeader.TheVariants as answer
+use Rattle.types.specs.declared.Reason.TheVariants.{TlmTooManyEntries}
 
 pub record Counting (n : Numbering) (s : List ℕ) (at stripped entries filler number : ℕ) : Type 0 where
   pub inside : at ≤ length s
@@ -67,8 +67,8 @@ one_at_most true = omega arith
 one_at_most false = omega arith
 
 module _ (n : Numbering) (s : List ℕ) (at stripped entries filler number : ℕ) (c : Counting n s at stripped entries filler number) (p : Passing)
-    (found : walk_step_at s at ≡ Passed p) (more : ℕ) (fills : more ≡ cond p.is_filler 1 0) where
-  pub counting_plain : p.is_tlm ≡ false → Counting n s p.next stripped entries (filler + more) number
+    (found : walk_step_at s at ≡ Ok (Some p)) (more : ℕ) (fills : more ≡ cond p.is_filler 1 0) where
+  pub counting_plain : p.tlm ≡ None → Counting n s p.next stripped entries (filler + more) number
   counting_plain plain =
       let told = passed_is s at p found in
       let past = told.past in
@@ -87,19 +87,19 @@ module _ (n : Numbering) (s : List ℕ) (at stripped entries filler number : ℕ
         ends = sym (end_plain n s number at p found plain) ∙ c.ends;
       }
 
-  pub counting_tlm : {next : ℕ} → next ≡ next_number n s at number → next ≤ 65_535 → p.is_tlm ≡ true
-      → Counting n s p.next (stripped + (p.next - at)) (entries + p.entries) (filler + more) next
-  counting_tlm {next} numbered small is =
+  pub counting_tlm : {next count : ℕ} → next ≡ next_number n s at number → next ≤ 65_535 → p.tlm ≡ Some count
+      → Counting n s p.next (stripped + (p.next - at)) (entries + count) (filler + more) next
+  counting_tlm {next} {count} numbered small is =
       let told = passed_is s at p found in
       let past = told.past in
       let few = entries_few s at p found is in
-      let longer = ap length (entries_tlm s at p found is) ∙ length-append (entries_in s at 0 p.entries) (entries_from s p.next) in
+      let longer = ap length (entries_tlm s at p found is) ∙ length-append (entries_in s at 0 count) (entries_from s p.next) in
       record {
         inside = told.inside;
         before = omega (arith, c.before);
         few = omega (arith, c.few);
         header = omega (arith, c.header, c.before, ap length (kept_tlm s at p found is));
-        records = omega (arith, c.records, longer, length_entries s at 0 p.entries);
+        records = omega (arith, c.records, longer, length_entries s at 0 count);
         least = omega (arith, c.least, fills, one_at_most p.is_filler);
         fill = omega (arith, c.fill, fills, fillers_on s at p found);
         stops = sym (stopped_on s at p found) ∙ c.stops;
@@ -108,8 +108,8 @@ module _ (n : Numbering) (s : List ℕ) (at stripped entries filler number : ℕ
       }
 
 module _ (n : Numbering) (s : List ℕ) (at stripped entries filler number : ℕ) (c : Counting n s at stripped entries filler number) where
-  pub counted_found : walk_step_at s at ≡ FirstSot
-      → read_as s (walk_from s 2) (end_from n s 0 2) ≡ answer.Header (record {
+  pub counted_found : walk_step_at s at ≡ Ok None
+      → read_as s (walk_from s 2) (end_from n s 0 2) ≡ Ok (record {
         first_sot_offset = record { 0 = at };
         decode_header_length = at - stripped;
         tlm_entries = entries;
@@ -124,15 +124,15 @@ module _ (n : Numbering) (s : List ℕ) (at stripped entries filler number : ℕ
       let records : length (entries_from s 2) ≡ entries = omega (arith, c.records, ap (λ (x : Chain WalkEnd). length (tlm_entries s x.visits)) w) in
       let fill : fillers_from s 2 ≡ filler = omega (arith, c.fill, ap (λ (x : Chain WalkEnd). fillers s x.visits) w) in
       ap (read_as s (walk_from s 2)) (sym c.ends ∙ ap (λ (x : Chain WalkEnd). ended_by n s number x.visits x.ended) w)
-      ∙ (λ i. answer.Header (record { first_sot_offset = record { 0 = stop i }; decode_header_length = header i; tlm_entries = records i; fillers = fill i }))
+      ∙ (λ i. Ok (record { first_sot_offset = record { 0 = stop i }; decode_header_length = header i; tlm_entries = records i; fillers = fill i }))
 
-  pub counted_refused : (r : Refusal) → walk_step_at s at ≡ Refused r → read_as s (walk_from s 2) (end_from n s 0 2) ≡ answer.Refused r
+  pub counted_refused : (r : Refusal) → walk_step_at s at ≡ Err r → read_as s (walk_from s 2) (end_from n s 0 2) ≡ Err r
   unfolding read_as ended_by
   counted_refused r found =
       ap (read_as s (walk_from s 2)) (sym c.ends ∙ ap (λ (x : Chain WalkEnd). ended_by n s number x.visits x.ended) (walk_refused s at r found))
 
   -- a segment with a number that passes
-  pub counted_26 : (p : Passing) → walk_step_at s at ≡ Passed p → p.is_tlm ≡ true → 65_535 < next_number n s at number
-      → read_as s (walk_from s 2) (end_from n s 0 2) ≡ answer.Refused (refusal 26 at)
+  pub counted_26 : (p : Passing) {count : ℕ} → walk_step_at s at ≡ Ok (Some p) → p.tlm ≡ Some count → 65_535 < next_number n s at number
+      → read_as s (walk_from s 2) (end_from n s 0 2) ≡ Err (refusal TlmTooManyEntries at)
   unfolding read_as
   counted_26 p found is many = ap (read_as s (walk_from s 2)) (sym c.ends ∙ end_26 n s number at p found is many)

@@ -7,71 +7,69 @@ use mathlib.Core.List.{List, [], ◌∷◌, ◌++◌}
 use lib.ListN.{length, take, drop, length-append}
 use lib.Dec.{leb, eqb}
 use borrow.Author.Tests.{le-leb, lt-leb, eq-eqb, leb-true, eqb-true}
+use Rattle.std.specs.Prelude.{Result, Ok, Err, ⊤}
 use Rattle.numbers.specs.Bytes.{be, put}
 use Rattle.numbers.proofs.BytesLaws.{put_start, be_front}
 use Rattle.types.specs.Refusals.{refusal}
-use Rattle.types.specs.Row.{row_bytes, rows_of}
-use Rattle.types.proofs.RowLaws.{length_rows}
-use Rattle.types.proofs.RowStanding.{Layout, put_last}
+use Rattle.types.specs.Layout.{Layout}
+use Rattle.types.specs.Layout as layout
+use Rattle.types.proofs.RowStanding.{put_last, length_all}
 use Rattle.types.specs.declared.Refusal.{Refusal}
 use Rattle.types.specs.Markers.{SOC, SIZ}
 use Rattle.header.specs.Tlm.{Entry, placed}
 use Rattle.header.specs.Walk.{WalkEnd, at_first_sot, refused, walk_from}
 use Rattle.header.specs.Strip.{decode_header, tlm_entries}
-use Rattle.header.specs.Parse.{read_as, stands, front_of, behind_front, judged, judged_as, with_room, parsed, table_by, table_after, out_after}
+use Rattle.header.specs.Parse.{read_as, stands, front_of, behind_front, judged, judged_as, with_room, parsed, table_by, table_in, table_after, out_after}
 use Rattle.header.specs.declared.numbering.Numbering.{Numbering}
 use Rattle.header.specs.declared.reading.Reading.{Reading}
-use Rattle.header.specs.declared.parse.Front.{Front}
-use Rattle.header.specs.declared.parse.Front.TheVariants as front
 use Rattle.header.specs.declared.parse.MainHeaderInfo.{MainHeaderInfo}
-use Rattle.header.specs.declared.parse.MainHeader.{MainHeader}
-use Rattle.header.specs.declared.parse.MainHeader.TheVariants.{Header, Refused}
 use Rattle.numbers.proofs.Choice.{by_test}
 use Rattle.header.proofs.TlmLaws.{length_placed}
 use Rattle.header.proofs.NumberingLaws.{refused_header, by_from, end_from, length_by, by_accepted}
 use Rattle.header.proofs.WalkLaws.{not_true_false}
 use Rattle.header.proofs.EditionLaws.{as_accepted}
 use Rattle.header.proofs.StripLengths.{entries_bound, stopped_inside, whole_kept, none_met}
+use Rattle.types.specs.declared.Reason.TheVariants.{NoSoc, NoSiz, OutputTooSmall, TableTooSmall, HeaderTooLong}
 
 module _ (s : List ℕ) where
   -- ---- before the walk
 
-  pub front_long : 0xffff_ffff < length s → front_of s ≡ front.Refused (refusal 19 0)
+  pub front_long : 0xffff_ffff < length s → front_of s ≡ Err (refusal HeaderTooLong 0)
   unfolding front_of
   front_long h = rw (lt-leb _ _ h)
 
   module _ (short : length s ≤ 0xffff_ffff) where
-    pub front_no_soc : stands s 0 SOC ≡ false → front_of s ≡ front.Refused (refusal 1 0)
+    pub front_no_soc : stands s 0 SOC ≡ false → front_of s ≡ Err (refusal NoSoc 0)
     unfolding front_of
     front_no_soc e = rw (le-leb _ _ short, e)
 
-    pub front_no_siz : stands s 0 SOC ≡ true → stands s 2 SIZ ≡ false → front_of s ≡ front.Refused (refusal 2 2)
+    pub front_no_siz : stands s 0 SOC ≡ true → stands s 2 SIZ ≡ false → front_of s ≡ Err (refusal NoSiz 2)
     unfolding front_of
     front_no_siz e k = rw (le-leb _ _ short, e, k)
 
-    pub front_sound : stands s 0 SOC ≡ true → stands s 2 SIZ ≡ true → front_of s ≡ front.Sound
+    pub front_sound : stands s 0 SOC ≡ true → stands s 2 SIZ ≡ true → front_of s ≡ Ok tt
     unfolding front_of
     front_sound e k = rw (le-leb _ _ short, e, k)
 
   -- ---- and with it
 
-  pub judged_refused : (r : Refusal) → front_of s ≡ front.Refused r → judged s ≡ Refused r
+  pub judged_refused : (r : Refusal) → front_of s ≡ Err r → judged s ≡ Err r
   unfolding judged behind_front
   judged_refused r e = ap (behind_front s) e
 
-  pub judged_sound : front_of s ≡ front.Sound → judged s ≡ read_as s (walk_from s 2) (walk_from s 2).ended
+  pub judged_sound : front_of s ≡ Ok tt → judged s ≡ read_as s (walk_from s 2) (walk_from s 2).ended
   unfolding judged behind_front
   judged_sound e = ap (behind_front s) e
 
-  pub judged_long : 0xffff_ffff < length s → judged s ≡ Refused (refusal 19 0)
-  judged_long h = judged_refused (refusal 19 0) (front_long h)
+  pub judged_long : 0xffff_ffff < length s → judged s ≡ Err (refusal HeaderTooLong 0)
+  judged_long h = judged_refused (refusal HeaderTooLong 0) (front_long h)
 
   module _ (short : length s ≤ 0xffff_ffff) where
-    pub judged_no_soc : stands s 0 SOC ≡ false → judged s ≡ Refused (refusal 1 0)
-    judged_no_soc e = judged_refused (refusal 1 0) (front_no_soc short e)
+    pub judged_no_soc : stands s 0 SOC ≡ false → judged s ≡ Err (refusal NoSoc 0)
+    judged_no_soc e = judged_refused (refusal NoSoc 0) (front_no_soc short e)
 
-    pub judged_no_siz : stands s 0 SOC ≡ true → stands s 2 SIZ ≡ false → judged s ≡ Refused (refusal 2 2)
-    judged_no_siz e k = judged_refused (refusal 2 2) (front_no_siz short e k)
+    pub judged_no_siz : stands s 0 SOC ≡ true → stands s 2 SIZ ≡ false → judged s ≡ Err (refusal NoSiz 2)
+    judged_no_siz e k = judged_refused (refusal NoSiz 2) (front_no_siz short e k)
 
     pub judged_walk : stands s 0 SOC ≡ true → stands s 2 SIZ ≡ true → judged s ≡ read_as s (walk_from s 2) (walk_from s 2).ended
     judged_walk e k = judged_sound (front_sound short e k)
@@ -112,9 +110,9 @@ pub record Read (s : List ℕ) (h : MainHeaderInfo) : Type 0 where
   pub entries : h.tlm_entries ≡ length (tlm_entries s (walk_from s 2).visits)
   pub ends : (walk_from s 2).ended ≡ at_first_sot
 
-abbrev Says : List ℕ → MainHeader → Type 0
-Says s (Header h) = Read s h
-Says s (Refused r) = Unit {0}
+abbrev Says : List ℕ → Result MainHeaderInfo Refusal → Type 0
+Says s (Ok h) = Read s h
+Says s (Err r) = Unit {0}
 
 says_walk : (s : List ℕ) → length s ≤ 0xffff_ffff → 2 ≤ length s → (ended : WalkEnd) → (walk_from s 2).ended ≡ ended → Says s (read_as s (walk_from s 2) ended)
 unfolding read_as
@@ -122,9 +120,9 @@ says_walk s short two at_first_sot e = record { short = short; two = two; first 
 says_walk s short two (refused r) e = tt
 
 -- a front that is sound has both markers, in few enough bytes to be walked
-abbrev Fronts : List ℕ → Front → Type 0
-Fronts s front.Sound = (4 ≤ length s) × (length s ≤ 0xffff_ffff) × (be 2 s 0 ≡ SOC) × (be 2 s 2 ≡ SIZ)
-Fronts s (front.Refused r) = Unit {0}
+abbrev Fronts : List ℕ → Result ⊤ Refusal → Type 0
+Fronts s (Ok tt) = (4 ≤ length s) × (length s ≤ 0xffff_ffff) × (be 2 s 0 ≡ SOC) × (be 2 s 2 ≡ SIZ)
+Fronts s (Err r) = Unit {0}
 
 fronts : (s : List ℕ) → Fronts s (front_of s)
 unfolding front_of
@@ -135,47 +133,47 @@ fronts s =
     (λ _. tt))
     (λ _. tt)
 
-pub sound_front : (s : List ℕ) → front_of s ≡ front.Sound → (4 ≤ length s) × (length s ≤ 0xffff_ffff) × (be 2 s 0 ≡ SOC) × (be 2 s 2 ≡ SIZ)
+pub sound_front : (s : List ℕ) → front_of s ≡ Ok tt → (4 ≤ length s) × (length s ≤ 0xffff_ffff) × (be 2 s 0 ≡ SOC) × (be 2 s 2 ≡ SIZ)
 sound_front s e = rw e at (fronts s)
 
 -- so has a header that is accepted
-pub opens_with : (s : List ℕ) (h : MainHeaderInfo) → judged s ≡ Header h → (be 2 s 0 ≡ SOC) × (be 2 s 2 ≡ SIZ)
+pub opens_with : (s : List ℕ) (h : MainHeaderInfo) → judged s ≡ Ok h → (be 2 s 0 ≡ SOC) × (be 2 s 2 ≡ SIZ)
 opens_with s h e = let f = sound_front s (by (front_of s) refl) in (f.2, f.3)
   where
-    by : (f : Front) → front_of s ≡ f → front_of s ≡ front.Sound
-    by front.Sound k = k
-    by (front.Refused r) k = absurd (refused_header (sym (judged_refused s r k) ∙ e))
+    by : (f : Result ⊤ Refusal) → front_of s ≡ f → front_of s ≡ Ok tt
+    by (Ok tt) k = k
+    by (Err r) k = absurd (refused_header (sym (judged_refused s r k) ∙ e))
 
-says_behind : (s : List ℕ) (f : Front) → Fronts s f → Says s (behind_front s f)
+says_behind : (s : List ℕ) (f : Result ⊤ Refusal) → Fronts s f → Says s (behind_front s f)
 unfolding behind_front
-says_behind s front.Sound k = says_walk s k.1 (omega (arith, k.0)) (walk_from s 2).ended refl
-says_behind s (front.Refused r) k = tt
+says_behind s (Ok tt) k = says_walk s k.1 (omega (arith, k.0)) (walk_from s 2).ended refl
+says_behind s (Err r) k = tt
 
 says : (s : List ℕ) → Says s (judged s)
 unfolding judged
 says s = says_behind s (front_of s) (fronts s)
 
-pub judged_read : (s : List ℕ) (h : MainHeaderInfo) → judged s ≡ Header h → Read s h
+pub judged_read : (s : List ℕ) (h : MainHeaderInfo) → judged s ≡ Ok h → Read s h
 judged_read s h e = rw e at (says s)
 
 -- ---- the answer, by the room
 
 module _ (how : Reading) (s : List ℕ) (rows room : ℕ) where
-  pub parsed_refused : (r : Refusal) → judged_as how s ≡ Refused r → parsed how s rows room ≡ Refused r
+  pub parsed_refused : (r : Refusal) → judged_as how s ≡ Err r → parsed how s rows room ≡ Err r
   unfolding parsed with_room
   parsed_refused r e = ap (with_room rows room) e
 
-  module _ (h : MainHeaderInfo) (e : judged_as how s ≡ Header h) where
-    pub parsed_18 : rows < h.tlm_entries → parsed how s rows room ≡ Refused (refusal 18 h.tlm_entries)
+  module _ (h : MainHeaderInfo) (e : judged_as how s ≡ Ok h) where
+    pub parsed_18 : rows < h.tlm_entries → parsed how s rows room ≡ Err (refusal TableTooSmall h.tlm_entries)
     unfolding parsed with_room
     parsed_18 few = ap (with_room rows room) e ∙ rw (lt-leb _ _ few)
 
     module _ (many : h.tlm_entries ≤ rows) where
-      pub parsed_17 : room < h.decode_header_length → parsed how s rows room ≡ Refused (refusal 17 h.decode_header_length)
+      pub parsed_17 : room < h.decode_header_length → parsed how s rows room ≡ Err (refusal OutputTooSmall h.decode_header_length)
       unfolding parsed with_room
       parsed_17 few = ap (with_room rows room) e ∙ rw (le-leb _ _ many, lt-leb _ _ few)
 
-      pub parsed_header : h.decode_header_length ≤ room → parsed how s rows room ≡ Header h
+      pub parsed_header : h.decode_header_length ≤ room → parsed how s rows room ≡ Ok h
       unfolding parsed with_room
       parsed_header fits = ap (with_room rows room) e ∙ rw (le-leb _ _ many, le-leb _ _ fits)
 
@@ -189,13 +187,13 @@ pub record Decided (n : Numbering) (s : List ℕ) (rows room : ℕ) (h : MainHea
   pub fits : length (decode_header s (walk_from s 2).visits) ≤ room
   pub bound : h.first_sot_offset.0 + length (by_from n s 0 2) * 2 ^ 32 < 2 ^ 64
 
-abbrev Decides : Numbering → List ℕ → ℕ → ℕ → MainHeader → Type 0
-Decides n s rows room (Header h) = Decided n s rows room h
-Decides n s rows room (Refused r) = Unit {0}
+abbrev Decides : Numbering → List ℕ → ℕ → ℕ → Result MainHeaderInfo Refusal → Type 0
+Decides n s rows room (Ok h) = Decided n s rows room h
+Decides n s rows room (Err r) = Unit {0}
 
-decides : (how : Reading) (s : List ℕ) (rows room : ℕ) (answer : MainHeader) → judged_as how s ≡ answer → Decides how.numbering s rows room (with_room rows room answer)
+decides : (how : Reading) (s : List ℕ) (rows room : ℕ) (answer : Result MainHeaderInfo Refusal) → judged_as how s ≡ answer → Decides how.numbering s rows room (with_room rows room answer)
 unfolding with_room
-decides how s rows room (Header h) e =
+decides how s rows room (Ok h) e =
     let n = how.numbering in
     let accepted = by_accepted n s h (as_accepted how s h e) in
     let r = judged_read s h accepted.0 in
@@ -211,9 +209,9 @@ decides how s rows room (Header h) e =
     })
     (λ _. tt))
     (λ _. tt)
-decides how s rows room (Refused r) e = tt
+decides how s rows room (Err r) e = tt
 
-pub parsed_decided : (how : Reading) (s : List ℕ) (rows room : ℕ) (h : MainHeaderInfo) → parsed how s rows room ≡ Header h → Decided how.numbering s rows room h
+pub parsed_decided : (how : Reading) (s : List ℕ) (rows room : ℕ) (h : MainHeaderInfo) → parsed how s rows room ≡ Ok h → Decided how.numbering s rows room h
 unfolding parsed
 parsed_decided how s rows room h e = rw e at (decides how s rows room (judged_as how s) refl)
 
@@ -226,14 +224,15 @@ module _ (s : List ℕ) (h : MainHeaderInfo) (r : Read s h) where
   unfolding table_by
   length_table n = length_placed (walk_from s 2).stopped (by_from n s 0 2) ∙ length_by n s 0 (walk_from s 2).visits ∙ sym r.entries
 
-  pub table_put : (n : Numbering) (table : List ℕ) → put table 0 (rows_of (placed h.first_sot_offset.0 (by_from n s 0 2))) ≡ table_after n (Header h) s table
-  unfolding table_after table_by
-  table_put n table =
-      let rows : List ℕ = rows_of (table_by n s) in
-      let long : length rows ≡ row_bytes * h.tlm_entries = omega (arith, length_rows (table_by n s), length_table n) in
-      rw r.first (put_start table rows ∙ ap (λ (m : ℕ). rows ++ drop m table) long)
+  pub table_put : {B : Type 0} {width : ℕ} (L : Layout B width) (n : Numbering) (table : List B)
+      → put table 0 (L.all (placed h.first_sot_offset.0 (by_from n s 0 2))) ≡ table_in L n (Ok h) s table
+  unfolding table_in table_by
+  table_put {B} {width} L n table =
+      let items : List B = L.all (table_by n s) in
+      let long : length items ≡ width * h.tlm_entries = length_all L (table_by n s) ∙ ap (λ (m : ℕ). width * m) (length_table n) in
+      rw r.first (put_start table items ∙ ap (λ (m : ℕ). items ++ drop m table) long)
 
-  pub out_put : (out : List ℕ) → put out 0 (decode_header s (walk_from s 2).visits) ≡ out_after (Header h) s out
+  pub out_put : (out : List ℕ) → put out 0 (decode_header s (walk_from s 2).visits) ≡ out_after (Ok h) s out
   unfolding out_after
   out_put out = put_start out _ ∙ ap (λ (n : ℕ). decode_header s (walk_from s 2).visits ++ drop n out) (sym r.header)
 
@@ -245,10 +244,16 @@ module _ (s : List ℕ) (h : MainHeaderInfo) (r : Read s h) where
     none_by : (n : Numbering) → by_from n s 0 2 ≡ []
     none_by n = none_long _ (length_by n s 0 (walk_from s 2).visits ∙ ap length (none_met s r.two plain_long))
 
-    pub none_written : {B : Type 0} (L : Layout B) (n : Numbering) (table : List B) → table ≡ put table 0 (L.all (placed h.first_sot_offset.0 (by_from n s 0 2)))
+    pub none_written : {B : Type 0} {width : ℕ} (L : Layout B width) (n : Numbering) (table : List B) → table ≡ put table 0 (L.all (placed h.first_sot_offset.0 (by_from n s 0 2)))
     unfolding placed
     none_written L n table =
         sym (put_last L table 0) ∙ ap (λ (es : List Entry). put table 0 (L.all (placed h.first_sot_offset.0 es))) (sym (none_by n))
 
-    pub out_plain : (out : List ℕ) → put out 0 (take h.first_sot_offset.0 s) ≡ out_after (Header h) s out
+    pub out_plain : (out : List ℕ) → put out 0 (take h.first_sot_offset.0 s) ≡ out_after (Ok h) s out
     out_plain out = ap (put out 0) (ap (λ (n : ℕ). take n s) r.first ∙ sym (whole_kept s r.two plain_long)) ∙ out_put out
+
+-- a table of rows
+pub table_rows : (n : Numbering) (a : Result MainHeaderInfo Refusal) (s table : List ℕ) → table_in layout.rows n a s table ≡ table_after n a s table
+unfolding table_in table_after
+table_rows n (Ok h) s table = refl
+table_rows n (Err r) s table = refl

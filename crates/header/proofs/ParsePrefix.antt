@@ -9,6 +9,7 @@ use lib.ListN.{length, take, drop, length-drop}
 use lib.Seq.{take-append-le, drop-append-le}
 use lib.Dec.{leb, eqb}
 use borrow.Author.Tests.{le-leb, leb-true, leb-false, eqb-true}
+use Rattle.std.specs.Prelude.{Result, Ok, Err, ⊤}
 use Rattle.numbers.specs.Bits.{bit}
 use Rattle.numbers.specs.Bytes.{be}
 use Rattle.numbers.proofs.BytesLaws.{be_front}
@@ -30,19 +31,16 @@ use Rattle.header.specs.declared.numbering.Numbering.TheVariants.{CarriedOn, Res
 use Rattle.header.specs.declared.edition.Edition.{Edition}
 use Rattle.header.specs.declared.edition.Edition.TheVariants.{Older, Newer}
 use Rattle.header.specs.declared.reading.Reading.{Reading}
-use Rattle.header.specs.declared.parse.Front.{Front}
-use Rattle.header.specs.declared.parse.Front.TheVariants as front
 use Rattle.header.specs.declared.parse.MainHeaderInfo.{MainHeaderInfo}
-use Rattle.header.specs.declared.parse.MainHeader.{MainHeader}
-use Rattle.header.specs.declared.parse.MainHeader.TheVariants.{Header, Refused}
 use Rattle.header.proofs.TlmFill.{entry_inside}
-use Rattle.header.proofs.WalkLaws.{not_true_false, passed_is, on_passed, walk_run}
+use Rattle.header.proofs.WalkLaws.{not_true_false, passed_is, on_passed, walk_run, by_count}
 use Rattle.header.proofs.WalkItems.{Item, delimiter, segment, item, item_long}
 use Rattle.header.proofs.NumberingLaws.{entries_restart, judged_restart}
 use Rattle.header.proofs.EditionLaws.{fits_short, cap_no_delimiter}
 use Rattle.header.proofs.ParseLaws.{stands_front}
 use Rattle.header.proofs.ExtentPrefix.{Reached, reached_four, longer}
 use Rattle.header.proofs.WalkPrefix.{stlm_more, count_more, walk_prefix}
+use Rattle.types.specs.declared.Refusal.{Refusal}
 
 module _ (q t : List ℕ) where
   -- ---- the entries of a TLM segment
@@ -97,7 +95,7 @@ module _ (q t : List ℕ) where
     tlm_accepted is =
         let p = on_passed q at next found in
         let told = passed_is q at p.0 p.1 in
-        by_bool p.0.is_tlm (λ e. (told.tlm e).accepted) (λ e. absurd (told.plain e is))
+        by_count p.0.tlm (λ n e. (told.tlm n e).accepted) (λ e. absurd (told.plain e is))
 
     fits_same : be 2 q at ≡ CAP → cap_fits (q ++ t) at ≡ cap_fits q at
     unfolding segment_end cap_fits
@@ -194,35 +192,35 @@ module _ (q t : List ℕ) where
       unfolding judged_by behind_front_by
       by_prefix n = ap (behind_front_by n (q ++ t)) front_same ∙ by (front_of q)
         where
-          by : (f : Front) → behind_front_by n (q ++ t) f ≡ behind_front_by n q f
-          by front.Sound =
+          by : (f : Result ⊤ Refusal) → behind_front_by n (q ++ t) f ≡ behind_front_by n q f
+          by (Ok tt) =
               ap (λ (c : Chain WalkEnd). read_as (q ++ t) c (ended_by n (q ++ t) 0 c.visits c.ended)) (walk_prefix q t r)
               ∙ ap (read_as (q ++ t) (walk_from q 2)) (along.ends n 0 (walk_from q 2).ended)
               ∙ read_same (ended_by n q 0 (walk_from q 2).visits (walk_from q 2).ended)
-          by (front.Refused x) = refl
+          by (Err x) = refl
 
       -- the walk's own answer, so where a marker stands
       pub finding_prefix : (marker : ℕ) → finding (q ++ t) marker ≡ finding q marker
       unfolding finding find_in
       finding_prefix marker =
-          ap (λ (answer : MainHeader). find_in answer (q ++ t) marker) (sym (judged_restart (q ++ t)) ∙ by_prefix Restarting ∙ judged_restart q) ∙ by (judged q)
+          ap (λ (answer : Result MainHeaderInfo Refusal). find_in answer (q ++ t) marker) (sym (judged_restart (q ++ t)) ∙ by_prefix Restarting ∙ judged_restart q) ∙ by (judged q)
         where
-          by : (answer : MainHeader) → find_in answer (q ++ t) marker ≡ find_in answer q marker
-          by (Header h) = ap (λ (c : Chain WalkEnd). first_of (q ++ t) marker c.visits) (walk_prefix q t r) ∙ along.finds marker
-          by (Refused x) = refl
+          by : (answer : Result MainHeaderInfo Refusal) → find_in answer (q ++ t) marker ≡ find_in answer q marker
+          by (Ok h) = ap (λ (c : Chain WalkEnd). first_of (q ++ t) marker c.visits) (walk_prefix q t r) ∙ along.finds marker
+          by (Err x) = refl
 
       -- in the newer edition by the bytes 6 and 7, which lie inside what is accepted
-      module _ (eight : (n : Numbering) (h : MainHeaderInfo) → judged_by n q ≡ Header h → 8 ≤ length q) where
-        edition_same : (e : Edition) (n : Numbering) (answer : MainHeader) → judged_by n q ≡ answer → in_edition e (q ++ t) answer ≡ in_edition e q answer
+      module _ (eight : (n : Numbering) (h : MainHeaderInfo) → judged_by n q ≡ Ok h → 8 ≤ length q) where
+        edition_same : (e : Edition) (n : Numbering) (answer : Result MainHeaderInfo Refusal) → judged_by n q ≡ answer → in_edition e (q ++ t) answer ≡ in_edition e q answer
         unfolding in_edition announced
         edition_same Older n answer k = refl
-        edition_same Newer n (Header h) k =
+        edition_same Newer n (Ok h) k =
             let read : be 2 (q ++ t) 6 ≡ be 2 q 6 = be_front 2 q t 6 (eight n h k) in
             ap (λ (m : ℕ). capped (eqb (bit 14 m) 1) (q ++ t) (caps_in (q ++ t) (walk_from (q ++ t) 2).visits) h) read
             ∙ ap (λ (c : Chain WalkEnd). capped (announced q) (q ++ t) (caps_in (q ++ t) c.visits) h) (walk_prefix q t r)
             ∙ ap (λ (caps : List ℕ). capped (announced q) (q ++ t) caps h) along.caps
             ∙ capped_fits (announced q) (caps_in q (walk_from q 2).visits) along.fits h
-        edition_same Newer n (Refused x) k = refl
+        edition_same Newer n (Err x) k = refl
 
         pub as_prefix : (how : Reading) → judged_as how (q ++ t) ≡ judged_as how q
         unfolding judged_as
@@ -242,12 +240,12 @@ module _ (q t : List ℕ) where
         ap (λ (c : Chain WalkEnd). placed c.stopped (entries_by n (q ++ t) 0 c.visits)) (walk_prefix q t r)
         ∙ ap (placed (walk_from q 2).stopped) (along.entries n 0)
 
-    pub table_after_prefix : (n : Numbering) (answer : MainHeader) (table : List ℕ) → table_after n answer (q ++ t) table ≡ table_after n answer q table
+    pub table_after_prefix : (n : Numbering) (answer : Result MainHeaderInfo Refusal) (table : List ℕ) → table_after n answer (q ++ t) table ≡ table_after n answer q table
     unfolding table_after
-    table_after_prefix n (Header h) table = ap (λ (es : List TilePartEntry). rows_of es ++ drop (row_bytes * h.tlm_entries) table) (table_prefix n)
-    table_after_prefix n (Refused x) table = refl
+    table_after_prefix n (Ok h) table = ap (λ (es : List TilePartEntry). rows_of es ++ drop (row_bytes * h.tlm_entries) table) (table_prefix n)
+    table_after_prefix n (Err x) table = refl
 
-    pub out_after_prefix : (answer : MainHeader) (out : List ℕ) → out_after answer (q ++ t) out ≡ out_after answer q out
+    pub out_after_prefix : (answer : Result MainHeaderInfo Refusal) (out : List ℕ) → out_after answer (q ++ t) out ≡ out_after answer q out
     unfolding out_after
-    out_after_prefix (Header h) out = simp header_same
-    out_after_prefix (Refused x) out = let same = header_same in (cc)
+    out_after_prefix (Ok h) out = simp header_same
+    out_after_prefix (Err x) out = let same = header_same in (cc)

@@ -3,16 +3,15 @@ use Prim.Native.Nat.{ℕ, ◌+◌, ◌-◌, ◌≤◌}
 use native.Mathlib.Nat.{sub_self}
 use native.Mathlib.Omega.{arith}
 use mathlib.Core.Path.{◌≡◌, refl, sym, ap, ◌∙◌}
-use mathlib.Core.Bool.{true, false}
 use mathlib.Core.List.{List, [], ◌++◌, append-nil, append_assoc}
 use lib.ListN.{length, take, drop, length-append, length-take}
 use lib.Seq.{take-add, drop-drop}
+use Rattle.std.specs.Prelude.{Some, Ok, None}
 use Rattle.numbers.specs.Bytes.{put}
 use Rattle.numbers.proofs.BytesLaws.{put_put, length_put}
 use Rattle.header.specs.Walk.{walk_step_at, walk_from}
 use Rattle.header.specs.Strip.{decode_header}
 use Rattle.header.specs.declared.walk.Passed.{Passed as Passing}
-use Rattle.header.specs.declared.walk.WalkStep.TheVariants.{Passed}
 use Rattle.header.proofs.WalkLaws.{passed_is}
 use Rattle.header.proofs.WalkVisited.{kept_from, kept_plain, kept_tlm, length_visited}
 
@@ -50,7 +49,7 @@ module _ (s lent out : List ℕ) (from to at : ℕ) (c : Stripping s lent out fr
   length_run : length (run s from at) ≡ at - from
   length_run = length_visited s from at c.inside
 
-  pub stripping_plain : (p : Passing) → walk_step_at s at ≡ Passed p → p.is_tlm ≡ false → Stripping s lent out from to p.next
+  pub stripping_plain : (p : Passing) → walk_step_at s at ≡ Ok (Some p) → p.tlm ≡ None → Stripping s lent out from to p.next
   stripping_plain p found plain =
       let told = passed_is s at p found in
       let past = told.past in
@@ -70,7 +69,7 @@ module _ (s lent out : List ℕ) (from to at : ℕ) (c : Stripping s lent out fr
       }
 
   -- the run was copied, and a TLM segment is left out
-  pub stripping_tlm : (p : Passing) → walk_step_at s at ≡ Passed p → p.is_tlm ≡ true → (written : List ℕ) → written ≡ put out to (run s from at)
+  pub stripping_tlm : (p : Passing) {count : ℕ} → walk_step_at s at ≡ Ok (Some p) → p.tlm ≡ Some count → (written : List ℕ) → written ≡ put out to (run s from at)
       → Stripping s lent written p.next (to + (at - from)) p.next
   stripping_tlm p found is written e =
       let told = passed_is s at p found in

@@ -7,15 +7,14 @@ use mathlib.Core.Path.{◌≡◌, refl, ap, ◌∙◌}
 use mathlib.Core.List.{List, [], ◌∷◌, ◌++◌}
 use lib.ListN.{length, take, drop, length-append, length-take}
 use borrow.Author.Tests.{eq-eqb, ne_eqb}
-use Rattle.numbers.proofs.Choice.{by_bool}
+use Rattle.std.specs.Prelude.{Some, Ok}
 use Rattle.chain.specs.Chain.{Visit, Run, stay, step}
 use Rattle.header.specs.Tlm.{entry_count, entries_in}
 use Rattle.header.specs.Walk.{walk_step_at, walk_at, walk_from}
 use Rattle.header.specs.Strip.{kept, decode_header, tlm_bytes, tlm_entries}
 use Rattle.header.specs.declared.walk.Passed.{Passed as Passing}
-use Rattle.header.specs.declared.walk.WalkStep.TheVariants.{Passed}
 use Rattle.header.proofs.TlmLaws.{length_entries}
-use Rattle.header.proofs.WalkLaws.{passed_is, on_passed, walk_run}
+use Rattle.header.proofs.WalkLaws.{passed_is, on_passed, walk_run, by_count}
 use Rattle.header.proofs.WalkVisited.{entries_few, length_visited}
 use Rattle.header.proofs.StripLaws.{run, run_join}
 
@@ -25,15 +24,15 @@ record Measured (s : List ℕ) (at : ℕ) (visits : List Visit) (stop : ℕ) : T
   entries : at + length (tlm_entries s visits) * 2 ≤ stop
   lengths : at + (length (kept s visits) + tlm_bytes s visits) ≡ stop
 
-measured_on : (s : List ℕ) (at stop : ℕ) (rest : List Visit) (p : Passing) → walk_step_at s at ≡ Passed p → Measured s p.next rest stop
+measured_on : (s : List ℕ) (at stop : ℕ) (rest : List Visit) (p : Passing) → walk_step_at s at ≡ Ok (Some p) → Measured s p.next rest stop
     → Measured s at (record { at = at; next = p.next } ∷ rest) stop
 unfolding tlm_entries kept tlm_bytes
 measured_on s at stop rest p found m =
     let told = passed_is s at p found in
     let past = told.past in
-    by_bool p.is_tlm
-    (λ is.
-    let t = told.tlm is in
+    by_count p.tlm
+    (λ n is.
+    let t = told.tlm n is in
     let few = entries_few s at p found is in
     let here = length-append (entries_in s at 0 (entry_count s at)) (tlm_entries s rest) in
     record {
@@ -87,8 +86,8 @@ plain_run s h (step {at = at} {next = next} {stop = stop} {rest = rest} found pa
     let told = passed_is s at o.0 o.1 in
     let inside : next ≤ length s = omega (arith, o.2, told.inside) in
     let ahead : next ≤ stop = omega (arith, (measured s inside more).lengths) in
-    by_bool o.0.is_tlm
-    (λ is. absurd (omega (arith, rw (eq-eqb _ _ (told.tlm is).marker) at e)))
+    by_count o.0.tlm
+    (λ n is. absurd (omega (arith, rw (eq-eqb _ _ (told.tlm n is).marker) at e)))
     (λ other.
     let p : Plain s next rest stop = plain_run s inside more (rw (ne_eqb _ _ (told.plain other)) at e) in
     record {

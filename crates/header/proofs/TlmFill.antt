@@ -15,7 +15,8 @@ use Rattle.numbers.proofs.BytesLaws.{be_bound}
 use Rattle.numbers.proofs.Choice.{by_bool}
 use Rattle.types.specs.declared.PartNumbers.TheVariants.{NotKnown}
 use Rattle.types.specs.declared.TilePartEntry.{TilePartEntry}
-use Rattle.types.proofs.RowStanding.{Layout, length_more, length_all, put_last, stored}
+use Rattle.types.specs.Layout.{Layout}
+use Rattle.types.proofs.RowStanding.{length_more, length_all, put_last, stored}
 use Rattle.header.specs.Step.{segment_end}
 use Rattle.header.specs.Tlm.{ltlm, stlm, index_size, length_size, entry_size, entry_count, Accepted, Entry, entry_place, entry_in, unindexed, entry_on, entries_on, record_of, placed, total}
 use Rattle.header.proofs.TlmLaws.{length_on, length_placed}
@@ -85,7 +86,7 @@ module _ (s : List ℕ) (at : ℕ) where
       let b' : bytes ≡ (entry_on s at k i).bytes = b ∙ rw (n, w) in
       λ j. record { tile_index = x' j; numbers = NotKnown; offset = record { 0 = offset }; length = b' j }
 
-module _ {B : Type 0} (L : Layout B) where
+module _ {B : Type 0} {width : ℕ} (L : Layout B width) where
   -- the entries before the i-th are written: those that are left make the table that all make of the one lent
   pub record Filled (s : List ℕ) (at k count from : ℕ) (lent : List B) (row : ℕ) (table : List B) (offset to i : ℕ) : Type 0 where
     pub inside : i ≤ count
@@ -97,11 +98,11 @@ module _ {B : Type 0} (L : Layout B) where
 
   module _ {s : List ℕ} {at k count from : ℕ} {lent : List B} {row : ℕ} where
     -- none is written
-    pub none_filled : row + L.width * count ≤ length lent → from + count * 2 ^ 32 < 2 ^ 64 → Filled s at k count from lent row lent from row 0
+    pub none_filled : row + width * count ≤ length lent → from + count * 2 ^ 32 < 2 ^ 64 → Filled s at k count from lent row lent from row 0
     none_filled fits h =
         let es : List TilePartEntry = placed from (entries_on s at k 0 count) in
         let many : length es ≡ count = length_placed from (entries_on s at k 0 count) ∙ length_on s at k 0 count in
-        let long : length (L.all es) ≡ L.width * count = length_all L es ∙ ap (λ (n : ℕ). L.width * n) many in
+        let long : length (L.all es) ≡ width * count = length_all L es ∙ ap (λ (n : ℕ). width * n) many in
         record { inside = omega arith; same = refl; room = rw sub-zero (omega arith); small = omega arith; sum = rw sub-zero; whole = rw sub-zero }
 
     module _ {table : List B} {offset to i : ℕ} where
@@ -127,7 +128,7 @@ module _ {B : Type 0} (L : Layout B) where
         unfolding placed x rest
         left = ap (placed offset) (entries_next s at k i count h)
 
-        fits : to + (L.width + length (L.all (placed (offset + x.bytes) rest))) ≤ length table
+        fits : to + (width + length (L.all (placed (offset + x.bytes) rest))) ≤ length table
         fits =
             omega (
               arith,
@@ -137,12 +138,12 @@ module _ {B : Type 0} (L : Layout B) where
             )
 
         -- there is room for one more
-        pub one_room : to + L.width ≤ length table
+        pub one_room : to + width ≤ length table
         one_room = omega (arith, fits)
 
         -- one more
         pub turn : {e : TilePartEntry} {next : List B} {to' : ℕ} → ((j : ℕ) → get_or s j 0 < 256) → e ≡ record_of offset (entry_on s at k i)
-            → next ≡ put table to (L.one e) → to' ≡ to + L.width → Filled s at k count from lent row next (e.offset.0 + e.length) to' (i + 1)
+            → next ≡ put table to (L.one e) → to' ≡ to + width → Filled s at k count from lent row next (e.offset.0 + e.length) to' (i + 1)
         unfolding total x rest
         turn {e} {next} {to'} bytes found new place =
             let ends : e.offset.0 + e.length ≡ offset + x.bytes = ap (λ (r : TilePartEntry). r.offset.0 + r.length) found in

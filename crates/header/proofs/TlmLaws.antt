@@ -6,22 +6,23 @@ use mathlib.Core.List.{List, [], ◌∷◌, ◌++◌}
 use lib.ListN.{length}
 use lib.Dec.{eqb}
 use borrow.Author.Tests.{eq-eqb, ne_eqb, le-leb, lt-leb}
+use Rattle.std.specs.Prelude.{Ok, Err}
 use Rattle.numbers.proofs.Choice.{by_bool}
 use Rattle.types.specs.Refusals.{refusal}
 use Rattle.types.specs.declared.TilePartEntry.{TilePartEntry}
 use Rattle.header.specs.Tlm.{ltlm, stlm, index_size, entry_count, tlm_at, Entry, entry_in, entries_in, unindexed, entry_on, entries_on, record_of, placed, total}
-use Rattle.header.specs.declared.tlm.Tlm.TheVariants.{Entries, Refused}
+use Rattle.types.specs.declared.Reason.TheVariants.{TlmTooShort, TlmFormUnknown}
 
 module _ (s : List ℕ) (at : ℕ) where
-  pub tlm_short : ltlm s at < 4 → tlm_at s at ≡ Refused (refusal 4 at)
+  pub tlm_short : ltlm s at < 4 → tlm_at s at ≡ Err (refusal TlmTooShort at)
   unfolding tlm_at
   tlm_short h = rw (lt-leb _ _ h)
 
-  pub tlm_unknown : 4 ≤ ltlm s at → index_size (stlm s at) ≡ 3 → tlm_at s at ≡ Refused (refusal 5 at)
+  pub tlm_unknown : 4 ≤ ltlm s at → index_size (stlm s at) ≡ 3 → tlm_at s at ≡ Err (refusal TlmFormUnknown at)
   unfolding tlm_at
   tlm_unknown h e = rw (le-leb _ _ h, eq-eqb _ _ e)
 
-  pub tlm_entries_lem : 4 ≤ ltlm s at → (index_size (stlm s at) ≡ 3 → ⊥) → tlm_at s at ≡ Entries (entry_count s at)
+  pub tlm_entries_lem : 4 ≤ ltlm s at → (index_size (stlm s at) ≡ 3 → ⊥) → tlm_at s at ≡ Ok (entry_count s at)
   unfolding tlm_at
   tlm_entries_lem h e = rw (le-leb _ _ h, ne_eqb _ _ e)
 

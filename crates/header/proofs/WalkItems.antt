@@ -7,6 +7,7 @@ use mathlib.Core.Bool.{true, false}
 use mathlib.Core.List.{List}
 use lib.ListN.{length}
 use lib.Dec.{eqb}
+use Rattle.std.specs.Prelude.{Option, Result, Ok, Err}
 use Rattle.numbers.specs.Bytes.{be}
 use Rattle.numbers.proofs.Choice.{by_test}
 use Rattle.types.specs.Markers.{TLM, SOT}
@@ -19,11 +20,9 @@ use Rattle.header.specs.Walk.{tlm_step, passed_at, walk_step_of, walk_step_at, W
 use Rattle.header.specs.declared.step.Marker.{Marker}
 use Rattle.header.specs.declared.step.HeaderStep.{HeaderStep}
 use Rattle.header.specs.declared.step.HeaderStep.TheVariants.{Sot, Delimiter, Segment, CutShort}
-use Rattle.header.specs.declared.tlm.Tlm.{Tlm}
-use Rattle.header.specs.declared.walk.WalkStep.{WalkStep}
 use Rattle.header.proofs.StepLaws.{Told, step_told, step_delimiter, step_segment, sot_no_delimiter}
 use Rattle.header.proofs.WalkLaws.{not_true_false, walk_segment, walk_delimiter, pass_other}
-use Rattle.header.specs.declared.tlm.Tlm.TheVariants as tlm
+use Rattle.header.specs.declared.walk.Passed.{Passed as Passing}
 
 pub data Item (s : List ℕ) (at next : ℕ) : Type 0 where
   delimiter : delimits (be 2 s at) ≡ true → next ≡ at + 2 → Item s at next
@@ -34,11 +33,11 @@ pub data Item (s : List ℕ) (at next : ℕ) : Type 0 where
 pub passed_to : (s : List ℕ) (at : ℕ) (m : Marker) (next : ℕ) → walk_move (passed_at s at m) ≡ on next → m.next ≡ next
 unfolding passed_at walk_move tlm_step
 passed_to s at m next e =
-    by_test (λ (w : WalkStep). walk_move w ≡ on next → m.next ≡ next) (eqb m.code TLM) (λ _. by_tlm (tlm_at s at)) (λ _ e. (cc)) e
+    by_test (λ (w : Result (Option Passing) Refusal). walk_move w ≡ on next → m.next ≡ next) (eqb m.code TLM) (λ _. by_tlm (tlm_at s at)) (λ _ e. (cc)) e
   where
-    by_tlm : (t : Tlm) → walk_move (tlm_step m t) ≡ on next → m.next ≡ next
-    by_tlm (tlm.Entries k) e = cc
-    by_tlm (tlm.Refused r) e = absurd (end_on e)
+    by_tlm : (t : Result ℕ Refusal) → walk_move (tlm_step m t) ≡ on next → m.next ≡ next
+    by_tlm (Ok k) e = cc
+    by_tlm (Err r) e = absurd (end_on e)
 
 read : (s : List ℕ) (at next : ℕ) (found : HeaderStep) → Told s at found → walk_move (walk_step_of s at found) ≡ on next → Item s at next × (next ≤ length s)
 unfolding walk_step_of walk_move
@@ -74,15 +73,15 @@ ends_there s at e = by (step_at s at) (step_told s at) e
     Stands : Type 0
     Stands = (at + 2 ≤ length s) × (be 2 s at ≡ SOT)
 
-    by_tlm : (m : Marker) (t : Tlm) → walk_move (tlm_step m t) ≡ end at_first_sot → Stands
-    by_tlm m (tlm.Entries k) e = absurd (end_on (sym e))
-    by_tlm m (tlm.Refused r) e = absurd (not_first e)
+    by_tlm : (m : Marker) (t : Result ℕ Refusal) → walk_move (tlm_step m t) ≡ end at_first_sot → Stands
+    by_tlm m (Ok k) e = absurd (end_on (sym e))
+    by_tlm m (Err r) e = absurd (not_first e)
 
     by : (found : HeaderStep) → Told s at found → walk_move (walk_step_of s at found) ≡ end at_first_sot → Stands
     by Sot told e = told
     by (Delimiter m) told e = absurd (end_on (sym e))
     by (Segment m) told e =
-        by_test (λ (w : WalkStep). walk_move w ≡ end at_first_sot → Stands) (eqb m.code TLM) (λ _. by_tlm m (tlm_at s at)) (λ _ k. absurd (end_on (sym k))) e
+        by_test (λ (w : Result (Option Passing) Refusal). walk_move w ≡ end at_first_sot → Stands) (eqb m.code TLM) (λ _. by_tlm m (tlm_at s at)) (λ _ k. absurd (end_on (sym k))) e
     by CutShort told e = absurd (not_first e)
 
 pub ends_sot : (s : List ℕ) (at : ℕ) → walk_at s at ≡ end at_first_sot → be 2 s at ≡ SOT

@@ -8,6 +8,8 @@ use mathlib.Core.List.{List, ◌++◌}
 use lib.ListN.{length, get_or-append}
 use lib.Dec.{leb, eqb}
 use borrow.Author.Tests.{leb-true}
+use Rattle.std.specs.Prelude.{Option, Some, None, Result, Ok}
+use Rattle.types.specs.declared.CodestreamOffset.{CodestreamOffset}
 use Rattle.numbers.specs.Bytes.{be}
 use Rattle.numbers.proofs.BytesLaws.{be_front}
 use Rattle.numbers.proofs.Choice.{by_bool}
@@ -20,14 +22,12 @@ use Rattle.header.specs.Tlm.{ltlm, stlm, entry_count, Within, tlm_at}
 use Rattle.header.specs.Walk.{plain, tlm_step, passed_at, walk_step_of, walk_step_at, at_first_sot, walk_move, walk_at, walk_from}
 use Rattle.header.specs.declared.step.HeaderStep.{HeaderStep}
 use Rattle.header.specs.declared.step.HeaderStep.TheVariants.{Sot, Delimiter, Segment, CutShort}
-use Rattle.header.specs.declared.tlm.Tlm.{Tlm}
-use Rattle.header.specs.declared.walk.WalkStep.TheVariants.{Passed}
-use Rattle.header.specs.declared.extent.MainHeaderExtent.TheVariants.{Complete, Truncated}
 use Rattle.header.proofs.StepLaws.{Told, step_told}
 use Rattle.header.proofs.ExtentLaws.{rises, extent_steps}
 use Rattle.header.proofs.WalkLaws.{walk_rises, walk_cut, walk_run, walk_stops}
 use Rattle.header.proofs.WalkItems.{passed_to, ends_there}
 use Rattle.header.proofs.ExtentPrefix.{Reached, reached_four, reached_complete, step_more}
+use Rattle.types.specs.declared.Refusal.{Refusal}
 
 -- ---- the walk goes where the steps go
 
@@ -82,7 +82,7 @@ module _ (q t : List ℕ) where
     walk_step_of_lem Sot told whole = refl
     walk_step_of_lem (Delimiter m) told whole = refl
     walk_step_of_lem (Segment m) told whole =
-        ap (λ (found : Tlm). cond (eqb m.code TLM) (tlm_step m found) (Passed (plain m false)))
+        ap (λ (found : Result ℕ Refusal). cond (eqb m.code TLM) (tlm_step m found) (Ok (Some (plain m false))))
         (tlm_more (record { marked = told.4; ends = omega (arith, told.2) }))
     walk_step_of_lem CutShort told whole = absurd (whole refl)
 
@@ -102,8 +102,8 @@ module _ (q t : List ℕ) where
     unfolding steps_from extent_end ended_as move_at move_of
     stopped_whole c =
         let run = run_also (λ at next. walk_steps q at next) (walk_run q 2) in
-        let none : extent_of q ≡ Truncated = extent_steps q (reached_four r) r.soc ∙ ap extent_end (run_chain cut (move_at q) (length q) (rises q) cut run (ap move_of c)) in
-        let e : Complete (record { 0 = at }) ≡ Truncated = sym (reached_complete q r) ∙ none in
+        let none : extent_of q ≡ None = extent_steps q (reached_four r) r.soc ∙ ap extent_end (run_chain cut (move_at q) (length q) (rises q) cut run (ap move_of c)) in
+        let e : ◌≡◌ {A = Option CodestreamOffset} (Some (record { 0 = at })) None = sym (reached_complete q r) ∙ none in
         let z : ◌≡◌ {A = ℕ} 0 1 = cc in
         omega arith
 

@@ -4,10 +4,11 @@ use Prim.Native.Nat.{ℕ, ◌+◌, ◌-◌, ◌*◌, ◌/◌, ◌≤◌}
 use native.Mathlib.Nat.{div-mul-le_self, mul-le-mul_left}
 use native.Mathlib.Omega.{arith}
 use mathlib.Core.Path.{◌≡◌, sym, ap, ◌∙◌}
-use mathlib.Core.Bool.{Bool, true, false, cond}
+use mathlib.Core.Bool.{Bool, cond}
 use mathlib.Core.List.{List, ◌∷◌, ◌++◌}
 use lib.ListN.{length, take, drop, length-take, length-drop}
 use borrow.Author.Tests.{eq-eqb, ne_eqb}
+use Rattle.std.specs.Prelude.{Some, Ok, None}
 use Rattle.numbers.specs.Bytes.{be}
 use Rattle.types.specs.Markers.{TLM}
 use Rattle.chain.specs.Chain.{Chain, also}
@@ -16,20 +17,19 @@ use Rattle.header.specs.Tlm.{Entry, ltlm, stlm, entry_size, entry_count, entries
 use Rattle.header.specs.Walk.{WalkEnd, walk_step_at, walk_from}
 use Rattle.header.specs.Strip.{fillers, kept, tlm_entries}
 use Rattle.header.specs.declared.walk.Passed.{Passed as Passing}
-use Rattle.header.specs.declared.walk.WalkStep.TheVariants.{Passed}
 use Rattle.header.proofs.WalkLaws.{TlmPassed, passed_is, walk_on}
 
 -- the list of visits from a position on, by the step there
-pub visits_on : (s : List ℕ) (at : ℕ) (p : Passing) → walk_step_at s at ≡ Passed p
+pub visits_on : (s : List ℕ) (at : ℕ) (p : Passing) → walk_step_at s at ≡ Ok (Some p)
     → (walk_from s at).visits ≡ record { at = at; next = p.next } ∷ (walk_from s p.next).visits
 unfolding also
 visits_on s at p e = ap (λ (c : Chain WalkEnd). c.visits) (walk_on s at p e)
 
-pub stopped_on : (s : List ℕ) (at : ℕ) (p : Passing) → walk_step_at s at ≡ Passed p → (walk_from s at).stopped ≡ (walk_from s p.next).stopped
+pub stopped_on : (s : List ℕ) (at : ℕ) (p : Passing) → walk_step_at s at ≡ Ok (Some p) → (walk_from s at).stopped ≡ (walk_from s p.next).stopped
 unfolding also
 stopped_on s at p e = ap (λ (c : Chain WalkEnd). c.stopped) (walk_on s at p e)
 
-pub ended_on : (s : List ℕ) (at : ℕ) (p : Passing) → walk_step_at s at ≡ Passed p → (walk_from s at).ended ≡ (walk_from s p.next).ended
+pub ended_on : (s : List ℕ) (at : ℕ) (p : Passing) → walk_step_at s at ≡ Ok (Some p) → (walk_from s at).ended ≡ (walk_from s p.next).ended
 unfolding also
 ended_on s at p e = ap (λ (c : Chain WalkEnd). c.ended) (walk_on s at p e)
 
@@ -43,14 +43,14 @@ entries_from s at = tlm_entries s (walk_from s at).visits
 abbrev pub fillers_from : List ℕ → ℕ → ℕ
 fillers_from s at = fillers s (walk_from s at).visits
 
-module _ (s : List ℕ) (at : ℕ) (p : Passing) (found : walk_step_at s at ≡ Passed p) where
+module _ (s : List ℕ) (at : ℕ) (p : Passing) (found : walk_step_at s at ≡ Ok (Some p)) where
   pub fillers_on : fillers_from s at ≡ cond p.is_filler 1 0 + fillers_from s p.next
   unfolding fillers
   fillers_on =
       ap (fillers s) (visits_on s at p found) ∙ ap (λ (b : Bool). cond b 1 0 + fillers_from s p.next) (sym (passed_is s at p found).filler)
 
   -- other than TLM
-  module _ (plain : p.is_tlm ≡ false) where
+  module _ (plain : p.tlm ≡ None) where
     other : be 2 s at ≡ TLM → ⊥
     other = (passed_is s at p found).plain plain
 
@@ -63,20 +63,20 @@ module _ (s : List ℕ) (at : ℕ) (p : Passing) (found : walk_step_at s at ≡ 
     entries_plain = ap (tlm_entries s) (visits_on s at p found) ∙ rw (ne_eqb _ _ other)
 
   -- a TLM segment
-  module _ (is : p.is_tlm ≡ true) where
-    told : TlmPassed s at p
-    told = (passed_is s at p found).tlm is
+  module _ {count : ℕ} (is : p.tlm ≡ Some count) where
+    told : TlmPassed s at p count
+    told = (passed_is s at p found).tlm _ is
 
     pub kept_tlm : kept_from s at ≡ kept_from s p.next
     unfolding kept
     kept_tlm = ap (kept s) (visits_on s at p found) ∙ rw (eq-eqb _ _ told.marker)
 
-    pub entries_tlm : entries_from s at ≡ entries_in s at 0 p.entries ++ entries_from s p.next
+    pub entries_tlm : entries_from s at ≡ entries_in s at 0 count ++ entries_from s p.next
     unfolding tlm_entries
     entries_tlm = ap (tlm_entries s) (visits_on s at p found) ∙ rw (eq-eqb _ _ told.marker, told.count)
 
     -- an entry has 2 bytes or more, and the segment 6 before the first
-    pub entries_few : at + (6 + p.entries * 2) ≤ p.next
+    pub entries_few : at + (6 + count * 2) ≤ p.next
     unfolding segment_end entry_count
     entries_few =
         let size = entry_size (stlm s at) in

@@ -1,7 +1,7 @@
 -- The step, the walk and the reading as they were said before a step told what it passed: the old text of each definition whose text has changed since,
 -- with those that go by one of these, and what is to be forgotten of an answer to have the old one. `proofs/Base.antt` says that nothing else has changed.
 -- No contract cites this.
-use Rattle.std.specs.Prelude.{ℕ, ◌+◌, Bool, true, false, cond, List, length, leb, eqb}
+use Rattle.std.specs.Prelude.{is_some, unwrap_or, ℕ, ◌+◌, Bool, true, false, cond, List, length, leb, eqb, Option, Some, None, Result, Ok, Err, ⊤}
 use Rattle.numbers.specs.Bytes.{be}
 use Rattle.types.specs.Refusals.{refusal}
 use Rattle.types.specs.Markers.{TLM, SOT}
@@ -12,15 +12,10 @@ use Rattle.header.specs.Tlm.{tlm_at}
 use Rattle.header.specs.Walk.{cut_at, WalkEnd, at_first_sot, refused}
 use Rattle.header.specs.Strip.{decode_header, tlm_entries}
 use Rattle.header.specs.declared.step.HeaderStep.{HeaderStep}
-use Rattle.header.specs.declared.tlm.Tlm.{Tlm}
-use Rattle.header.specs.declared.walk.WalkStep.{WalkStep}
-use Rattle.header.specs.declared.parse.Front.{Front}
-use Rattle.header.specs.declared.parse.MainHeader.{MainHeader}
 use Rattle.header.specs.declared.step.HeaderStep.TheVariants as now
-use Rattle.header.specs.declared.tlm.Tlm.TheVariants as tlm
-use Rattle.header.specs.declared.walk.WalkStep.TheVariants as walk
-use Rattle.header.specs.declared.parse.Front.TheVariants as front
-use Rattle.header.specs.declared.parse.MainHeader.TheVariants as main
+use Rattle.header.specs.declared.walk.Passed.{Passed as Passing}
+use Rattle.header.specs.declared.parse.MainHeaderInfo.{MainHeaderInfo}
+use Rattle.types.specs.declared.Reason.TheVariants.{OutputTooSmall, TableTooSmall}
 
 -- ---- the step
 
@@ -64,9 +59,9 @@ pub data Walked : Type 0 where
   FirstSot : Walked
   Refused : Refusal → Walked
 
-unfoldable pub tlm_step : ℕ → Tlm → Walked
-tlm_step next (tlm.Entries n) = Passed next true n
-tlm_step next (tlm.Refused r) = Refused r
+unfoldable pub tlm_step : ℕ → Result ℕ Refusal → Walked
+tlm_step next (Ok n) = Passed next true n
+tlm_step next (Err r) = Refused r
 
 unfoldable pub passed_at : List ℕ → ℕ → ℕ → Walked
 unfolding tlm_step
@@ -88,10 +83,10 @@ unfoldable pub walk_from : List ℕ → ℕ → Chain WalkEnd
 walk_from s at = chain at_first_sot (λ at. walk_move (walk_step_of s at (step_at s at))) (length s) at
 
 -- without code and filler
-unfoldable pub without_code : WalkStep → Walked
-without_code (walk.Passed p) = Passed p.next p.is_tlm p.entries
-without_code walk.FirstSot = FirstSot
-without_code (walk.Refused r) = Refused r
+unfoldable pub without_code : Result (Option Passing) Refusal → Walked
+without_code (Ok (Some p)) = Passed p.next (is_some p.tlm) (unwrap_or p.tlm 0)
+without_code (Ok None) = FirstSot
+without_code (Err r) = Refused r
 
 -- ---- the reading
 
@@ -104,17 +99,17 @@ unfoldable pub read_as : List ℕ → Chain WalkEnd → WalkEnd → Answer
 read_as s walk at_first_sot = Header walk.stopped (length (decode_header s walk.visits)) (length (tlm_entries s walk.visits))
 read_as s walk (refused r) = Answer.Refused r
 
-unfoldable pub behind_front : List ℕ → Front → Answer
+unfoldable pub behind_front : List ℕ → Result ⊤ Refusal → Answer
 unfolding read_as
-behind_front s front.Sound = read_as s (walk_from s 2) (walk_from s 2).ended
-behind_front s (front.Refused r) = Answer.Refused r
+behind_front s (Ok tt) = read_as s (walk_from s 2) (walk_from s 2).ended
+behind_front s (Err r) = Answer.Refused r
 
 unfoldable pub with_room : ℕ → ℕ → Answer → Answer
 with_room rows room (Header first long entries) =
-    cond (leb entries rows) (cond (leb long room) (Header first long entries) (Answer.Refused (refusal 17 long))) (Answer.Refused (refusal 18 entries))
+    cond (leb entries rows) (cond (leb long room) (Header first long entries) (Answer.Refused (refusal OutputTooSmall long))) (Answer.Refused (refusal TableTooSmall entries))
 with_room rows room (Answer.Refused r) = Answer.Refused r
 
 -- without the fillers
-unfoldable pub without_fillers : MainHeader → Answer
-without_fillers (main.Header h) = Header h.first_sot_offset.0 h.decode_header_length h.tlm_entries
-without_fillers (main.Refused r) = Answer.Refused r
+unfoldable pub without_fillers : Result MainHeaderInfo Refusal → Answer
+without_fillers (Ok h) = Header h.first_sot_offset.0 h.decode_header_length h.tlm_entries
+without_fillers (Err r) = Answer.Refused r

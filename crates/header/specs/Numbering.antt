@@ -8,6 +8,7 @@ use Rattle.header.specs.Walk.{WalkEnd, refused}
 use Rattle.header.specs.Strip.{is_tlm}
 use Rattle.header.specs.declared.numbering.Numbering.{Numbering}
 use Rattle.header.specs.declared.numbering.Numbering.TheVariants.{CarriedOn, Restarting}
+use Rattle.types.specs.declared.Reason.TheVariants.{TlmTooManyEntries}
 
 -- as C gives it: 0 carries on, 1 restarts, and any other number means the default, which is 0
 unfoldable pub numbering_of : ℕ → Numbering
@@ -31,7 +32,7 @@ unfolding next_number
 ended_by n s k [] ended = ended
 ended_by n s k (v ∷ rest) ended =
     cond (is_tlm s v)
-    (cond (leb (next_number n s v.at k) 65_535) (ended_by n s (next_number n s v.at k) rest ended) (refused (refusal 26 v.at)))
+    (cond (leb (next_number n s v.at k) 65_535) (ended_by n s (next_number n s v.at k) rest ended) (refused (refusal TlmTooManyEntries v.at)))
     (ended_by n s k rest ended)
 
 -- ---- counts, of which the laws speak

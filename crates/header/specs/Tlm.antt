@@ -1,12 +1,12 @@
 -- The TLM segment (docs/RULES.md, "TLM"): its fields by the position of its marker, what is refused, its entries, and the records of entries.
-use Rattle.std.specs.Prelude.{ℕ, zero, suc, ◌+◌, ◌-◌, ◌*◌, ◌/◌, ◌%◌, ◌≤◌, ◌<◌, cond, List, [], ◌∷◌, length, get_or, leb, eqb}
+use Rattle.std.specs.Prelude.{ℕ, zero, suc, ◌+◌, ◌-◌, ◌*◌, ◌/◌, ◌%◌, ◌≤◌, ◌<◌, cond, List, [], ◌∷◌, length, get_or, leb, eqb, Result, Ok, Err}
 use Rattle.numbers.specs.Bytes.{be}
 use Rattle.types.specs.Refusals.{refusal}
 use Rattle.types.specs.declared.PartNumbers.TheVariants.{NotKnown}
 use Rattle.types.specs.declared.TilePartEntry.{TilePartEntry}
 use Rattle.header.specs.Step.{segment_end}
-use Rattle.header.specs.declared.tlm.Tlm.{Tlm}
-use Rattle.header.specs.declared.tlm.Tlm.TheVariants.{Entries, Refused}
+use Rattle.types.specs.declared.Refusal.{Refusal}
+use Rattle.types.specs.declared.Reason.TheVariants.{TlmTooShort, TlmFormUnknown}
 
 abbrev pub ltlm : List ℕ → ℕ → ℕ
 ltlm s at = be 2 s (at + 2)
@@ -34,10 +34,10 @@ unfoldable pub entry_count : List ℕ → ℕ → ℕ
 entry_count s at = (ltlm s at - 4) / entry_size (stlm s at)
 
 -- 4, then 5, otherwise the segment's whole entries
-unfoldable pub tlm_at : List ℕ → ℕ → Tlm
+unfoldable pub tlm_at : List ℕ → ℕ → Result ℕ Refusal
 tlm_at s at =
-    cond (leb 4 (ltlm s at)) (cond (eqb (index_size (stlm s at)) 3) (Refused (refusal 5 at)) (Entries (entry_count s at)))
-    (Refused (refusal 4 at))
+    cond (leb 4 (ltlm s at)) (cond (eqb (index_size (stlm s at)) 3) (Err (refusal TlmFormUnknown at)) (Ok (entry_count s at)))
+    (Err (refusal TlmTooShort at))
 
 -- a segment lies inside, from its marker on
 pub record Within (s : List ℕ) (at : ℕ) : Type 0 where

@@ -4,10 +4,9 @@ ghost use Rattle.header.specs.Tlm.{Within};
 ghost use Rattle.header.specs.Walk.{walk_from};
 ghost use Rattle.header.specs.Edition.{edition_of, announced, cap_fits, caps_in, capped};
 
-use crate::parse::{MainHeader, MainHeaderInfo};
-use crate::walk::WalkStep;
-use types::Refusal;
+use crate::parse::MainHeaderInfo;
 use types::markers::CAP;
+use types::{Reason, Refusal};
 
 #[derive(Clone, Copy)]
 pub enum Edition {
@@ -17,14 +16,16 @@ pub enum Edition {
     Newer,
 }
 
-// The edition as C gives it: 1 is the newer; any other number the older, which is 0.
-pub fn edition_of(number: u32) -> Edition
-    ensures { result ≡ edition_of number }
-{
-    if number == 1 {
-        Edition::Newer
-    } else {
-        Edition::Older
+// As C gives it: 1 is the newer; any other number the older, which is 0.
+impl From<u32> for Edition {
+    ghost from_gives = { λ number edition. edition ≡ edition_of number };
+
+    fn from(number: u32) -> Edition {
+        if number == 1 {
+            Edition::Newer
+        } else {
+            Edition::Older
+        }
     }
 }
 
@@ -49,43 +50,39 @@ fn cap_fits(codestream: &[u8], at: usize) -> bool
 }
 
 // What the newer edition makes of a header that the walk accepts.
-pub fn test_caps(codestream: &[u8], info: MainHeaderInfo) -> MainHeader
+pub fn test_caps(codestream: &[u8], info: MainHeaderInfo) -> Result<MainHeaderInfo, Refusal>
     requires { 8 ≤ length codestream.now }
     ensures { result ≡ capped (announced codestream.now) codestream.now (caps_in codestream.now (walk_from codestream.now 2).visits) info }
 {
     let wanted = announces_cap(codestream);
     let mut at: usize = 2;
-    let mut cap: usize = 0; // none so far
-    loop {
-        let step = crate::walk::walk_step(codestream, at);
-        let WalkStep::Passed(passed) = step else {
-            break;
-        };
+    let mut cap = None;
+    while let Some(passed) = crate::walk::next_passed(codestream, at) {
         if passed.code == CAP {
-            if cap != 0 || !wanted {
-                return MainHeader::Refused(Refusal {
-                    number: 33,
+            if cap.is_some() || !wanted {
+                return Err(Refusal {
+                    reason: Reason::CapOutOfPlace,
                     place: at as u64,
                 });
             }
-            cap = at;
+            cap = Some(at);
         }
         at = passed.next;
     }
-    if cap == 0 {
+    let Some(cap) = cap else {
         if wanted {
-            return MainHeader::Refused(Refusal {
-                number: 33,
+            return Err(Refusal {
+                reason: Reason::CapOutOfPlace,
                 place: 2,
             });
         }
-        return MainHeader::Header(info);
+        return Ok(info);
+    };
+    if !cap_fits(codestream, cap) {
+        return Err(Refusal {
+            reason: Reason::CapLengthWrong,
+            place: cap as u64,
+        });
     }
-    if cap_fits(codestream, cap) {
-        return MainHeader::Header(info);
-    }
-    MainHeader::Refused(Refusal {
-        number: 34,
-        place: cap as u64,
-    })
+    Ok(info)
 }

@@ -6,31 +6,21 @@ use crate::step::HeaderStep;
 use types::CodestreamOffset;
 use types::markers::SOC;
 
-#[derive(Clone, Copy)]
-pub enum MainHeaderExtent {
-    // The first SOT stands there.
-    Complete(CodestreamOffset),
-    Truncated,
-}
-
-pub fn main_header_extent(prefix: &[u8]) -> MainHeaderExtent
+pub fn main_header_extent(prefix: &[u8]) -> Option<CodestreamOffset>
     ensures { result ≡ extent_of prefix.now }
 {
     if prefix.len() < 4 {
-        return MainHeaderExtent::Truncated;
+        return None;
     }
     if numbers::read_u16(prefix, 0) != SOC {
-        return MainHeaderExtent::Truncated;
+        return None;
     }
     let mut at: usize = 2;
     loop {
-        let step = crate::step::header_step(prefix, at);
-        let (HeaderStep::Segment(marker) | HeaderStep::Delimiter(marker)) = step else {
-            if let HeaderStep::Sot = step {
-                return MainHeaderExtent::Complete(CodestreamOffset::at(at));
-            }
-            return MainHeaderExtent::Truncated;
-        };
-        at = marker.next;
+        match crate::step::header_step(prefix, at) {
+            HeaderStep::Sot => return Some(CodestreamOffset::at(at)),
+            HeaderStep::Delimiter(marker) | HeaderStep::Segment(marker) => at = marker.next,
+            HeaderStep::CutShort => return None,
+        }
     }
 }

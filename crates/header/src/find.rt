@@ -4,50 +4,28 @@ ghost use Rattle.header.specs.Walk.{walk_from};
 ghost use Rattle.header.specs.Parse.{read_as};
 ghost use Rattle.header.specs.Find.{find_in, finding};
 
-use crate::parse::Front;
-use crate::walk::WalkStep;
 use types::{CodestreamOffset, Refusal};
 
-#[derive(Clone, Copy)]
-pub enum Finding {
-    // The first one.
-    At(CodestreamOffset),
-    Absent,
-    Refused(Refusal),
-}
-
 // The walk from the SIZ marker on, to its end: what is refused behind the marker is refused too.
-fn walk_for(codestream: &[u8], marker: u16) -> Finding
+fn walk_for(codestream: &[u8], marker: u16) -> Result<Option<CodestreamOffset>, Refusal>
     requires { 2 ≤ length codestream.now }
     ensures { result ≡ find_in (read_as codestream.now (walk_from codestream.now 2) (walk_from codestream.now 2).ended) codestream.now marker }
 {
     let mut at: usize = 2;
-    let mut first: usize = 0; // none so far
-    loop {
-        let step = crate::walk::walk_step(codestream, at);
-        let WalkStep::Passed(passed) = step else {
-            if let WalkStep::Refused(refusal) = step {
-                return Finding::Refused(refusal);
-            }
-            if first == 0 {
-                return Finding::Absent;
-            }
-            return Finding::At(CodestreamOffset::at(first));
-        };
-        if first == 0 {
-            if passed.code == marker {
-                first = at;
-            }
+    let mut first = None;
+    while let Some(passed) = crate::walk::walk_step(codestream, at)? {
+        if first.is_none() && passed.code == marker {
+            first = Some(CodestreamOffset::at(at));
         }
         at = passed.next;
     }
+    Ok(first)
 }
 
-pub fn find_marker(codestream: &[u8], marker: u16) -> Finding
+// The first one, or None where there is none.
+pub fn find_marker(codestream: &[u8], marker: u16) -> Result<Option<CodestreamOffset>, Refusal>
     ensures { result ≡ finding codestream.now marker }
 {
-    match crate::parse::test_front(codestream) {
-        Front::Sound => walk_for(codestream, marker),
-        Front::Refused(refusal) => Finding::Refused(refusal),
-    }
+    crate::parse::test_front(codestream)?;
+    walk_for(codestream, marker)
 }

@@ -11,14 +11,16 @@ pub enum Numbering {
     Restarting,
 }
 
-// The numbering as C gives it: 1 restarts; any other number carries on, which is 0.
-pub fn numbering_of(number: u32) -> Numbering
-    ensures { result ≡ numbering_of number }
-{
-    if number == 1 {
-        Numbering::Restarting
-    } else {
-        Numbering::CarriedOn
+// As C gives it: 1 restarts; any other number carries on, which is 0.
+impl From<u32> for Numbering {
+    ghost from_gives = { λ number numbering. numbering ≡ numbering_of number };
+
+    fn from(number: u32) -> Numbering {
+        if number == 1 {
+            Numbering::Restarting
+        } else {
+            Numbering::CarriedOn
+        }
     }
 }
 
@@ -35,11 +37,9 @@ pub fn next_number(
     requires first_bound { first ≤ 65_535 }
     ensures { result ≡ next_number numbering codestream.now at first }
 {
-    if let Numbering::Restarting = numbering {
-        return 0;
+    match numbering {
+        Numbering::Restarting => 0,
+        Numbering::CarriedOn if crate::tlm::index_size(codestream[at + 5]) == 0 => first + count,
+        Numbering::CarriedOn => first,
     }
-    if crate::tlm::index_size(codestream[at + 5]) == 0 {
-        return first + count;
-    }
-    first
 }

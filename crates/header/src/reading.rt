@@ -19,11 +19,13 @@ pub struct ReadingNumbers {
     pub edition: u32,
 }
 
-pub fn reading_of(numbers: ReadingNumbers) -> Reading
-    ensures { result ≡ reading_of numbers }
-{
-    Reading {
-        numbering: crate::numbering::numbering_of(numbers.numbering),
-        edition: crate::edition::edition_of(numbers.edition),
+impl From<ReadingNumbers> for Reading {
+    ghost from_gives = { λ numbers reading. reading ≡ reading_of numbers };
+
+    fn from(numbers: ReadingNumbers) -> Reading {
+        Reading {
+            numbering: Numbering::from(numbers.numbering),
+            edition: Edition::from(numbers.edition),
+        }
     }
 }

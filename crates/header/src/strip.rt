@@ -4,8 +4,6 @@ ghost use Rattle.numbers.specs.Bytes.{put};
 ghost use Rattle.header.specs.Walk.{walk_from};
 ghost use Rattle.header.specs.Strip.{decode_header};
 
-use crate::walk::WalkStep;
-
 // Copies a part of the codestream to `to` on, and gives where it ends there.
 pub fn append(codestream: &[u8], from: usize, end: usize, out: &mut [u8], to: usize) -> usize
     requires from_le_end { (from ≤ end) × (end ≤ length codestream.now) }
@@ -26,12 +24,11 @@ pub fn strip(codestream: &[u8], out: &mut [u8])
     let mut to: usize = 0;
     let mut at: usize = 2;
     loop {
-        let step = crate::walk::walk_step(codestream, at);
-        let WalkStep::Passed(passed) = step else {
+        let Some(passed) = crate::walk::next_passed(codestream, at) else {
             append(codestream, from, at, out, to);
             return;
         };
-        if passed.is_tlm {
+        if passed.tlm.is_some() {
             to = append(codestream, from, at, out, to);
             from = passed.next;
         }

@@ -6,14 +6,8 @@ ghost use Rattle.types.specs.Row.{row_bytes, rows_of};
 ghost use Rattle.header.specs.Tlm.{ztlm, index_size, length_size, entry_size, Within, tlm_at, Accepted, entry_count};
 ghost use Rattle.header.specs.Tlm.{record_of, unindexed, entry_on, entries_on, placed, total};
 
-use types::{CodestreamOffset, PartNumbers, ROW, Refusal, TilePartEntry};
-
-#[derive(Clone, Copy)]
-pub enum Tlm {
-    // So many whole entries.
-    Entries(usize),
-    Refused(Refusal),
-}
+use types::table::Element;
+use types::{CodestreamOffset, PartNumbers, Reason, Refusal, TilePartEntry};
 
 // ST, bits 5 and 4 of Stlm: the bytes of an entry's index.
 pub(crate) fn index_size(stlm: u8) -> usize
@@ -56,20 +50,26 @@ pub fn ztlm_at(codestream: &[u8], at: usize) -> u8
     codestream[at + 4]
 }
 
-pub fn tlm_at(codestream: &[u8], at: usize) -> Tlm
+pub fn tlm_at(codestream: &[u8], at: usize) -> Result<usize, Refusal>
     requires { Within codestream.now at }
     ensures { result ≡ tlm_at codestream.now at }
 {
     let place = at as u64;
     let ltlm = numbers::read_u16(codestream, at + 2) as usize;
     if ltlm < 4 {
-        return Tlm::Refused(Refusal { number: 4, place });
+        return Err(Refusal {
+            reason: Reason::TlmTooShort,
+            place,
+        });
     }
     let stlm = codestream[at + 5]; // behind Ztlm, which is not read
     if index_size(stlm) == 3 {
-        return Tlm::Refused(Refusal { number: 5, place });
+        return Err(Refusal {
+            reason: Reason::TlmFormUnknown,
+            place,
+        });
     }
-    Tlm::Entries(whole_entries(ltlm, stlm))
+    Ok(whole_entries(ltlm, stlm))
 }
 
 // An entry's index, of 0, 1 or 2 bytes; with none it is its number.
@@ -78,13 +78,11 @@ fn entry_index(codestream: &[u8], place: usize, size: usize, number: usize) -> u
     requires number_bound { size ≡ 0 → number < 2 ^ 16 }
     ensures { result ≡ cond (eqb size 0) number (be size codestream.now place) }
 {
-    if size == 0 {
-        return number as u16;
+    match size {
+        0 => number as u16,
+        1 => codestream[place] as u16,
+        _ => numbers::read_u16(codestream, place),
     }
-    if size == 1 {
-        return codestream[place] as u16;
-    }
-    numbers::read_u16(codestream, place)
 }
 
 // An entry's length, of 2 or 4 bytes.
@@ -126,34 +124,32 @@ pub fn tlm_entry(
     }
 }
 
-// Writes the rows of a segment's entries, numbered from `first` on, from `row` on. The first one's tile-part starts at
+// Writes the records of a segment's entries, numbered from `first` on, from `row` on. The first one's tile-part starts at
 // `from`; gives where the last one's ends.
-pub fn fill_segment(
+pub fn fill_segment<E: Element>(
     codestream: &[u8],
     at: usize,
     first: usize,
     count: usize,
     from: CodestreamOffset,
-    table: &mut [u8],
+    table: &mut [E],
     row: usize,
 ) -> CodestreamOffset
     requires accepted { Accepted codestream.now at }
     requires count_value { count ≡ entry_count codestream.now at }
     requires at_bound { first + unindexed codestream.now at ≤ 65_535 }
-    requires count_in_bounds { row + row_bytes * count ≤ length table.old }
+    requires count_in_bounds { row + E.WIDTH * count ≤ length table.old }
     requires count_bound { from.0 + count * 2 ^ 32 < 2 ^ 64 }
     ensures result_value { result.0 ≡ from.0 + total (entries_on codestream.now at first 0 count) }
-    ensures table_after { table.new ≡ put table.old row (rows_of (placed from.0 (entries_on codestream.now at first 0 count))) }
+    ensures table_after { table.new ≡ put table.old row (E.layout.all (placed from.0 (entries_on codestream.now at first 0 count))) }
 {
     let mut offset = from;
     let mut to = row;
-    let mut i: usize = 0;
-    while i < count {
+    for i in 0..count {
         let entry = tlm_entry(codestream, at, first, i, offset);
-        types::write_row(table, to, entry);
+        E::write(table, to, entry);
         offset = types::end_of(entry);
-        to += ROW;
-        i += 1;
+        to += E::WIDTH;
     }
     offset
 }

@@ -1,9 +1,9 @@
 // A codestream of one tile.
 ghost use Rattle.std.specs.Prelude.{◌≡◌, length};
+ghost use Rattle.types.specs.Refusals.{answer_number, answer_value};
 ghost use Rattle.tile.specs.Assembly.{assembly_answer, assembly_out};
 ghost use Rattle.tile.specs.declared.rules.Rule.TheVariants.{AnnexB};
-ghost use Rattle.host.specs.Rules.{rule_of};
-ghost use Rattle.host.specs.Rewrite.{written_number, written_value};
+ghost use Rattle.tile.specs.Rules.{rule_of};
 
 use tile::rules::Rule;
 
@@ -15,8 +15,8 @@ pub fn winterhasp_build_minimal_codestream(
     out: &mut [u8],
     value: &mut u64,
 ) -> u32
-    ensures value { result ≡ written_number (assembly_answer AnnexB decode_header.now tile_parts.now codestream.now (length out.old)) }
-    ensures value_after { value.new ≡ written_value (assembly_answer AnnexB decode_header.now tile_parts.now codestream.now (length out.old)) }
+    ensures value { result ≡ answer_number (assembly_answer AnnexB decode_header.now tile_parts.now codestream.now (length out.old)) }
+    ensures value_after { value.new ≡ answer_value (assembly_answer AnnexB decode_header.now tile_parts.now codestream.now (length out.old)) }
     ensures out_after { out.new ≡ assembly_out AnnexB decode_header.now tile_parts.now codestream.now out.old }
 {
     let answer = tile::assembly::build_minimal_codestream(
@@ -26,7 +26,7 @@ pub fn winterhasp_build_minimal_codestream(
         Rule::AnnexB,
         out,
     );
-    crate::rewrite::tell_written(answer, value)
+    types::tell(answer, value)
 }
 
 // The same by a rule.
@@ -38,11 +38,11 @@ pub fn winterhasp_build_minimal_codestream_by_rule(
     out: &mut [u8],
     value: &mut u64,
 ) -> u32
-    ensures value { result ≡ written_number (assembly_answer (rule_of rule) decode_header.now tile_parts.now codestream.now (length out.old)) }
-    ensures value_after { value.new ≡ written_value (assembly_answer (rule_of rule) decode_header.now tile_parts.now codestream.now (length out.old)) }
+    ensures value { result ≡ answer_number (assembly_answer (rule_of rule) decode_header.now tile_parts.now codestream.now (length out.old)) }
+    ensures value_after { value.new ≡ answer_value (assembly_answer (rule_of rule) decode_header.now tile_parts.now codestream.now (length out.old)) }
     ensures out_after { out.new ≡ assembly_out (rule_of rule) decode_header.now tile_parts.now codestream.now out.old }
 {
-    let rule = crate::rules::rule_of(rule);
+    let rule = Rule::from(rule);
     let answer = tile::assembly::build_minimal_codestream(
         decode_header,
         tile_parts,
@@ -50,5 +50,5 @@ pub fn winterhasp_build_minimal_codestream_by_rule(
         rule,
         out,
     );
-    crate::rewrite::tell_written(answer, value)
+    types::tell(answer, value)
 }

@@ -1,8 +1,9 @@
 // The index by tile, for C: a key an entry, its tile times 2^48 and its number in the table. Index and scratch are lent as numbers of
 // 8 bytes, in the machine's own order.
 ghost use Rattle.std.specs.Prelude.{◌≡◌, ◌/◌, length};
+ghost use Rattle.types.specs.Refusals.{answer_number, answer_value};
 ghost use Rattle.types.specs.Row.{row_bytes, records_in};
-ghost use Rattle.index.specs.Extend.{old_of, extended, index_after, scratch_after, index_made, index_number, index_value};
+ghost use Rattle.index.specs.Extend.{old_of, extended, index_after, scratch_after, index_made};
 ghost use Rattle.index.specs.Run.{first_from, run_in, some_number};
 ghost use Rattle.index.specs.Entries.{entries_by, given, given_rows};
 
@@ -14,13 +15,13 @@ pub fn winterhasp_index_tiles(
     scratch: &mut [u64],
     value: &mut u64,
 ) -> u32
-    ensures value { result ≡ index_number (extended (length table.now / row_bytes) 0 (length index.old) (length scratch.old)) }
-    ensures value_after { value.new ≡ index_value (extended (length table.now / row_bytes) 0 (length index.old) (length scratch.old)) }
+    ensures value { result ≡ answer_number (extended (length table.now / row_bytes) 0 (length index.old) (length scratch.old)) }
+    ensures value_after { value.new ≡ answer_value (extended (length table.now / row_bytes) 0 (length index.old) (length scratch.old)) }
     ensures index_after { index.new ≡ index_made (extended (length table.now / row_bytes) 0 (length index.old) (length scratch.old)) (records_in table.now) index.old }
     ensures scratch_after { scratch.new ≡ index_made (extended (length table.now / row_bytes) 0 (length index.old) (length scratch.old)) (records_in table.now) scratch.old }
 {
     let answer = index::extend::index_tiles(table, index, scratch);
-    index::extend::tell(answer, value)
+    types::tell(answer, value)
 }
 
 // Extends an index whose first `have` keys are the index of the table's first `have` rows. The scratch needs room for the other rows' keys.
@@ -31,13 +32,13 @@ pub fn winterhasp_extend_index(
     scratch: &mut [u64],
     value: &mut u64,
 ) -> u32
-    ensures value { result ≡ index_number (extended (length table.now / row_bytes) have (length index.old) (length scratch.old)) }
-    ensures value_after { value.new ≡ index_value (extended (length table.now / row_bytes) have (length index.old) (length scratch.old)) }
+    ensures value { result ≡ answer_number (extended (length table.now / row_bytes) have (length index.old) (length scratch.old)) }
+    ensures value_after { value.new ≡ answer_value (extended (length table.now / row_bytes) have (length index.old) (length scratch.old)) }
     ensures index_after { index.new ≡ index_after (extended (length table.now / row_bytes) have (length index.old) (length scratch.old)) (records_in table.now) (old_of have (length table.now / row_bytes)) index.old }
     ensures scratch_after { scratch.new ≡ scratch_after (extended (length table.now / row_bytes) have (length index.old) (length scratch.old)) (records_in table.now) (old_of have (length table.now / row_bytes)) scratch.old }
 {
     let answer = index::extend::extend_index(table, have as usize, index, scratch);
-    index::extend::tell(answer, value)
+    types::tell(answer, value)
 }
 
 // A tile's run: 1, and 0 where it has no entry. `first` is where the run stands in the index, and `count` how many keys it has.
@@ -57,10 +58,10 @@ pub fn winterhasp_tile_entries(
     out: &mut [u8],
     value: &mut u64,
 ) -> u32
-    ensures value { result ≡ index_number (given (length (entries_by index.now tile (records_in table.now))) (length out.old / row_bytes)) }
-    ensures value_after { value.new ≡ index_value (given (length (entries_by index.now tile (records_in table.now))) (length out.old / row_bytes)) }
+    ensures value { result ≡ answer_number (given (length (entries_by index.now tile (records_in table.now))) (length out.old / row_bytes)) }
+    ensures value_after { value.new ≡ answer_value (given (length (entries_by index.now tile (records_in table.now))) (length out.old / row_bytes)) }
     ensures out_after { out.new ≡ given_rows (given (length (entries_by index.now tile (records_in table.now))) (length out.old / row_bytes)) (entries_by index.now tile (records_in table.now)) out.old }
 {
     let answer = index::entries::tile_entries(table, index, tile, out);
-    index::extend::tell(answer, value)
+    types::tell(answer, value)
 }

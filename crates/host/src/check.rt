@@ -3,22 +3,20 @@ ghost use Rattle.std.specs.Prelude.{◌≡◌};
 ghost use Rattle.lengths.specs.Check.{checked};
 ghost use Rattle.host.specs.Check.{said_tile, said_length, check_number, check_value, check_offset, check_listed_tile, check_listed_length, check_standing_tile, check_standing_length};
 
-use lengths::check::{Check, Said};
+use lengths::check::{Difference, Said};
+use types::Refusal;
 
 // 65,536, which is no tile's index, and 0 where nothing is said.
-fn tell_said(said: Said, tile: &mut u64, length: &mut u64)
+fn tell_said(said: Option<Said>, tile: &mut u64, length: &mut u64)
     ensures tile_after { tile.new ≡ said_tile said }
     ensures length_after { length.new ≡ said_length said }
 {
     match said {
-        Said::Part {
-            tile: index,
-            length: bytes,
-        } => {
-            *tile = index as u64;
-            *length = bytes;
+        Some(said) => {
+            *tile = said.tile as u64;
+            *length = said.length;
         }
-        Said::Nothing => {
+        None => {
             *tile = 65_536;
             *length = 0;
         }
@@ -26,7 +24,7 @@ fn tell_said(said: Said, tile: &mut u64, length: &mut u64)
 }
 
 fn tell_check(
-    answer: Check,
+    answer: Result<Option<Difference>, Refusal>,
     value: &mut u64,
     offset: &mut u64,
     listed_tile: &mut u64,
@@ -43,20 +41,17 @@ fn tell_check(
     ensures standing_length_after { standing_length.new ≡ check_standing_length answer standing_length.old }
 {
     match answer {
-        Check::Passes => 0,
-        Check::DiffersAt(difference) => {
-            let place = difference.offset;
-            let listed = difference.listed;
-            let standing = difference.standing;
+        Ok(None) => 0,
+        Ok(Some(difference)) => {
             *value = difference.number;
-            *offset = place.0;
-            tell_said(listed, listed_tile, listed_length);
-            tell_said(standing, standing_tile, standing_length);
+            *offset = difference.offset.0;
+            tell_said(difference.listed, listed_tile, listed_length);
+            tell_said(difference.standing, standing_tile, standing_length);
             258
         }
-        Check::Refused(refusal) => {
+        Err(refusal) => {
             *value = refusal.place;
-            refusal.number
+            refusal.number()
         }
     }
 }

@@ -1,23 +1,24 @@
 // The components' sizes: a check that tells their number and an area, and one component, in an area or with the check before it.
 ghost use Rattle.std.specs.Prelude.{◌≡◌};
+ghost use Rattle.types.specs.Refusals.{answer_number};
 ghost use Rattle.reader.specs.Components.{components_read, components_in_tile, component_in, component_of, component_in_tile};
 ghost use Rattle.tile.specs.declared.rules.Rule.TheVariants.{AnnexB};
-ghost use Rattle.host.specs.Rules.{rule_of};
-ghost use Rattle.host.specs.Components.{read_number, read_count, read_end, one_number, one_bits, one_value, sign_of, left, top, right, bottom};
+ghost use Rattle.tile.specs.Rules.{rule_of};
+ghost use Rattle.host.specs.Components.{read_count, read_end, one_number, one_bits, one_value, sign_of, left, top, right, bottom};
 
-use reader::components::{ComponentRead, ComponentsRead};
+use reader::components::{ComponentInfo, Components};
 use tile::rules::Rule;
-use types::Area;
+use types::{Area, Refusal};
 
 fn tell_components(
-    answer: ComponentsRead,
+    answer: Result<Components, Refusal>,
     components: &mut u64,
     x0: &mut u64,
     y0: &mut u64,
     x1: &mut u64,
     y1: &mut u64,
 ) -> u32
-    ensures value { result ≡ read_number answer }
+    ensures value { result ≡ answer_number answer }
     ensures components_after { components.new ≡ read_count answer }
     ensures x0_after { x0.new ≡ read_end left answer x0.old }
     ensures y0_after { y0.new ≡ read_end top answer y0.old }
@@ -25,7 +26,7 @@ fn tell_components(
     ensures y1_after { y1.new ≡ read_end bottom answer y1.old }
 {
     match answer {
-        ComponentsRead::Components(told) => {
+        Ok(told) => {
             let area = told.area;
             *components = told.count as u64;
             *x0 = area.x0 as u64;
@@ -34,15 +35,15 @@ fn tell_components(
             *y1 = area.y1 as u64;
             0
         }
-        ComponentsRead::Refused(refusal) => {
+        Err(refusal) => {
             *components = refusal.place;
-            refusal.number
+            refusal.number()
         }
     }
 }
 
 fn tell_component(
-    answer: ComponentRead,
+    answer: Result<Option<ComponentInfo>, Refusal>,
     bits: &mut u64,
     signed: &mut u64,
     xrsiz: &mut u64,
@@ -63,7 +64,7 @@ fn tell_component(
     ensures y1_after { y1.new ≡ one_value (λ i. bottom i.area) answer y1.old }
 {
     match answer {
-        ComponentRead::Component(told) => {
+        Ok(Some(told)) => {
             let area = told.area;
             *bits = told.bits as u64;
             *signed = crate::siz::sign(told.is_signed);
@@ -75,10 +76,10 @@ fn tell_component(
             *y1 = area.y1 as u64;
             0
         }
-        ComponentRead::NoSuch => 256,
-        ComponentRead::Refused(refusal) => {
+        Ok(None) => 256,
+        Err(refusal) => {
             *bits = refusal.place;
-            refusal.number
+            refusal.number()
         }
     }
 }
@@ -92,7 +93,7 @@ pub fn winterhasp_read_components(
     x1: &mut u64,
     y1: &mut u64,
 ) -> u32
-    ensures value { result ≡ read_number (components_read codestream.now) }
+    ensures value { result ≡ answer_number (components_read codestream.now) }
     ensures components_after { components.new ≡ read_count (components_read codestream.now) }
     ensures x0_after { x0.new ≡ read_end left (components_read codestream.now) x0.old }
     ensures y0_after { y0.new ≡ read_end top (components_read codestream.now) y0.old }
@@ -113,7 +114,7 @@ pub fn winterhasp_read_components_in_tile(
     x1: &mut u64,
     y1: &mut u64,
 ) -> u32
-    ensures value { result ≡ read_number (components_in_tile AnnexB codestream.now tile) }
+    ensures value { result ≡ answer_number (components_in_tile AnnexB codestream.now tile) }
     ensures components_after { components.new ≡ read_count (components_in_tile AnnexB codestream.now tile) }
     ensures x0_after { x0.new ≡ read_end left (components_in_tile AnnexB codestream.now tile) x0.old }
     ensures y0_after { y0.new ≡ read_end top (components_in_tile AnnexB codestream.now tile) y0.old }
@@ -135,14 +136,14 @@ pub fn winterhasp_read_components_in_tile_by_rule(
     x1: &mut u64,
     y1: &mut u64,
 ) -> u32
-    ensures value { result ≡ read_number (components_in_tile (rule_of rule) codestream.now tile) }
+    ensures value { result ≡ answer_number (components_in_tile (rule_of rule) codestream.now tile) }
     ensures components_after { components.new ≡ read_count (components_in_tile (rule_of rule) codestream.now tile) }
     ensures x0_after { x0.new ≡ read_end left (components_in_tile (rule_of rule) codestream.now tile) x0.old }
     ensures y0_after { y0.new ≡ read_end top (components_in_tile (rule_of rule) codestream.now tile) y0.old }
     ensures x1_after { x1.new ≡ read_end right (components_in_tile (rule_of rule) codestream.now tile) x1.old }
     ensures y1_after { y1.new ≡ read_end bottom (components_in_tile (rule_of rule) codestream.now tile) y1.old }
 {
-    let rule = crate::rules::rule_of(rule);
+    let rule = Rule::from(rule);
     let answer = reader::components::read_components_in_tile(codestream, tile, rule);
     tell_components(answer, components, x0, y0, x1, y1)
 }
@@ -228,7 +229,7 @@ pub fn winterhasp_component_in_tile_by_rule(
     ensures x1_after { x1.new ≡ one_value (λ i. right i.area) (component_in_tile (rule_of rule) codestream.now tile number) x1.old }
     ensures y1_after { y1.new ≡ one_value (λ i. bottom i.area) (component_in_tile (rule_of rule) codestream.now tile number) y1.old }
 {
-    let rule = crate::rules::rule_of(rule);
+    let rule = Rule::from(rule);
     let answer = reader::components::component_in_tile(codestream, tile, rule, number);
     tell_component(answer, bits, signed, xrsiz, yrsiz, x0, y0, x1, y1)
 }

@@ -3,21 +3,21 @@ ghost use Rattle.std.specs.Prelude.{◌≡◌};
 ghost use Rattle.header.specs.Find.{finding};
 ghost use Rattle.host.specs.Find.{finding_number, finding_value};
 
-use header::find::Finding;
+use types::{CodestreamOffset, Refusal};
 
-fn tell_finding(answer: Finding, value: &mut u64) -> u32
+fn tell_finding(answer: Result<Option<CodestreamOffset>, Refusal>, value: &mut u64) -> u32
     ensures value { result ≡ finding_number answer }
     ensures value_after { value.new ≡ finding_value answer value.old }
 {
     match answer {
-        Finding::At(offset) => {
+        Ok(Some(offset)) => {
             *value = offset.0;
             0
         }
-        Finding::Absent => 257,
-        Finding::Refused(refusal) => {
+        Ok(None) => 257,
+        Err(refusal) => {
             *value = refusal.place;
-            refusal.number
+            refusal.number()
         }
     }
 }

@@ -15,7 +15,6 @@ pub mod offsets;
 pub mod order;
 pub mod parse;
 pub mod rewrite;
-pub mod rules;
 pub mod scan;
 pub mod search;
 pub mod siz;

@@ -1,8 +1,9 @@
 // The reading of the main header.
 ghost use Rattle.std.specs.Prelude.{◌≡◌, ◌/◌, length};
+ghost use Rattle.types.specs.Refusals.{answer_number};
 ghost use Rattle.types.specs.Row.{row_bytes};
 ghost use Rattle.header.specs.Reading.{by_default, reading_of};
-ghost use Rattle.header.specs.Parse.{parsed, table_after, out_after, header_number, header_first, header_length, header_entries, header_fillers};
+ghost use Rattle.header.specs.Parse.{parsed, table_after, out_after, header_first, header_length, header_entries, header_fillers};
 
 use header::edition::Edition;
 use header::numbering::Numbering;
@@ -19,7 +20,7 @@ pub fn winterhasp_parse_main_header(
     entries: &mut u64,
     fillers: &mut u64,
 ) -> u32
-    ensures value { result ≡ header_number (parsed by_default codestream.now (length table.old / row_bytes) (length out.old)) }
+    ensures value { result ≡ answer_number (parsed by_default codestream.now (length table.old / row_bytes) (length out.old)) }
     ensures first_sot_after { first_sot.new ≡ header_first (parsed by_default codestream.now (length table.old / row_bytes) (length out.old)) }
     ensures decode_length_after { decode_length.new ≡ header_length (parsed by_default codestream.now (length table.old / row_bytes) (length out.old)) decode_length.old }
     ensures entries_after { entries.new ≡ header_entries (parsed by_default codestream.now (length table.old / row_bytes) (length out.old)) entries.old }
@@ -46,7 +47,7 @@ pub fn winterhasp_parse_main_header_by_reading(
     entries: &mut u64,
     fillers: &mut u64,
 ) -> u32
-    ensures value { result ≡ header_number (parsed (reading_of reading) codestream.now (length table.old / row_bytes) (length out.old)) }
+    ensures value { result ≡ answer_number (parsed (reading_of reading) codestream.now (length table.old / row_bytes) (length out.old)) }
     ensures first_sot_after { first_sot.new ≡ header_first (parsed (reading_of reading) codestream.now (length table.old / row_bytes) (length out.old)) }
     ensures decode_length_after { decode_length.new ≡ header_length (parsed (reading_of reading) codestream.now (length table.old / row_bytes) (length out.old)) decode_length.old }
     ensures entries_after { entries.new ≡ header_entries (parsed (reading_of reading) codestream.now (length table.old / row_bytes) (length out.old)) entries.old }
@@ -54,7 +55,7 @@ pub fn winterhasp_parse_main_header_by_reading(
     ensures table_after { table.new ≡ table_after (reading_of reading).numbering (parsed (reading_of reading) codestream.now (length table.old / row_bytes) (length out.old)) codestream.now table.old }
     ensures out_after { out.new ≡ out_after (parsed (reading_of reading) codestream.now (length table.old / row_bytes) (length out.old)) codestream.now out.old }
 {
-    let how = header::reading::reading_of(reading);
+    let how = Reading::from(reading);
     let read = header::parse::parse_main_header(codestream, how, table, out);
     header::parse::tell(read, first_sot, decode_length, entries, fillers)
 }

@@ -1,7 +1,8 @@
 // The scan of the tile-parts.
 ghost use Rattle.std.specs.Prelude.{◌≡◌, ◌/◌, length};
+ghost use Rattle.types.specs.Refusals.{answer_number, answer_value};
 ghost use Rattle.types.specs.Row.{row_bytes};
-ghost use Rattle.parts.specs.Scan.{scanned, scan_number, scan_value, scanned_table};
+ghost use Rattle.parts.specs.Scan.{scanned, scanned_table};
 
 use types::CodestreamOffset;
 
@@ -12,8 +13,8 @@ pub fn winterhasp_scan_sot_markers(
     table: &mut [u8],
     value: &mut u64,
 ) -> u32
-    ensures value { result ≡ scan_number (scanned codestream.now first_sot_offset (length table.old / row_bytes)) }
-    ensures value_after { value.new ≡ scan_value (scanned codestream.now first_sot_offset (length table.old / row_bytes)) }
+    ensures value { result ≡ answer_number (scanned codestream.now first_sot_offset (length table.old / row_bytes)) }
+    ensures value_after { value.new ≡ answer_value (scanned codestream.now first_sot_offset (length table.old / row_bytes)) }
     ensures table_after { table.new ≡ scanned_table codestream.now first_sot_offset table.old }
 {
     let answer = parts::scan::scan_sot_markers(
@@ -21,5 +22,5 @@ pub fn winterhasp_scan_sot_markers(
         CodestreamOffset(first_sot_offset),
         table,
     );
-    parts::scan::tell(answer, value)
+    types::tell(answer, value)
 }

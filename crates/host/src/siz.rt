@@ -1,25 +1,27 @@
 // The image's size and its samples.
 ghost use Rattle.std.specs.Prelude.{◌≡◌, cond, not, eqb};
+ghost use Rattle.types.specs.Refusals.{answer_number};
 ghost use Rattle.reader.specs.Siz.{siz_read, sample_type, sample_number};
-ghost use Rattle.host.specs.Siz.{siz_number, siz_width, siz_height, siz_components, siz_bits, siz_signed};
+ghost use Rattle.host.specs.Siz.{siz_width, siz_height, siz_components, siz_bits, siz_signed};
 
-use reader::siz::{SampleType, SizRead};
+use reader::siz::SizInfo;
+use types::Refusal;
 
 pub fn sign(signed: bool) -> u64
     ensures { result ≡ cond signed 1 0 }
 {
-    if signed { 1 } else { 0 }
+    u64::from(signed)
 }
 
 fn tell_siz(
-    answer: SizRead,
+    answer: Result<SizInfo, Refusal>,
     width: &mut u64,
     height: &mut u64,
     components: &mut u64,
     bits: &mut u64,
     signed: &mut u64,
 ) -> u32
-    ensures value { result ≡ siz_number answer }
+    ensures value { result ≡ answer_number answer }
     ensures width_after { width.new ≡ siz_width answer }
     ensures height_after { height.new ≡ siz_height answer height.old }
     ensures components_after { components.new ≡ siz_components answer components.old }
@@ -27,7 +29,7 @@ fn tell_siz(
     ensures signed_after { signed.new ≡ siz_signed answer signed.old }
 {
     match answer {
-        SizRead::Siz(info) => {
+        Ok(info) => {
             *width = info.width as u64;
             *height = info.height as u64;
             *components = info.num_components as u64;
@@ -35,9 +37,9 @@ fn tell_siz(
             *signed = sign(info.is_signed);
             0
         }
-        SizRead::Refused(refusal) => {
+        Err(refusal) => {
             *width = refusal.place;
-            refusal.number
+            refusal.number()
         }
     }
 }
@@ -51,7 +53,7 @@ pub fn winterhasp_parse_siz_marker(
     bits: &mut u64,
     signed: &mut u64,
 ) -> u32
-    ensures value { result ≡ siz_number (siz_read codestream.now) }
+    ensures value { result ≡ answer_number (siz_read codestream.now) }
     ensures width_after { width.new ≡ siz_width (siz_read codestream.now) }
     ensures height_after { height.new ≡ siz_height (siz_read codestream.now) height.old }
     ensures components_after { components.new ≡ siz_components (siz_read codestream.now) components.old }
@@ -62,24 +64,10 @@ pub fn winterhasp_parse_siz_marker(
     tell_siz(answer, width, height, components, bits, signed)
 }
 
-fn type_number(answer: SampleType) -> u32
-    ensures { result ≡ sample_number answer }
-{
-    match answer {
-        SampleType::UInt8 => 0,
-        SampleType::Int8 => 1,
-        SampleType::UInt16 => 2,
-        SampleType::Int16 => 3,
-        SampleType::UInt32 => 4,
-        SampleType::Int32 => 5,
-    }
-}
-
 // The type of a sample of so many bits, with a sign where `signed` is not 0. It never refuses: 0 is u8, 1 i8, 2 u16, 3 i16, 4 u32,
 // 5 i32.
 pub fn winterhasp_pixel_type(bits: u8, signed: u32) -> u32
     ensures { result ≡ sample_number (sample_type bits (not (eqb signed 0))) }
 {
-    let answer = reader::siz::pixel_type_from_siz(bits, signed != 0);
-    type_number(answer)
+    reader::siz::pixel_type_from_siz(bits, signed != 0) as u32
 }

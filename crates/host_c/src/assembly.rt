@@ -1,9 +1,9 @@
 // A codestream of one tile.
 ghost use Rattle.std.specs.Prelude.{◌≡◌, length};
+ghost use Rattle.types.specs.Refusals.{answer_number, answer_value};
 ghost use Rattle.tile.specs.Assembly.{assembly_answer, assembly_out};
 ghost use Rattle.tile.specs.declared.rules.Rule.TheVariants.{AnnexB};
-ghost use Rattle.host.specs.Rules.{rule_of};
-ghost use Rattle.host.specs.Rewrite.{written_number, written_value};
+ghost use Rattle.tile.specs.Rules.{rule_of};
 
 // By Annex B. `tile_parts`: rows as the scan writes them. `value`: bytes written, or a refusal's place.
 #[unsafe(no_mangle)]
@@ -14,8 +14,8 @@ pub extern "C" fn winterhasp_build_minimal_codestream(
     out: &mut [u8],
     value: &mut u64,
 ) -> u32
-    ensures value { result ≡ written_number (assembly_answer AnnexB decode_header.now tile_parts.now codestream.now (length out.old)) }
-    ensures value_after { value.new ≡ written_value (assembly_answer AnnexB decode_header.now tile_parts.now codestream.now (length out.old)) }
+    ensures value { result ≡ answer_number (assembly_answer AnnexB decode_header.now tile_parts.now codestream.now (length out.old)) }
+    ensures value_after { value.new ≡ answer_value (assembly_answer AnnexB decode_header.now tile_parts.now codestream.now (length out.old)) }
     ensures out_after { out.new ≡ assembly_out AnnexB decode_header.now tile_parts.now codestream.now out.old }
 {
     host::assembly::winterhasp_build_minimal_codestream(
@@ -37,8 +37,8 @@ pub extern "C" fn winterhasp_build_minimal_codestream_by_rule(
     out: &mut [u8],
     value: &mut u64,
 ) -> u32
-    ensures value { result ≡ written_number (assembly_answer (rule_of rule) decode_header.now tile_parts.now codestream.now (length out.old)) }
-    ensures value_after { value.new ≡ written_value (assembly_answer (rule_of rule) decode_header.now tile_parts.now codestream.now (length out.old)) }
+    ensures value { result ≡ answer_number (assembly_answer (rule_of rule) decode_header.now tile_parts.now codestream.now (length out.old)) }
+    ensures value_after { value.new ≡ answer_value (assembly_answer (rule_of rule) decode_header.now tile_parts.now codestream.now (length out.old)) }
     ensures out_after { out.new ≡ assembly_out (rule_of rule) decode_header.now tile_parts.now codestream.now out.old }
 {
     host::assembly::winterhasp_build_minimal_codestream_by_rule(

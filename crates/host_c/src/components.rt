@@ -1,9 +1,10 @@
 // The components' sizes: a check that tells their number and an area, and one component, in an area or with the check before it.
 ghost use Rattle.std.specs.Prelude.{◌≡◌};
+ghost use Rattle.types.specs.Refusals.{answer_number};
 ghost use Rattle.reader.specs.Components.{components_read, components_in_tile, component_in, component_of, component_in_tile};
 ghost use Rattle.tile.specs.declared.rules.Rule.TheVariants.{AnnexB};
-ghost use Rattle.host.specs.Rules.{rule_of};
-ghost use Rattle.host.specs.Components.{read_number, read_count, read_end, one_number, one_bits, one_value, sign_of, left, top, right, bottom};
+ghost use Rattle.tile.specs.Rules.{rule_of};
+ghost use Rattle.host.specs.Components.{read_count, read_end, one_number, one_bits, one_value, sign_of, left, top, right, bottom};
 
 // `components`: how many there are, or a refusal's place; the image's area on the reference grid.
 #[unsafe(no_mangle)]
@@ -15,7 +16,7 @@ pub extern "C" fn winterhasp_read_components(
     x1: &mut u64,
     y1: &mut u64,
 ) -> u32
-    ensures value { result ≡ read_number (components_read codestream.now) }
+    ensures value { result ≡ answer_number (components_read codestream.now) }
     ensures components_after { components.new ≡ read_count (components_read codestream.now) }
     ensures x0_after { x0.new ≡ read_end left (components_read codestream.now) x0.old }
     ensures y0_after { y0.new ≡ read_end top (components_read codestream.now) y0.old }
@@ -36,7 +37,7 @@ pub extern "C" fn winterhasp_read_components_in_tile(
     x1: &mut u64,
     y1: &mut u64,
 ) -> u32
-    ensures value { result ≡ read_number (components_in_tile AnnexB codestream.now tile) }
+    ensures value { result ≡ answer_number (components_in_tile AnnexB codestream.now tile) }
     ensures components_after { components.new ≡ read_count (components_in_tile AnnexB codestream.now tile) }
     ensures x0_after { x0.new ≡ read_end left (components_in_tile AnnexB codestream.now tile) x0.old }
     ensures y0_after { y0.new ≡ read_end top (components_in_tile AnnexB codestream.now tile) y0.old }
@@ -60,7 +61,7 @@ pub extern "C" fn winterhasp_read_components_in_tile_by_rule(
     x1: &mut u64,
     y1: &mut u64,
 ) -> u32
-    ensures value { result ≡ read_number (components_in_tile (rule_of rule) codestream.now tile) }
+    ensures value { result ≡ answer_number (components_in_tile (rule_of rule) codestream.now tile) }
     ensures components_after { components.new ≡ read_count (components_in_tile (rule_of rule) codestream.now tile) }
     ensures x0_after { x0.new ≡ read_end left (components_in_tile (rule_of rule) codestream.now tile) x0.old }
     ensures y0_after { y0.new ≡ read_end top (components_in_tile (rule_of rule) codestream.now tile) y0.old }

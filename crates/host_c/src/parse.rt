@@ -1,8 +1,9 @@
 // The reading of the main header.
 ghost use Rattle.std.specs.Prelude.{◌≡◌, ◌/◌, length};
+ghost use Rattle.types.specs.Refusals.{answer_number};
 ghost use Rattle.types.specs.Row.{row_bytes};
 ghost use Rattle.header.specs.Reading.{by_default, reading_of};
-ghost use Rattle.header.specs.Parse.{parsed, table_after, out_after, header_number, header_first, header_length, header_entries, header_fillers};
+ghost use Rattle.header.specs.Parse.{parsed, table_after, out_after, header_first, header_length, header_entries, header_fillers};
 
 use header::reading::ReadingNumbers;
 
@@ -18,7 +19,7 @@ pub extern "C" fn winterhasp_parse_main_header(
     entries: &mut u64,
     fillers: &mut u64,
 ) -> u32
-    ensures value { result ≡ header_number (parsed by_default codestream.now (length table.old / row_bytes) (length out.old)) }
+    ensures value { result ≡ answer_number (parsed by_default codestream.now (length table.old / row_bytes) (length out.old)) }
     ensures first_sot_after { first_sot.new ≡ header_first (parsed by_default codestream.now (length table.old / row_bytes) (length out.old)) }
     ensures decode_length_after { decode_length.new ≡ header_length (parsed by_default codestream.now (length table.old / row_bytes) (length out.old)) decode_length.old }
     ensures entries_after { entries.new ≡ header_entries (parsed by_default codestream.now (length table.old / row_bytes) (length out.old)) entries.old }
@@ -49,7 +50,7 @@ pub extern "C" fn winterhasp_parse_main_header_by_reading(
     entries: &mut u64,
     fillers: &mut u64,
 ) -> u32
-    ensures value { result ≡ header_number (parsed (reading_of reading) codestream.now (length table.old / row_bytes) (length out.old)) }
+    ensures value { result ≡ answer_number (parsed (reading_of reading) codestream.now (length table.old / row_bytes) (length out.old)) }
     ensures first_sot_after { first_sot.new ≡ header_first (parsed (reading_of reading) codestream.now (length table.old / row_bytes) (length out.old)) }
     ensures decode_length_after { decode_length.new ≡ header_length (parsed (reading_of reading) codestream.now (length table.old / row_bytes) (length out.old)) decode_length.old }
     ensures entries_after { entries.new ≡ header_entries (parsed (reading_of reading) codestream.now (length table.old / row_bytes) (length out.old)) entries.old }

@@ -1,7 +1,8 @@
 // The image's size and its samples.
 ghost use Rattle.std.specs.Prelude.{◌≡◌, not, eqb};
+ghost use Rattle.types.specs.Refusals.{answer_number};
 ghost use Rattle.reader.specs.Siz.{siz_read, sample_type, sample_number};
-ghost use Rattle.host.specs.Siz.{siz_number, siz_width, siz_height, siz_components, siz_bits, siz_signed};
+ghost use Rattle.host.specs.Siz.{siz_width, siz_height, siz_components, siz_bits, siz_signed};
 
 // `width`: the image's width, or a refusal's place; `height`, `components`, `bits` per component, and in `signed` 1 for a sign.
 #[unsafe(no_mangle)]
@@ -13,7 +14,7 @@ pub extern "C" fn winterhasp_parse_siz_marker(
     bits: &mut u64,
     signed: &mut u64,
 ) -> u32
-    ensures value { result ≡ siz_number (siz_read codestream.now) }
+    ensures value { result ≡ answer_number (siz_read codestream.now) }
     ensures width_after { width.new ≡ siz_width (siz_read codestream.now) }
     ensures height_after { height.new ≡ siz_height (siz_read codestream.now) height.old }
     ensures components_after { components.new ≡ siz_components (siz_read codestream.now) components.old }

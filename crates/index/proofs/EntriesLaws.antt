@@ -11,6 +11,7 @@ use lib.ListN.{length, drop, get_or, drop_of_length-le}
 use lib.Seq.{drop-cons}
 use lib.Dec.{eqb, leb, ltb}
 use borrow.Author.Tests.{ltb-true, ltb-false, le-leb, lt-leb, leb-true}
+use Rattle.std.specs.Prelude.{Result, Ok, Err}
 use Rattle.numbers.specs.Bytes.{be, put}
 use Rattle.numbers.proofs.Choice.{by_test, by_bool}
 use Rattle.numbers.proofs.BytesLaws.{put_start}
@@ -24,8 +25,7 @@ use Rattle.types.proofs.RowStanding.{rows, length_more, put_last, stored}
 use Rattle.index.specs.Index.{number_of}
 use Rattle.index.specs.Entries.{is_first, first_if, picked, entries_by, given, given_rows}
 use Rattle.index.specs.Run.{run_in}
-use Rattle.index.specs.declared.extend.Indexed.{Indexed}
-use Rattle.index.specs.declared.extend.Indexed.TheVariants.{Entries, Refused}
+use Rattle.types.specs.declared.Reason.TheVariants.{TableTooSmall}
 
 -- ---- the record of a number
 
@@ -170,28 +170,28 @@ module _ {tile : ℕ} {table run lent : List ℕ} where
 -- ---- given
 
 module _ (n room : ℕ) where
-  pub given_all : n ≤ room → Entries n ≡ given n room
+  pub given_all : n ≤ room → Ok n ≡ given n room
   unfolding given
   given_all h = rw (le-leb _ _ h)
 
-  pub given_none : room < n → Refused (refusal 18 n) ≡ given n room
+  pub given_none : room < n → Err (refusal TableTooSmall n) ≡ given n room
   unfolding given
   given_none h = rw (lt-leb _ _ h)
 
-given_entries : (n room m : ℕ) → given n room ≡ Entries m → (n ≡ m) × (n ≤ room)
+given_entries : (n room m : ℕ) → given n room ≡ Ok m → (n ≡ m) × (n ≤ room)
 unfolding given
 given_entries n room m =
-    by_test (λ (a : Indexed). a ≡ Entries m → (n ≡ m) × (n ≤ room)) (leb n room)
+    by_test (λ (a : Result ℕ Refusal). a ≡ Ok m → (n ≡ m) × (n ≤ room)) (leb n room)
     (λ h e. (cc, leb-true n room h))
     (λ _ e. absurd (let z : ◌≡◌ {A = ℕ} 0 1 = cc in omega arith))
 
 -- the answer stands before a row is written
-pub record Answered (index : List ℕ) (tile : ℕ) (es : List TilePartEntry) (out run : List ℕ) (n : ℕ) (answer : Indexed) : Type 0 where
+pub record Answered (index : List ℕ) (tile : ℕ) (es : List TilePartEntry) (out run : List ℕ) (n : ℕ) (answer : Result ℕ Refusal) : Type 0 where
   pub there : run ≡ run_in index tile
   pub counts : n ≡ length (picked tile es run)
   pub is : answer ≡ given n (length out / row_bytes)
 
-module _ {index : List ℕ} {tile : ℕ} {es : List TilePartEntry} {out run : List ℕ} {n : ℕ} {answer : Indexed} (a : Answered index tile es out run n answer) where
+module _ {index : List ℕ} {tile : ℕ} {es : List TilePartEntry} {out run : List ℕ} {n : ℕ} {answer : Result ℕ Refusal} (a : Answered index tile es out run n answer) where
   all_of : picked tile es run ≡ entries_by index tile es
   unfolding entries_by
   all_of = ap (picked tile es) a.there
@@ -199,17 +199,17 @@ module _ {index : List ℕ} {tile : ℕ} {es : List TilePartEntry} {out run : Li
   pub answers : answer ≡ given (length (entries_by index tile es)) (length out / row_bytes)
   answers = a.is ∙ ap (λ (k : ℕ). given k (length out / row_bytes)) (a.counts ∙ ap length all_of)
 
-  pub kept : {r : Refusal} → answer ≡ Refused r → out ≡ given_rows answer (entries_by index tile es) out
+  pub kept : {r : Refusal} → answer ≡ Err r → out ≡ given_rows answer (entries_by index tile es) out
   unfolding given_rows
-  kept refused = ap (λ (x : Indexed). given_rows x (entries_by index tile es) out) (sym refused)
+  kept refused = ap (λ (x : Result ℕ Refusal). given_rows x (entries_by index tile es) out) (sym refused)
 
-  accepted : {m : ℕ} → answer ≡ Entries m → (n ≡ m) × (n ≤ length out / row_bytes)
+  accepted : {m : ℕ} → answer ≡ Ok m → (n ≡ m) × (n ≤ length out / row_bytes)
   accepted {m} e = given_entries n (length out / row_bytes) m (sym a.is ∙ e)
 
-  pub fits : {m : ℕ} → answer ≡ Entries m → row_bytes * length (picked tile es run) ≤ length out
+  pub fits : {m : ℕ} → answer ≡ Ok m → row_bytes * length (picked tile es run) ≤ length out
   fits e = omega (arith, (accepted e).1, a.counts)
 
-  pub filled : {m : ℕ} {next : List ℕ} → answer ≡ Entries m → next ≡ put out 0 (rows_of (picked tile es run))
+  pub filled : {m : ℕ} {next : List ℕ} → answer ≡ Ok m → next ≡ put out 0 (rows_of (picked tile es run))
       → next ≡ given_rows answer (entries_by index tile es) out
   unfolding given_rows
   filled {m} e new =
@@ -217,4 +217,4 @@ module _ {index : List ℕ} {tile : ℕ} {es : List TilePartEntry} {out run : Li
       new
       ∙ put_start out (rows_of (picked tile es run))
       ∙ ap₂ (λ (l : List TilePartEntry) (k : ℕ). rows_of l ++ drop k out) all_of long
-      ∙ ap (λ (x : Indexed). given_rows x (entries_by index tile es) out) (sym e)
+      ∙ ap (λ (x : Result ℕ Refusal). given_rows x (entries_by index tile es) out) (sym e)

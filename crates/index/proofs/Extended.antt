@@ -9,6 +9,7 @@ use lib.ListN.{length, take, drop, set, drop_of_length-le}
 use lib.Seq.{take_all, take-take, take-suc-set}
 use lib.Dec.{leb}
 use borrow.Author.Tests.{le-leb, lt-leb, leb-true}
+use Rattle.std.specs.Prelude.{Result, Ok, Err}
 use Rattle.numbers.proofs.Choice.{by_test, by_bool}
 use Rattle.types.specs.Refusals.{refusal}
 use Rattle.types.specs.declared.Refusal.{Refusal}
@@ -16,11 +17,10 @@ use Rattle.types.specs.declared.TilePartEntry.{TilePartEntry}
 use Rattle.index.specs.Index.{numbered, key_of, index_from}
 use Rattle.index.specs.Merge.{merged}
 use Rattle.index.specs.Extend.{old_of, fits, extended, index_after, scratch_after, index_made, keys_from}
-use Rattle.index.specs.declared.extend.Indexed.{Indexed}
-use Rattle.index.specs.declared.extend.Indexed.TheVariants.{Entries, Refused}
 use Rattle.index.proofs.MergeLaws.{merged_none}
+use Rattle.types.specs.declared.Reason.TheVariants.{TableTooSmall}
 
-refused_not : {X : Type 0} (n m : ℕ) → Refused (refusal 18 n) ≡ Entries m → X
+refused_not : {X : Type 0} (n m : ℕ) → Err (refusal TableTooSmall n) ≡ Ok m → X
 refused_not n m e = absurd (let z : ◌≡◌ {A = ℕ} 0 1 = cc in omega arith)
 
 pub old_some : (have n : ℕ) → have ≤ n → old_of have n ≡ have
@@ -33,19 +33,19 @@ pub old_within : (have n : ℕ) → old_of have n ≤ n
 old_within have n = by_test (λ m. m ≤ n) (leb have n) (λ yes. leb-true have n yes) (λ no. omega arith)
 
 module _ (n have room scratch : ℕ) where
-  pub too_many : numbered < n → Refused (refusal 18 n) ≡ extended n have room scratch
+  pub too_many : numbered < n → Err (refusal TableTooSmall n) ≡ extended n have room scratch
   unfolding extended fits
   too_many h = rw (lt-leb n numbered h)
 
-  pub no_room : n ≤ numbered → room < n → Refused (refusal 18 n) ≡ extended n have room scratch
+  pub no_room : n ≤ numbered → room < n → Err (refusal TableTooSmall n) ≡ extended n have room scratch
   unfolding extended fits
   no_room few h = rw (le-leb n numbered few, lt-leb n room h)
 
-  pub no_scratch : n ≤ numbered → n ≤ room → scratch < n - old_of have n → Refused (refusal 18 n) ≡ extended n have room scratch
+  pub no_scratch : n ≤ numbered → n ≤ room → scratch < n - old_of have n → Err (refusal TableTooSmall n) ≡ extended n have room scratch
   unfolding extended fits
   no_scratch few fit h = rw (le-leb n numbered few, le-leb n room fit, lt-leb (n - old_of have n) scratch h)
 
-  pub all_fit : n ≤ numbered → n ≤ room → n - old_of have n ≤ scratch → Entries n ≡ extended n have room scratch
+  pub all_fit : n ≤ numbered → n ≤ room → n - old_of have n ≤ scratch → Ok n ≡ extended n have room scratch
   unfolding extended fits
   all_fit few fit h = rw (le-leb n numbered few, le-leb n room fit, le-leb (n - old_of have n) scratch h)
 
@@ -56,7 +56,7 @@ pub record Fit (n have room scratch m : ℕ) : Type 0 where
   pub rest : n - old_of have n ≤ scratch
   pub all : n ≡ m
 
-accepted : (n have room scratch m : ℕ) → extended n have room scratch ≡ Entries m → Fit n have room scratch m
+accepted : (n have room scratch m : ℕ) → extended n have room scratch ≡ Ok m → Fit n have room scratch m
 unfolding extended fits
 accepted n have room scratch m e =
     by_bool (leb n numbered)
@@ -65,7 +65,7 @@ accepted n have room scratch m e =
     (λ fit.
     by_bool (leb (n - old_of have n) scratch)
     (λ rest.
-    let same : Entries n ≡ Entries m = rw (few, fit, rest) at e in
+    let same : Ok n ≡ Ok m = rw (few, fit, rest) at e in
     record { few = leb-true n numbered few; fit = leb-true n room fit; rest = leb-true (n - old_of have n) scratch rest; all = cc })
     (λ rest. refused_not n m (rw (few, fit, rest) at e)))
     (λ fit. refused_not n m (rw (few, fit) at e)))
@@ -79,25 +79,25 @@ pub record Room (n index scratch old : ℕ) : Type 0 where
   pub new : n - old ≤ scratch
 
 -- the answer stands before anything is written
-pub record Decided (n have : ℕ) (index scratch : List ℕ) (answer : Indexed) : Type 0 where
+pub record Decided (n have : ℕ) (index scratch : List ℕ) (answer : Result ℕ Refusal) : Type 0 where
   pub is : answer ≡ extended n have (length index) (length scratch)
 
-module _ {n have : ℕ} {index scratch : List ℕ} {answer : Indexed} (d : Decided n have index scratch answer) where
-  pub index_kept : (es : List TilePartEntry) {r : Refusal} → answer ≡ Refused r → index ≡ index_after answer es (old_of have n) index
+module _ {n have : ℕ} {index scratch : List ℕ} {answer : Result ℕ Refusal} (d : Decided n have index scratch answer) where
+  pub index_kept : (es : List TilePartEntry) {r : Refusal} → answer ≡ Err r → index ≡ index_after answer es (old_of have n) index
   unfolding index_after
-  index_kept es refused = ap (λ (x : Indexed). index_after x es (old_of have n) index) (sym refused)
+  index_kept es refused = ap (λ (x : Result ℕ Refusal). index_after x es (old_of have n) index) (sym refused)
 
-  pub scratch_kept : (es : List TilePartEntry) {r : Refusal} → answer ≡ Refused r → scratch ≡ scratch_after answer es (old_of have n) scratch
+  pub scratch_kept : (es : List TilePartEntry) {r : Refusal} → answer ≡ Err r → scratch ≡ scratch_after answer es (old_of have n) scratch
   unfolding scratch_after
-  scratch_kept es refused = ap (λ (x : Indexed). scratch_after x es (old_of have n) scratch) (sym refused)
+  scratch_kept es refused = ap (λ (x : Result ℕ Refusal). scratch_after x es (old_of have n) scratch) (sym refused)
 
-  fitting : {m : ℕ} → answer ≡ Entries m → Fit n have (length index) (length scratch) m
+  fitting : {m : ℕ} → answer ≡ Ok m → Fit n have (length index) (length scratch) m
   fitting {m} e = accepted n have (length index) (length scratch) m (sym d.is ∙ e)
 
-  pub room : {m old : ℕ} → answer ≡ Entries m → old ≡ old_of have n → Room n (length index) (length scratch) old
+  pub room : {m old : ℕ} → answer ≡ Ok m → old ≡ old_of have n → Room n (length index) (length scratch) old
   room e was = let f = fitting e in record { few = f.few; all = f.fit; within = omega (arith, old_within have n); new = omega (arith, f.rest) }
 
-  pub index_after_lem : (es : List TilePartEntry) {m old : ℕ} {next : List ℕ} → answer ≡ Entries m → old ≡ old_of have n → next ≡ merged (take old (take n index)) (index_from old (drop old es))
+  pub index_after_lem : (es : List TilePartEntry) {m old : ℕ} {next : List ℕ} → answer ≡ Ok m → old ≡ old_of have n → next ≡ merged (take old (take n index)) (index_from old (drop old es))
       → next ++ drop n index ≡ index_after answer es (old_of have n) index
   unfolding index_after
   index_after_lem es {m} {old} {next} e was new =
@@ -105,28 +105,28 @@ module _ {n have : ℕ} {index scratch : List ℕ} {answer : Indexed} (d : Decid
       ap₂ (λ (l : List ℕ) (k : ℕ). l ++ drop k index)
       (new ∙ ap (λ (l : List ℕ). merged l (index_from old (drop old es))) (take-take old n index (omega (arith, old_within have n))) ∙ ap (λ (k : ℕ). merged (take k index) (index_from k (drop k es))) was)
       fit.all
-      ∙ ap (λ (x : Indexed). index_after x es (old_of have n) index) (sym e)
+      ∙ ap (λ (x : Result ℕ Refusal). index_after x es (old_of have n) index) (sym e)
 
-  pub scratch_after_lem : (es : List TilePartEntry) {m old : ℕ} {next : List ℕ} → answer ≡ Entries m → old ≡ old_of have n → next ≡ index_from old (drop old es)
+  pub scratch_after_lem : (es : List TilePartEntry) {m old : ℕ} {next : List ℕ} → answer ≡ Ok m → old ≡ old_of have n → next ≡ index_from old (drop old es)
       → next ++ drop (n - old) scratch ≡ scratch_after answer es (old_of have n) scratch
   unfolding scratch_after
   scratch_after_lem es {m} {old} {next} e was new =
       let fit = fitting e in
       ap (λ (l : List ℕ). l ++ drop (n - old) scratch) new
       ∙ ap₂ (λ (k j : ℕ). index_from k (drop k es) ++ drop (j - k) scratch) was fit.all
-      ∙ ap (λ (x : Indexed). scratch_after x es (old_of have n) scratch) (sym e)
+      ∙ ap (λ (x : Result ℕ Refusal). scratch_after x es (old_of have n) scratch) (sym e)
 
 -- ---- afresh
 
-pub index_afresh : (n : ℕ) (r : Indexed) (es : List TilePartEntry) (index : List ℕ) → index_after r es (old_of 0 n) index ≡ index_made r es index
+pub index_afresh : (n : ℕ) (r : Result ℕ Refusal) (es : List TilePartEntry) (index : List ℕ) → index_after r es (old_of 0 n) index ≡ index_made r es index
 unfolding index_after index_made
-index_afresh n (Entries m) es index = rw (old_some 0 n (omega arith)) (ap (λ (l : List ℕ). l ++ drop m index) (merged_none (index_from 0 es)))
-index_afresh n (Refused x) es index = refl
+index_afresh n (Ok m) es index = rw (old_some 0 n (omega arith)) (ap (λ (l : List ℕ). l ++ drop m index) (merged_none (index_from 0 es)))
+index_afresh n (Err x) es index = refl
 
-pub scratch_afresh : (n : ℕ) (r : Indexed) (es : List TilePartEntry) (scratch : List ℕ) → scratch_after r es (old_of 0 n) scratch ≡ index_made r es scratch
+pub scratch_afresh : (n : ℕ) (r : Result ℕ Refusal) (es : List TilePartEntry) (scratch : List ℕ) → scratch_after r es (old_of 0 n) scratch ≡ index_made r es scratch
 unfolding scratch_after index_made
-scratch_afresh n (Entries m) es scratch = rw (old_some 0 n (omega arith)) (ap (λ (k : ℕ). index_from 0 es ++ drop k scratch) (sub-zero m))
-scratch_afresh n (Refused x) es scratch = refl
+scratch_afresh n (Ok m) es scratch = rw (old_some 0 n (omega arith)) (ap (λ (k : ℕ). index_from 0 es ++ drop k scratch) (sub-zero m))
+scratch_afresh n (Err x) es scratch = refl
 
 -- ---- the keys, stored one by one
 

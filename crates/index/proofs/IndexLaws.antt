@@ -10,6 +10,7 @@ use lib.ListN.{length, take, drop, length-append, take-append-drop}
 use lib.Seq.{length-take-le, drop-append_seam, drop-nil}
 use lib.Dec.{eqb, ltb}
 use borrow.Author.Tests.{eq-eqb, ne_eqb, eqb-true, eqb-false, ltb-true, ltb-false}
+use Rattle.std.specs.Prelude.{Result, Ok, Err}
 use Rattle.numbers.proofs.Choice.{by_bool, by_test}
 use Rattle.types.specs.declared.TilePartEntry.{TilePartEntry}
 use Rattle.types.proofs.RowReading.{All}
@@ -20,13 +21,12 @@ use Rattle.index.specs.Run.{run_in}
 use Rattle.index.specs.Merge.{merged}
 use Rattle.index.specs.Extend.{index_after, index_made, keys_from}
 use Rattle.index.specs.Entries.{first_if, picked, entries_by}
-use Rattle.index.specs.declared.extend.Indexed.{Indexed}
-use Rattle.index.specs.declared.extend.Indexed.TheVariants.{Entries, Refused}
 use Rattle.index.proofs.Each.{Each, none, more, each_map, each_append, each_at, Below, run_tile, runs_below_lem}
 use Rattle.index.proofs.Groups.{groups_all}
 use Rattle.index.proofs.SortLaws.{length_keys, keys_runs}
 use Rattle.index.proofs.Extending.{run_append, index_merged}
 use Rattle.index.proofs.Lookup.{length_run, run_there}
+use Rattle.types.specs.declared.Refusal.{Refusal}
 
 -- ---- a lookup gives the tile's entries, in their order; of a tile that is not there none
 
@@ -67,16 +67,16 @@ extended_afresh a b few =
     ap (λ (n : ℕ). merged (index_of a) (index_from n b)) (sym (zero-add (length a))) ∙ index_merged 0 a b (omega arith)
 
 -- so what a call leaves is what making it would leave, where what was lent is the index of the old entries
-pub call_afresh : (r : Indexed) (es : List TilePartEntry) (old : ℕ) (index : List ℕ) → old ≤ length es → length es ≤ numbered → take old index ≡ index_of (take old es)
+pub call_afresh : (r : Result ℕ Refusal) (es : List TilePartEntry) (old : ℕ) (index : List ℕ) → old ≤ length es → length es ≤ numbered → take old index ≡ index_of (take old es)
     → index_after r es old index ≡ index_made r es index
 unfolding index_after index_made
-call_afresh (Entries n) es old index h few was =
+call_afresh (Ok n) es old index h few was =
     let cut : length (take old es) ≡ old = length-take-le old es h in
     ap (λ (l : List ℕ). l ++ drop n index)
     (ap₂ (λ (l : List ℕ) (m : ℕ). merged l (index_from m (drop old es))) was (sym cut)
     ∙ extended_afresh (take old es) (drop old es) (omega (arith, ap length (take-append-drop old es), length-append (take old es) (drop old es)))
     ∙ ap index_of (take-append-drop old es))
-call_afresh (Refused x) es old index h few was = refl
+call_afresh (Err x) es old index h few was = refl
 
 -- ---- a tile that gained nothing
 

@@ -6,7 +6,10 @@ use mathlib.Core.Path.{◌≡◌, refl, sym, ap, ap₂, ◌∙◌}
 use mathlib.Core.List.{List}
 use lib.ListN.{length, take, drop, get_or, length-drop}
 use lib.Seq.{length-take-le}
-use borrow.Author.Tests.{lt-ltb, le-ltb}
+use lib.Dec.{ltb}
+use borrow.Author.Tests.{lt-ltb, le-ltb, ltb-true, ltb-false}
+use mir.Val.{bool_byte}
+use Rattle.numbers.proofs.Choice.{by_bool}
 use Rattle.index.specs.Index.{tile_of}
 use Rattle.index.specs.Run.{middle, halved, first_from, run_in, some_number}
 
@@ -92,8 +95,8 @@ module _ (keys : List ℕ) (tile : ℕ) {from to : ℕ} (start : from ≡ first_
   pub run_length : to ≤ length keys → to - from ≡ length (run_in keys tile)
   run_length fits = sym (length-take-le (to - from) (drop from keys) (omega (arith, length-drop from keys))) ∙ ap length run_between
 
-  pub run_some : from < to → to ≤ length keys → 1 ≡ some_number (run_in keys tile)
-  run_some some fits = rw (lt-ltb 0 (length (run_in keys tile)) (omega (arith, run_length fits)))
-
-  pub run_none : to ≤ from → to ≤ length keys → 0 ≡ some_number (run_in keys tile)
-  run_none none fits = rw (le-ltb 0 (length (run_in keys tile)) (omega (arith, run_length fits)))
+  pub run_told : to ≤ length keys → bool_byte (ltb from to) ≡ some_number (run_in keys tile)
+  run_told fits =
+      by_bool (ltb from to)
+      (λ some. rw (some, lt-ltb 0 (length (run_in keys tile)) (omega (arith, ltb-true from to some, run_length fits))))
+      (λ none. rw (none, le-ltb 0 (length (run_in keys tile)) (omega (arith, ltb-false from to none, run_length fits))))

@@ -1,12 +1,12 @@
 -- The entries that an index gives of a tile (docs/RULES.md, "An index by tile"), out of a table's records.
-use Rattle.std.specs.Prelude.{ℕ, ◌*◌, Bool, false, cond, List, [], ◌∷◌, ◌++◌, take, drop, eqb, leb}
+use Rattle.std.specs.Prelude.{ℕ, ◌*◌, Bool, false, cond, List, [], ◌∷◌, ◌++◌, take, drop, eqb, leb, Result, Ok, Err}
 use Rattle.types.specs.Refusals.{refusal}
 use Rattle.types.specs.Row.{row_bytes, rows_of}
 use Rattle.types.specs.declared.TilePartEntry.{TilePartEntry}
 use Rattle.index.specs.Index.{number_of}
 use Rattle.index.specs.Run.{run_in}
-use Rattle.index.specs.declared.extend.Indexed.{Indexed}
-use Rattle.index.specs.declared.extend.Indexed.TheVariants.{Entries, Refused}
+use Rattle.types.specs.declared.Refusal.{Refusal}
+use Rattle.types.specs.declared.Reason.TheVariants.{TableTooSmall}
 
 -- the first record is there, and the tile's
 unfoldable pub is_first : ℕ → List TilePartEntry → Bool
@@ -30,10 +30,10 @@ unfolding picked
 entries_by index tile es = picked tile es (run_in index tile)
 
 -- given into so many rows or records: 18 where they are too few, and its place is the entries needed
-unfoldable pub given : ℕ → ℕ → Indexed
-given n room = cond (leb n room) (Entries n) (Refused (refusal 18 n))
+unfoldable pub given : ℕ → ℕ → Result ℕ Refusal
+given n room = cond (leb n room) (Ok n) (Err (refusal TableTooSmall n))
 
 -- rows after an answer: the entries' rows and the rest as it was, or all as it was
-unfoldable pub given_rows : Indexed → List TilePartEntry → List ℕ → List ℕ
-given_rows (Entries n) entries out = rows_of entries ++ drop (row_bytes * n) out
-given_rows (Refused r) entries out = out
+unfoldable pub given_rows : Result ℕ Refusal → List TilePartEntry → List ℕ → List ℕ
+given_rows (Ok n) entries out = rows_of entries ++ drop (row_bytes * n) out
+given_rows (Err r) entries out = out

@@ -6,15 +6,14 @@ ghost use Rattle.types.specs.Row.{row_bytes, rows_of, records_in};
 ghost use Rattle.index.specs.Index.{number_of};
 ghost use Rattle.index.specs.Entries.{is_first, picked, entries_by, given, given_rows};
 
-use crate::extend::Indexed;
-use types::ROW;
+use types::{ROW, Refusal};
 
 // What entries of which there are n are answered with, given room for so many.
-fn decide(n: usize, room: usize) -> Indexed
+fn decide(n: usize, room: usize) -> Result<u64, Refusal>
     ensures { result ≡ given n room }
 {
     if n <= room {
-        Indexed::Entries(n as u64)
+        Ok(n as u64)
     } else {
         crate::extend::needs(n)
     }
@@ -35,12 +34,10 @@ fn count(table: &[u8], run: &[u64], tile: u16) -> usize
     ensures { result ≡ length (picked tile (records_in table.now) run.now) }
 {
     let mut n: usize = 0;
-    let mut i: usize = 0;
-    while i < run.len() {
-        if is_there(table, run[i], tile) {
+    for key in run {
+        if is_there(table, *key, tile) {
             n += 1;
         }
-        i += 1;
     }
     n
 }
@@ -50,29 +47,23 @@ fn fill(table: &[u8], run: &[u64], tile: u16, out: &mut [u8])
     ensures { out.new ≡ put out.old 0 (rows_of (picked tile (records_in table.now) run.now)) }
 {
     let mut at: usize = 0;
-    let mut i: usize = 0;
-    while i < run.len() {
-        let key = run[i];
-        if is_there(table, key, tile) {
-            let number = crate::keys::number_of(key) as usize;
+    for key in run {
+        if is_there(table, *key, tile) {
+            let number = crate::keys::number_of(*key) as usize;
             let entry = types::read_row(table, number * ROW);
             types::write_row(out, at, entry);
             at += ROW;
         }
-        i += 1;
     }
 }
 
 // The entries of a tile, out of the table that the index is of. `out` has a row for each 21 bytes.
-pub fn tile_entries(table: &[u8], index: &[u64], tile: u16, out: &mut [u8]) -> Indexed
+pub fn tile_entries(table: &[u8], index: &[u64], tile: u16, out: &mut [u8]) -> Result<u64, Refusal>
     ensures value { result ≡ given (length (entries_by index.now tile (records_in table.now))) (length out.old / row_bytes) }
     ensures out_after { out.new ≡ given_rows result (entries_by index.now tile (records_in table.now)) out.old }
 {
     let run = crate::run::tile_run(index, tile);
-    let answer = decide(count(table, run, tile), out.len() / ROW);
-    let Indexed::Entries(_) = answer else {
-        return answer;
-    };
+    let given = decide(count(table, run, tile), out.len() / ROW)?;
     fill(table, run, tile, out);
-    answer
+    Ok(given)
 }

@@ -2,7 +2,10 @@
 ghost use Rattle.std.specs.Prelude.{◌≡◌, ◌+◌, ◌≤◌, length};
 ghost use Rattle.index.specs.Run.{first_from, run_in, some_number};
 
-// The first place from `from` on whose key is of this tile or a later one.
+use std::ops::Range;
+
+// The first place from `from` on whose key is of this tile or a later one. Not `partition_point`, which promises nothing of keys that
+// are in no order: any index may be lent, and each gets an answer.
 fn first_from(index: &[u64], tile: u64, from: usize) -> usize
     requires { from ≤ length index.now }
     ensures value { result ≡ first_from index.now tile from }
@@ -22,33 +25,23 @@ fn first_from(index: &[u64], tile: u64, from: usize) -> usize
     lo
 }
 
-// From a place on, to another that no longer belongs to it.
-#[derive(Clone, Copy)]
-struct Between {
-    from: usize,
-    to: usize,
-}
-
 // Where the tile's run stands.
-fn places(index: &[u64], tile: u16) -> Between
-    ensures from_value { result.from ≡ first_from index.now tile 0 }
-    ensures to_value { result.to ≡ first_from index.now (tile + 1) (first_from index.now tile 0) }
-    ensures from_le_to { result.from ≤ result.to }
-    ensures to_in_bounds { result.to ≤ length index.now }
+fn places(index: &[u64], tile: u16) -> Range<usize>
+    ensures from_value { result.start ≡ first_from index.now tile 0 }
+    ensures to_value { result.end ≡ first_from index.now (tile + 1) (first_from index.now tile 0) }
+    ensures from_le_to { result.start ≤ result.end }
+    ensures to_in_bounds { result.end ≤ length index.now }
 {
     let from = first_from(index, tile as u64, 0);
     let to = first_from(index, (tile as u64) + 1, from);
-    Between { from, to }
+    from..to
 }
 
 // The tile's keys, of the caller's own; none where it has no entry.
 pub fn tile_run(index: &[u64], tile: u16) -> &[u64]
     ensures { result.now ≡ run_in index.now tile }
 {
-    let run = places(index, tile);
-    let from = run.from;
-    let to = run.to;
-    &index[from..to]
+    &index[places(index, tile)]
 }
 
 // A tile's run for C: 1, and 0 where there is none. `first` is where it stands in the index, and `count` how many keys it has.
@@ -58,9 +51,7 @@ pub fn tell(index: &[u64], tile: u16, first: &mut u64, count: &mut u64) -> u32
     ensures count_after { count.new ≡ length (run_in index.now tile) }
 {
     let run = places(index, tile);
-    let from = run.from;
-    let to = run.to;
-    *first = from as u64;
-    *count = (to - from) as u64;
-    if from < to { 1 } else { 0 }
+    *first = run.start as u64;
+    *count = (run.end - run.start) as u64;
+    u32::from(run.start < run.end)
 }

@@ -6,10 +6,11 @@ use mathlib.Core.Path.{◌≡◌, refl, sym, ap, ◌∙◌}
 use mathlib.Core.Bool.{true}
 use mathlib.Core.List.{List, [], ◌∷◌, ◌++◌, append_assoc}
 use lib.ListN.{length, get_or, length-append}
+use Rattle.std.specs.Prelude.{Some, Ok, Err}
 use Rattle.numbers.specs.Bytes.{bytes_of}
 use Rattle.numbers.specs.Rows.{bytes_of_rows}
 use Rattle.types.specs.Refusals.{refusal}
-use Rattle.reader.specs.Search.{JP2C, is_jp2, found_in, part_of, content_of}
+use Rattle.reader.specs.Search.{JP2C, is_jp2, found_in, part_of, content_of, codestream}
 use Rattle.reader.specs.Iso.{Form, plain, extended, last, IsoBox, box_rows, header_size, box_bytes, Stands}
 use Rattle.reader.specs.BoxRow.{end_of}
 use Rattle.reader.specs.BoxStep.{opens, refused_at, entry_of, step_at}
@@ -19,7 +20,6 @@ use Rattle.reader.specs.IsoBoxes.{Tree, none, leaf, node, holding, tree_bytes, t
 use Rattle.reader.specs.declared.box_row.BoxEntry.{BoxEntry}
 use Rattle.reader.specs.declared.box_step.ListStep.TheVariants.{Plain}
 use Rattle.reader.specs.declared.search.BoxHeader.{BoxHeader}
-use Rattle.reader.specs.declared.search.Found.TheVariants.{Codestream, Refused}
 use Rattle.reader.proofs.BoxStepLaws.{step_top, judged_other, judged_16}
 use Rattle.reader.proofs.BoxesLaws.{boxes_plain, boxes_refused}
 use Rattle.reader.proofs.BoxesSearch.{tree_search, search_finds, search_none}
@@ -30,6 +30,8 @@ use Rattle.laws.specs.Sample.{A, zeros, signature, JP2H, IHDR, UUID, box_head, b
 use Rattle.laws.proofs.SampleComputing.{box_trees}
 use Rattle.laws.proofs.Demand3Premises.{all_below, all_bytes}
 use Rattle.laws.proofs.SampleBoxes.{listed_as, unlisted, tree_bytes_lem, nested, nested_iso, picture, picture_iso, picture_listable, picture_long, picture_front, picture_boxes, picture_entries}
+use Rattle.types.specs.declared.Reason.TheVariants.{NotJpeg2000, BoxTooLong, BoxDoesNotFit, BoxLengthWrong, BoxesTooDeep}
+use Rattle.types.specs.declared.Reason.TheVariants as reason
 
 -- ---- the search: met by the signature, jp2h with ihdr, and jp2c; and by the signature alone
 
@@ -44,7 +46,7 @@ pub small_listed : boxes_of small ≡ boxes (listed_as 1 0x6a50_2020 0 8 4 ∷ l
 unfolding box_trees
 small_listed = refl
 
-pub small_found : found_in small ≡ Codestream (record { 0 = 37 }) 2
+pub small_found : found_in small ≡ Ok (codestream (record { 0 = 37 }) 2)
 unfolding first_codestream
 small_found = tree_search small _ small_jp2 small_listed
 
@@ -56,7 +58,7 @@ signature_jp2 : is_jp2 signature ≡ true
 unfolding box_trees
 signature_jp2 = refl
 
-pub signature_none : found_in signature ≡ Refused (refusal 14 12)
+pub signature_none : found_in signature ≡ Err (refusal reason.NoCodestreamBox 12)
 unfolding NoCodestream box_trees
 signature_none = search_none signature _ signature_jp2 signature_listed (λ d k. omega arith, tt)
 
@@ -69,7 +71,7 @@ held_listed : boxes_of (signature ++ box JP2H (box JP2C [])) ≡ boxes (listed_a
 unfolding box_trees
 held_listed = refl
 
-pub held_none : found_in (signature ++ box JP2H (box JP2C [])) ≡ Refused (refusal 14 28)
+pub held_none : found_in (signature ++ box JP2H (box JP2C [])) ≡ Err (refusal reason.NoCodestreamBox 28)
 unfolding NoCodestream box_trees
 held_none = search_none (signature ++ box JP2H (box JP2C [])) _ held_jp2 held_listed (λ d k. omega arith, (λ d k. omega arith, (λ d k. omega arith, tt)))
 
@@ -79,21 +81,21 @@ pub bare_listed : boxes_of (box JP2C (1 ∷ [])) ≡ boxes (listed_as 1 JP2C 0 8
 unfolding box_trees
 bare_listed = refl
 
-pub bare_first : first_codestream 9 (listed_as 1 JP2C 0 8 1 ∷ []) ≡ Codestream (record { 0 = 8 }) 1
+pub bare_first : first_codestream 9 (listed_as 1 JP2C 0 8 1 ∷ []) ≡ Ok (codestream (record { 0 = 8 }) 1)
 unfolding first_codestream
 bare_first = refl
 
-pub bare_not_found : found_in (box JP2C (1 ∷ [])) ≡ Refused (refusal 12 0)
+pub bare_not_found : found_in (box JP2C (1 ∷ [])) ≡ Err (refusal NotJpeg2000 0)
 unfolding box_trees
 bare_not_found = refl
 
 -- ---- it needs that the boxes are listed: a jp2c that passes the file is refused, and the search clips it
 
-pub past_refused : boxes_of (signature ++ box_head 9 JP2C) ≡ unlisted 27 12
+pub past_refused : boxes_of (signature ++ box_head 9 JP2C) ≡ unlisted BoxDoesNotFit 12
 unfolding box_trees
 past_refused = refl
 
-pub past_found : found_in (signature ++ box_head 9 JP2C) ≡ Codestream (record { 0 = 20 }) 0
+pub past_found : found_in (signature ++ box_head 9 JP2C) ≡ Ok (codestream (record { 0 = 20 }) 0)
 unfolding box_trees
 past_found = refl
 
@@ -112,7 +114,7 @@ unfolding NoCodestream
 picture_free =
     (λ d k. omega arith, (λ d k. omega arith, (λ d k. omega arith, (λ d k. omega arith, (λ d k. omega arith, (λ d k. omega arith, (λ d k. omega arith, tt)))))))
 
-pub picture_found : found_in (tree_bytes picture) ≡ Codestream (record { 0 = 111 }) 89
+pub picture_found : found_in (tree_bytes picture) ≡ Ok (codestream (record { 0 = 111 }) 89)
 picture_found = search_finds (tree_bytes picture) _ picture_jp2 picture_listed picture_front _ [] refl picture_free refl refl
 
 pub picture_content : content_of (tree_bytes picture) ≡ A
@@ -129,7 +131,7 @@ pub endless_iso : IsoFile endless
 unfolding IsoTree StandsIn Stands Ends tree_bytes_lem
 endless_iso = (refl, (omega arith, omega arith, refl), (refl, (omega arith, omega arith, refl), tt), tt)
 
-pub endless_refused : boxes_of (tree_bytes endless) ≡ unlisted 28 8
+pub endless_refused : boxes_of (tree_bytes endless) ≡ unlisted BoxLengthWrong 8
 unfolding tree_bytes_lem
 endless_refused = refl
 
@@ -137,13 +139,13 @@ endless_refused = refl
 pub nine_iso : IsoFile (nested 9)
 nine_iso = nested_iso 9 (omega arith) last
 
-pub nine_refused : boxes_of (tree_bytes (nested 9)) ≡ unlisted 29 56
+pub nine_refused : boxes_of (tree_bytes (nested 9)) ≡ unlisted BoxesTooDeep 56
 unfolding tree_bytes_lem nested
 nine_refused = refl
 
 -- ---- it needs the standard's tree: a superbox that holds no list, and a box behind one of length 0, which takes it for its content
 
-pub no_list : Listable 1 (leaf (holding plain JP2H (zeros 1)) none) × (boxes_of (tree_bytes (leaf (holding plain JP2H (zeros 1)) none)) ≡ unlisted 27 8)
+pub no_list : Listable 1 (leaf (holding plain JP2H (zeros 1)) none) × (boxes_of (tree_bytes (leaf (holding plain JP2H (zeros 1)) none)) ≡ unlisted BoxDoesNotFit 8)
 unfolding Listable TopEnds tree_bytes_lem
 no_list = ((omega arith, tt, tt), refl)
 
@@ -202,25 +204,25 @@ module _ (x y : List ℕ) (first : 16 + length x < 2 ^ 64) (second : 16 + length
   abbrev e : BoxEntry
   e = entry_of 1 0 (header (length (box_bytes b)))
 
-  step_b : step_at s 1 0 ≡ Plain e
+  step_b : step_at s 1 0 ≡ Ok (Some (Plain e))
   unfolding Stands header_size opens
   step_b =
       step_top s 1 0 (omega (arith, long)) (header (length (box_bytes b))) (box_iso [] b (box_bytes c ++ []) (omega arith) first) (omega arith)
       ∙ judged_other (length s) 1 0 (header (length (box_bytes b))) (omega (arith, long_b)) (omega (arith, long_b)) (omega (arith, long, long_b)) refl
 
-  step_c : step_at s 1 (length (box_bytes b)) ≡ refused_at 16 (length (box_bytes b))
+  step_c : step_at s 1 (length (box_bytes b)) ≡ refused_at BoxTooLong (length (box_bytes b))
   unfolding Stands header_size
   step_c =
       step_top s 1 (length (box_bytes b)) (omega (arith, long, long_b)) (header (length (box_bytes c))) (box_iso (box_bytes b) c [] (omega arith) second) (omega arith)
       ∙ judged_16 (length s) 1 (length (box_bytes b)) (header (length (box_bytes c))) (omega (arith, long_c)) (omega (arith, long_b, long_c))
 
-  pub many_refused : boxes_of (tree_bytes pair) ≡ unlisted 16 (16 + length x)
+  pub many_refused : boxes_of (tree_bytes pair) ≡ unlisted BoxTooLong (16 + length x)
   unfolding tree_bytes before
   many_refused =
       let to : end_of e ≡ length (box_bytes b) = omega (arith, long_b) in
       boxes_plain s 1 0 e step_b
       ∙ ap (before (e ∷ [])) (ap (boxes_in s 1) to ∙ boxes_refused s 1 (length (box_bytes b)) _ step_c)
-      ∙ ap (λ (n : ℕ). unlisted 16 n) long_b
+      ∙ ap (λ (n : ℕ). unlisted BoxTooLong n) long_b
 
 -- ---- reading back: met by the same file. It needs that the items are bytes: a type of which one is 256 is listed, and no tree has its bytes
 

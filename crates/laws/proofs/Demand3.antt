@@ -1,11 +1,12 @@
 -- Demand 3. The entries of a scan adjoin; a tile's entries joined and split again are the same parts; and the codestream assembled of them is walked
 -- as the decode header was (`Rewalked`), in the newer edition too (`Edition`), and scanned as they were (`Rescanned`).
-use Prim.Native.Nat.{ℕ, ◌+◌, ◌≤◌}
+use Prim.Native.Nat.{ℕ, ◌≤◌}
 use native.Mathlib.Omega.{arith}
 use mathlib.Core.Path.{◌≡◌, refl, sym, ap, ap₂, ◌∙◌}
 use mathlib.Core.List.{List, [], ◌++◌, map}
 use lib.ListN.{length, drop, length-append}
 use lib.Seq.{take_at}
+use Rattle.std.specs.Prelude.{Option, Some, None, Result, Ok, Err}
 use Rattle.numbers.specs.Bytes.{be, bytes_of}
 use Rattle.numbers.proofs.BytesLaws.{be_front}
 use Rattle.types.specs.Markers.{SOC, SIZ, SOT, EOC}
@@ -21,7 +22,6 @@ use Rattle.header.proofs.NumberingLaws.{judged_restart}
 use Rattle.header.proofs.Numberings.{carried_accepts}
 use Rattle.header.proofs.EditionLaws.{caps_from}
 use Rattle.header.specs.declared.parse.MainHeaderInfo.{MainHeaderInfo}
-use Rattle.header.specs.declared.parse.MainHeader.TheVariants.{Header}
 use Rattle.header.proofs.ParseLaws.{stands_there, judged_read, opens_with, judged_walk}
 use Rattle.parts.specs.Scan.{entries_from}
 use Rattle.parts.specs.Tiles.{of_tile, bytes_at, AllLong}
@@ -30,10 +30,6 @@ use Rattle.parts.proofs.TilesJoined.{split_joined}
 use Rattle.tile.specs.Rewrite.{tile_size, cut_to, rewritten, over}
 use Rattle.tile.specs.Assembly.{parts_in, patched, size_for, joined, assembled, answer_for, assembly_answer, assembly_out}
 use Rattle.tile.specs.declared.rules.Rule.{Rule}
-use Rattle.tile.specs.declared.rewrite.TileSize.{TileSize}
-use Rattle.tile.specs.declared.rewrite.TileSize.TheVariants.{Whole, Cut, Refused}
-use Rattle.tile.specs.declared.rewrite.Written.{Written}
-use Rattle.tile.specs.declared.rewrite.Written.TheVariants.{Bytes}
 use Rattle.tile.proofs.RewriteLaws.{room_enough}
 use Rattle.tile.proofs.RewriteHeader.{length_rewritten}
 use Rattle.types.proofs.RowReading.{All, none, more}
@@ -44,11 +40,12 @@ use Rattle.laws.proofs.Demand3Edition.{newer_same}
 use Rattle.laws.proofs.Demand3Rewalked.{Rewalked, rewalked}
 use Rattle.laws.proofs.Demand3Rescanned.{part_tile, part_is_sot, patched_long, patched_marker, rescan, scans_table}
 use Rattle.tile.specs.Rewrite as rewrite
+use Rattle.types.specs.declared.Area.{Area}
 
 -- ---- a header walk that stops at an SOT accepts
 
 accepted_at : (s caps a : List ℕ) (to : ℕ) → be 2 s 0 ≡ SOC → be 2 s 2 ≡ SIZ → length a ≤ 0xffff_ffff → Rewalked s caps a to
-    → (info : MainHeaderInfo) × (judged a ≡ Header info) × (info.first_sot_offset.0 ≡ to) × ((n : Numbering) → judged_by n a ≡ judged a)
+    → (info : MainHeaderInfo) × (judged a ≡ Ok info) × (info.first_sot_offset.0 ≡ to) × ((n : Numbering) → judged_by n a ≡ judged a)
 unfolding read_as
 accepted_at s caps a to soc siz short r =
     let long = r.long in
@@ -107,20 +104,20 @@ module _ (s : List ℕ) (tile : ℕ) where
   unfolding rewritten
   assembled_whole rule d {es} all long some =
       assembled_is rule d (parts_in s es)
-      ∙ ap₂ (λ (z : TileSize) (ps : List (List ℕ)). cut_to z d ++ (joined ps ++ bytes_of 2 EOC)) (size_is rule d all long some) (parts_in_lem s tile all)
+      ∙ ap₂ (λ (z : Result (Option Area) Refusal) (ps : List (List ℕ)). cut_to z d ++ (joined ps ++ bytes_of 2 EOC)) (size_is rule d all long some) (parts_in_lem s tile all)
 
 -- a rewrite that accepts, with room
-bytes_of_lem : (z : TileSize) (n room : ℕ) → ((r : Refusal) → z ≡ Refused r → ⊥) → n ≤ room → rewrite.judged z n room ≡ Bytes n
+bytes_of_lem : (z : Result (Option Area) Refusal) (n room : ℕ) → ((r : Refusal) → z ≡ Err r → ⊥) → n ≤ room → rewrite.judged z n room ≡ Ok n
 unfolding rewrite.judged
-bytes_of_lem Whole n room accepts h = room_enough n room h
-bytes_of_lem (Cut a) n room accepts h = room_enough n room h
-bytes_of_lem (Refused r) n room accepts h = absurd (accepts r refl)
+bytes_of_lem (Ok None) n room accepts h = room_enough n room h
+bytes_of_lem (Ok (Some a)) n room accepts h = room_enough n room h
+bytes_of_lem (Err r) n room accepts h = absurd (accepts r refl)
 
 -- ---- the third sentence
 
 module _ (rule : Rule) (s : List ℕ) (p : ℕ) (c : Accepted s p) (tile : ℕ) (es : List TilePartEntry) (all : All (OfTile s tile) es) (out : List ℕ)
     (m : Assembles rule s tile es out) where
-  answered : assembly_answer rule (decode_header_of s) (rows_of es) s (length out) ≡ Bytes (length (assembled_of rule s es))
+  answered : assembly_answer rule (decode_header_of s) (rows_of es) s (length out) ≡ Ok (length (assembled_of rule s es))
   unfolding assembly_answer answer_for
   answered =
       ap (λ (rs : List TilePartEntry). answer_for rule (decode_header_of s) (parts_in s rs) (length out)) (records_back s tile c.bytes (judged_read s c.info c.header).short all)
@@ -131,7 +128,7 @@ module _ (rule : Rule) (s : List ℕ) (p : ℕ) (c : Accepted s p) (tile : ℕ) 
   written_out : assembly_out rule (decode_header_of s) (rows_of es) s out ≡ assembled_of rule s es ++ drop (length (assembled_of rule s es)) out
   unfolding assembly_out over
   written_out =
-      ap₂ (λ (w : Written) (rs : List TilePartEntry). over w (assembled_of rule s rs) out) answered
+      ap₂ (λ (w : Result ℕ Refusal) (rs : List TilePartEntry). over w (assembled_of rule s rs) out) answered
       (records_back s tile c.bytes (judged_read s c.info c.header).short all)
 
   whole : assembled_of rule s es ≡ rewritten rule (decode_header_of s) tile ++ rest_of s es

@@ -10,6 +10,7 @@ use lib.ListN.{length}
 use lib.Seq.{get_or-append-add}
 use lib.Dec.{eqb}
 use borrow.Author.Tests.{eq-eqb, ne_eqb}
+use Rattle.std.specs.Prelude.{Ok}
 use Rattle.numbers.specs.Bits.{bit}
 use Rattle.numbers.specs.Bytes.{be}
 use Rattle.numbers.proofs.BytesLaws.{be_cong}
@@ -22,7 +23,6 @@ use Rattle.header.specs.Reading.{newer_by}
 use Rattle.header.specs.Parse.{judged_by, judged_as}
 use Rattle.header.specs.declared.numbering.Numbering.{Numbering}
 use Rattle.header.specs.declared.parse.MainHeaderInfo.{MainHeaderInfo}
-use Rattle.header.specs.declared.parse.MainHeader.TheVariants.{Header}
 use Rattle.header.proofs.EditionLaws.{fits_short, caps_from, cap_no_delimiter, as_accepted, as_newer}
 use Rattle.header.proofs.NumberingLaws.{refused_header}
 use Rattle.header.proofs.WalkLaws.{not_true_false}
@@ -81,8 +81,8 @@ module _ (s : List ℕ) (at next : ℕ) (is : be 2 s at ≡ CAP) (i : Item s at 
 
 -- ---- accepted in the newer edition
 
-capped_same : (wanted : Bool) (s a : List ℕ) {caps there : List ℕ} (h k : MainHeaderInfo) → SameCaps s a caps there → capped wanted s caps h ≡ Header h
-    → capped wanted a there k ≡ Header k
+capped_same : (wanted : Bool) (s a : List ℕ) {caps there : List ℕ} (h k : MainHeaderInfo) → SameCaps s a caps there → capped wanted s caps h ≡ Ok h
+    → capped wanted a there k ≡ Ok k
 unfolding capped
 capped_same true s a h k none e = absurd (refused_header e)
 capped_same true s a h k (more {at = at} f none) e = by_bool (cap_fits s at) (λ t. rw (f ∙ t)) (λ t. absurd (refused_header (rw t at e)))
@@ -91,7 +91,7 @@ capped_same false s a h k none e = refl
 capped_same false s a h k (more f rest) e = absurd (refused_header e)
 
 pub newer_same : (s a : List ℕ) (n : Numbering) (h k : MainHeaderInfo) → be 2 a 6 ≡ be 2 s 6 → SameCaps s a (caps_from s 2) (caps_from a 2)
-    → judged_by n a ≡ Header k → judged_as (newer_by n) s ≡ Header h → judged_as (newer_by n) a ≡ Header k
+    → judged_by n a ≡ Ok k → judged_as (newer_by n) s ≡ Ok h → judged_as (newer_by n) a ≡ Ok k
 unfolding announced
 newer_same s a n h k rsiz caps judged accepted =
     as_newer (newer_by n) a refl k judged

@@ -1,13 +1,14 @@
 -- What a scan's entries of one tile are: at each an SOT with Lsot 10 and the tile's index stands whole, so the rows of the entries are read back as
 -- those entries, and their ranges are kept.
-use Prim.Native.Nat.{ℕ, ◌+◌, ◌-◌, ◌≤◌}
+use Prim.Native.Nat.{ℕ, ◌+◌, ◌≤◌}
 use native.Mathlib.Omega.{arith}
-use mathlib.Core.Path.{◌≡◌, refl, sym, ap, ap₂, ◌∙◌}
+use mathlib.Core.Path.{◌≡◌, refl, sym, ap, ◌∙◌}
 use mathlib.Core.Bool.{Bool, true, false}
 use mathlib.Core.List.{List, ◌∷◌, map}
 use lib.ListN.{length, take, drop}
 use lib.Dec.{eqb}
 use borrow.Author.Tests.{eqb-true, eqb-false}
+use Rattle.std.specs.Prelude.{Option}
 use Rattle.numbers.proofs.BytesLaws.{be_bound}
 use Rattle.types.specs.Refusals.{refusal}
 use Rattle.types.specs.Row.{rows_of, records_in}
@@ -23,9 +24,9 @@ use Rattle.parts.specs.Tiles.{of_tile, bytes_at}
 use Rattle.numbers.proofs.Choice.{by_test}
 use Rattle.parts.proofs.ScanLaws.{Stands, move_passed, rises, sot_lsot, sot_no_eoc, step_sot}
 use Rattle.tile.specs.Assembly.{and_part, parts_in}
-use Rattle.tile.specs.declared.assembly.Range.{Range}
-use Rattle.tile.proofs.AssemblyRanges.{range_kept}
+use Rattle.tile.proofs.AssemblyRanges.{part_kept}
 use Rattle.laws.specs.Demand3.{AllBytes}
+use Rattle.types.specs.declared.Reason.TheVariants.{SotLengthWrong}
 
 -- ---- a scan's entries
 
@@ -45,7 +46,7 @@ passed_lsot s at next found = by (eqb (lsot s at) 10) refl
         let stands = (move_passed s at next found).stands in
         let room = stands.room in
         let eight = step_sot s at (omega arith) (sot_no_eoc s at stands.marker) room stands.marker ∙ sot_lsot s at (eqb-false _ _ e) in
-        absurd (end_on {a = refused (refusal 8 at)} (sym (ap move_of eight) ∙ found))
+        absurd (end_on {a = refused (refusal SotLengthWrong at)} (sym (ap move_of eight) ∙ found))
 
 one_more : (s : List ℕ) (tile at : ℕ) {next : ℕ} (visits : List Visit) → move_at s at ≡ on next
     → All (OfTile s tile) (of_tile tile (map (recorded s) visits)) → All (OfTile s tile) (of_tile tile (map (recorded s) (record { at = at; next = next } ∷ visits)))
@@ -100,6 +101,5 @@ pub parts_in_lem : (s : List ℕ) (tile : ℕ) {es : List TilePartEntry} → All
 unfolding parts_in and_part bytes_at
 parts_in_lem s tile none = refl
 parts_in_lem s tile (more {e = e} {rest = rest} o all) =
-    let long : e.offset.0 + e.length - e.offset.0 ≡ e.length = omega arith in
-    ap (λ (r : Range). and_part r s (parts_in s rest)) (range_kept s e o.stands.inside)
-    ∙ ap₂ (λ (n : ℕ) (ps : List (List ℕ)). take n (drop e.offset.0 s) ∷ ps) long (parts_in_lem s tile all)
+    ap (λ (p : Option (List ℕ)). and_part p (parts_in s rest)) (part_kept s e o.stands.inside)
+    ∙ ap (λ (ps : List (List ℕ)). take e.length (drop e.offset.0 s) ∷ ps) (parts_in_lem s tile all)

@@ -7,6 +7,7 @@ use mathlib.Core.Logic.{⊎_elim}
 use mathlib.Core.List.{List, [], ◌∷◌, ◌++◌, map, append_assoc, append-nil}
 use lib.ListN.{length, length-append}
 use borrow.Author.Tests.{eq-eqb}
+use Rattle.std.specs.Prelude.{Some, Ok}
 use Rattle.numbers.specs.Bytes.{bytes_of}
 use Rattle.types.specs.Markers.{EOC}
 use Rattle.types.specs.declared.PartNumbers.{PartNumbers}
@@ -16,14 +17,13 @@ use Rattle.types.proofs.RowReading.{All}
 use Rattle.types.proofs.RowReading as all
 use Rattle.parts.specs.Sot.{tpsot, tnsot}
 use Rattle.parts.specs.Scan.{scan_step_at, entries_from}
-use Rattle.parts.specs.declared.step.ScanStep.TheVariants.{Part}
 use Rattle.parts.specs.Split.{parts_of}
 use Rattle.parts.specs.Tiles.{of_tile, bytes_at, AllLong}
 use Rattle.parts.specs.Order.{numbers_of, in_order}
 use Rattle.parts.proofs.Iso.{eoc_ends}
 use Rattle.parts.proofs.ScanLaws.{step_outside, entries_part, entries_ended}
 use Rattle.parts.proofs.OrderAnswers.{numbers_decide}
-use Rattle.parts.proofs.TilesJoined.{Parts, none, more, tile_parts, split_joined}
+use Rattle.parts.proofs.TilesJoined.{Parts, more, tile_parts, split_joined}
 use Rattle.parts.specs.Tiles as parts
 use Rattle.tile.specs.Assembly.{parts_in, patched, joined, assembled, size_for}
 use Rattle.tile.specs.Rewrite.{cut_to}
@@ -55,7 +55,7 @@ joined_numbers s p tile long = ap (map numbers_in) (split_joined s p tile long) 
 
 -- ---- assembled
 
-one_more : (a : List ℕ) (at : ℕ) (e : TilePartEntry) → e.tile_index ≡ 0 → scan_step_at a at ≡ Part e
+one_more : (a : List ℕ) (at : ℕ) (e : TilePartEntry) → e.tile_index ≡ 0 → scan_step_at a at ≡ Ok (Some e)
     → numbers_of 0 (entries_from a at) ≡ e.numbers ∷ numbers_of 0 (entries_from a (at + e.length))
 unfolding numbers_of of_tile
 one_more a at e z found = ap (numbers_of 0) (entries_part a at e found) ∙ rw (eq-eqb _ _ z)

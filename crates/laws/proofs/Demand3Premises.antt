@@ -3,11 +3,12 @@
 use Prim.Native.Nat.{ℕ, zero, suc, ◌-◌, ◌<◌}
 use native.Mathlib.Omega.{arith}
 use mathlib.Core.Path.{◌≡◌, refl}
-use mathlib.Core.Bool.{Bool, true, false, ◌&&◌, and-eq-true_iff}
+use mathlib.Core.Bool.{Bool, true, ◌&&◌, and-eq-true_iff}
 use mathlib.Core.List.{List, [], ◌∷◌, ◌++◌}
 use lib.ListN.{length}
 use lib.Dec.{ltb}
 use borrow.Author.Tests.{ltb-true}
+use Rattle.std.specs.Prelude.{Option, Some, None, Result, Ok, Err}
 use Rattle.types.specs.Refusals.{refusal}
 use Rattle.types.specs.Markers.{SOC, SIZ}
 use Rattle.types.specs.Row.{rows_of}
@@ -15,29 +16,24 @@ use Rattle.types.specs.declared.Area.{Area}
 use Rattle.types.specs.declared.Refusal.{Refusal}
 use Rattle.types.specs.declared.PartNumbers.TheVariants.{Known}
 use Rattle.types.specs.declared.TilePartEntry.{TilePartEntry}
-use Rattle.header.specs.declared.parse.MainHeader.TheVariants.{Header}
 use Rattle.header.proofs.ParseLaws.{judged_long}
 use Rattle.parts.specs.Scan.{scan_from, entries_from}
 use Rattle.parts.specs.Split.{parts_of}
 use Rattle.parts.specs.Tiles.{of_tile, bytes_at, joined, AllLong}
-use Rattle.parts.specs.declared.scan.Scanned.TheVariants.{Table}
 use Rattle.tile.specs.Rewrite.{from_zero, tile_size}
 use Rattle.tile.specs.Assembly.{parts_in, assembly_answer}
 use Rattle.tile.specs.declared.rules.Rule.{Rule}
 use Rattle.tile.specs.declared.rules.Rule.TheVariants.{AnnexB, Original, InPlace}
 use Rattle.tile.proofs.AssemblyLaws.{length_assembled}
-use Rattle.tile.specs.declared.rewrite.TileSize.{TileSize}
-use Rattle.tile.specs.declared.rewrite.TileSize.TheVariants.{Whole, Cut}
 use Rattle.laws.specs.Sample.{two, four, zeros, sot, A}
 use Rattle.laws.specs.Demand3.{AllBytes, Accepted, NoPsot0, decode_header_of, assembled_of, Assembles, Reassembled}
 use Rattle.laws.proofs.SampleComputing.{walks, scan_runs, split_runs, tiles}
 use Rattle.laws.proofs.Demand3.{demand_3}
 use Rattle.header.specs.Parse as parse
-use Rattle.header.specs.declared.parse.MainHeader.TheVariants as main
 use Rattle.parts.specs.Scan as scan
-use Rattle.parts.specs.declared.scan.Scanned.TheVariants as scans
-use Rattle.tile.specs.declared.rewrite.TileSize.TheVariants as size
-use Rattle.tile.specs.declared.rewrite.Written.TheVariants as writes
+use Rattle.types.specs.declared.Reason.TheVariants.{SegmentPastEnd, TilePartCutShort, OutputTooSmall, HeaderTooLong}
+use Rattle.types.specs.declared.Reason.{Reason}
+use Rattle.types.specs.declared.Reason.TheVariants.{TileOutside, NoGrid}
 
 -- ---- they hold of A, and tile 5
 
@@ -71,21 +67,21 @@ A-accepted =
       scan = refl;
     }
 
-cut_accepts : {a : Area} {r : Refusal} {z : TileSize} → z ≡ Cut a → z ≡ size.Refused r → ⊥
+cut_accepts : {a : Area} {r : Refusal} {z : Result (Option Area) Refusal} → z ≡ Ok (Some a) → z ≡ Err r → ⊥
 cut_accepts e f = let z : ◌≡◌ {A = ℕ} 0 1 = cc in omega arith
 
 not_empty : {e : TilePartEntry} {es : List TilePartEntry} → ◌≡◌ {A = List TilePartEntry} (e ∷ es) [] → ⊥
 not_empty e = let z : ◌≡◌ {A = ℕ} 0 1 = cc in omega arith
 
 -- what a rule makes of a tile that lies there: of one that is smaller than others, and of one of full size
-abbrev cut : Rule → ℕ → ℕ → ℕ → ℕ → TileSize
-cut AnnexB x0 y0 x1 y1 = Cut (from_zero (x1 - x0) (y1 - y0))
-cut Original x0 y0 x1 y1 = Cut (from_zero (x1 - x0) (y1 - y0))
-cut InPlace x0 y0 x1 y1 = Cut (record { x0 = x0; y0 = y0; x1 = x1; y1 = y1 })
+abbrev cut : Rule → ℕ → ℕ → ℕ → ℕ → Result (Option Area) Refusal
+cut AnnexB x0 y0 x1 y1 = Ok (Some (from_zero (x1 - x0) (y1 - y0)))
+cut Original x0 y0 x1 y1 = Ok (Some (from_zero (x1 - x0) (y1 - y0)))
+cut InPlace x0 y0 x1 y1 = Ok (Some (record { x0 = x0; y0 = y0; x1 = x1; y1 = y1 }))
 
-abbrev full : Rule → ℕ → ℕ → ℕ → ℕ → TileSize
-full AnnexB x0 y0 x1 y1 = Whole
-full Original x0 y0 x1 y1 = Whole
+abbrev full : Rule → ℕ → ℕ → ℕ → ℕ → Result (Option Area) Refusal
+full AnnexB x0 y0 x1 y1 = Ok None
+full Original x0 y0 x1 y1 = Ok None
 full InPlace x0 y0 x1 y1 = cut InPlace x0 y0 x1 y1
 
 A-tile-5 : (rule : Rule) → tile_size rule (decode_header_of A) 5 ≡ cut rule 8 4 10 6
@@ -94,7 +90,7 @@ A-tile-5 AnnexB = refl
 A-tile-5 Original = refl
 A-tile-5 InPlace = refl
 
-A-accepts : (rule : Rule) (r : Refusal) → tile_size rule (decode_header_of A) 5 ≡ size.Refused r → ⊥
+A-accepts : (rule : Rule) (r : Refusal) → tile_size rule (decode_header_of A) 5 ≡ Err r → ⊥
 A-accepts AnnexB r e = cut_accepts (A-tile-5 AnnexB) e
 A-accepts Original r e = cut_accepts (A-tile-5 Original) e
 A-accepts InPlace r e = cut_accepts (A-tile-5 InPlace) e
@@ -128,10 +124,10 @@ unfoldable pub least : List ℕ → List ℕ
 least part = begun 38 1 0 1 1 0 ++ two 0 ++ part
 
 -- the header is accepted with the first SOT at p, no TLM met; the scan from there gives these entries; and the rewrite for a tile gives a size
-abbrev Taken : Rule → List ℕ → ℕ → List TilePartEntry → ℕ → TileSize → Type 0
+abbrev Taken : Rule → List ℕ → ℕ → List TilePartEntry → ℕ → Result (Option Area) Refusal → Type 0
 Taken rule s p es tile z =
-    (parse.judged s ≡ Header (record { first_sot_offset = record { 0 = p }; decode_header_length = p; tlm_entries = 0; fillers = 0 }))
-    × (scan.judged (scan_from s p) ≡ Table (length es))
+    (parse.judged s ≡ Ok (record { first_sot_offset = record { 0 = p }; decode_header_length = p; tlm_entries = 0; fillers = 0 }))
+    × (scan.judged (scan_from s p) ≡ Ok (length es))
     × (entries_from s p ≡ es)
     × (tile_size rule (decode_header_of s) tile ≡ z)
 
@@ -169,7 +165,7 @@ shorter_taken AnnexB = (refl, refl, refl, refl)
 shorter_taken Original = (refl, refl, refl, refl)
 shorter_taken InPlace = (refl, refl, refl, refl)
 
-pub shorter_scan : (rule : Rule) → scan.judged (scan_from (assembled_of rule (least (sot 0xffd9 4)) (entry 0xffd9 42 4 ∷ [])) 42) ≡ scans.Refused (refusal 7 42)
+pub shorter_scan : (rule : Rule) → scan.judged (scan_from (assembled_of rule (least (sot 0xffd9 4)) (entry 0xffd9 42 4 ∷ [])) 42) ≡ Err (refusal TilePartCutShort 42)
 unfolding computed
 shorter_scan AnnexB = refl
 shorter_scan Original = refl
@@ -184,7 +180,7 @@ none_taken AnnexB = (refl, refl, refl, refl)
 none_taken Original = (refl, refl, refl, refl)
 none_taken InPlace = (refl, refl, refl, refl)
 
-pub none_walk : (rule : Rule) → parse.judged (assembled_of rule (least (sot 0 12)) (of_tile 1 (entries_from (least (sot 0 12)) 42))) ≡ main.Refused (refusal 3 42)
+pub none_walk : (rule : Rule) → parse.judged (assembled_of rule (least (sot 0 12)) (of_tile 1 (entries_from (least (sot 0 12)) 42))) ≡ Err (refusal SegmentPastEnd 42)
 unfolding computed
 none_walk AnnexB = refl
 none_walk Original = refl
@@ -217,7 +213,7 @@ lsiz_34_taken AnnexB = (refl, refl, refl, refl)
 lsiz_34_taken Original = (refl, refl, refl, refl)
 lsiz_34_taken InPlace = (refl, refl, refl, refl)
 
-pub lsiz_34_walk : (rule : Rule) → parse.judged (assembled_of rule ends_early (entry 0 40 12 ∷ [])) ≡ main.Refused (refusal 3 38)
+pub lsiz_34_walk : (rule : Rule) → parse.judged (assembled_of rule ends_early (entry 0 40 12 ∷ [])) ≡ Err (refusal SegmentPastEnd 38)
 unfolding computed
 lsiz_34_walk AnnexB = refl
 lsiz_34_walk Original = refl
@@ -230,18 +226,18 @@ abbrev no_size : List ℕ
 no_size = begun 38 1 0 0 1 0 ++ two 0
 
 -- what each rule refuses it by
-abbrev number : Rule → ℕ
-number AnnexB = 30
-number Original = 10
-number InPlace = 30
+abbrev reason : Rule → Reason
+reason AnnexB = NoGrid
+reason Original = TileOutside
+reason InPlace = NoGrid
 
-pub refused_taken : (rule : Rule) → Taken rule (no_size ++ sot 0 12) 42 (entry 0 42 12 ∷ []) 0 (size.Refused (refusal (number rule) 2))
+pub refused_taken : (rule : Rule) → Taken rule (no_size ++ sot 0 12) 42 (entry 0 42 12 ∷ []) 0 (Err (refusal (reason rule) 2))
 unfolding computed
 refused_taken AnnexB = (refl, refl, refl, refl)
 refused_taken Original = (refl, refl, refl, refl)
 refused_taken InPlace = (refl, refl, refl, refl)
 
-pub refused_answer : (rule : Rule) → assembly_answer rule no_size (rows_of (entry 0 42 12 ∷ [])) (no_size ++ sot 0 12) 56 ≡ writes.Refused (refusal (number rule) 2)
+pub refused_answer : (rule : Rule) → assembly_answer rule no_size (rows_of (entry 0 42 12 ∷ [])) (no_size ++ sot 0 12) 56 ≡ Err (refusal (reason rule) 2)
 unfolding computed
 refused_answer AnnexB = refl
 refused_answer Original = refl
@@ -249,7 +245,7 @@ refused_answer InPlace = refl
 
 -- ---- room
 
-pub room_answer : (rule : Rule) → assembly_answer rule (least []) (rows_of (entry 0 42 12 ∷ [])) (least (sot 0 12)) 55 ≡ writes.Refused (refusal 17 56)
+pub room_answer : (rule : Rule) → assembly_answer rule (least []) (rows_of (entry 0 42 12 ∷ [])) (least (sot 0 12)) 55 ≡ Err (refusal OutputTooSmall 56)
 unfolding computed
 room_answer AnnexB = refl
 room_answer Original = refl
@@ -259,5 +255,5 @@ room_answer InPlace = refl
 
 -- EOC makes what is assembled up to 2 bytes longer than the codestream: with no TLM and one part to the end, 2^32-2 bytes are enough
 pub long_walk : (rule : Rule) (s : List ℕ) (es : List TilePartEntry) → 0xffff_ffff < length (assembled_of rule s es)
-    → parse.judged (assembled_of rule s es) ≡ main.Refused (refusal 19 0)
+    → parse.judged (assembled_of rule s es) ≡ Err (refusal HeaderTooLong 0)
 long_walk rule s es h = judged_long (assembled_of rule s es) h

@@ -9,6 +9,7 @@ use mathlib.Core.Bool.{true}
 use mathlib.Core.List.{List, [], ◌∷◌, ◌++◌, map, append_assoc, append-nil}
 use lib.ListN.{length, get_or, length-append, length-take, length-drop}
 use borrow.Author.Tests.{le-leb, eq-eqb}
+use Rattle.std.specs.Prelude.{Some, Ok}
 use Rattle.numbers.specs.Bytes.{be, bytes_of, put}
 use Rattle.numbers.proofs.BytesLaws.{be_rest, be_front, be_part, be_put, be_put_before, be_put_after, be_bytes_of, length_bytes}
 use Rattle.numbers.proofs.Rows.{be_one}
@@ -18,8 +19,6 @@ use Rattle.types.specs.declared.TilePartEntry.{TilePartEntry}
 use Rattle.parts.specs.Sot.{lsot, isot, psot, tpsot, tnsot}
 use Rattle.parts.specs.Scan.{sot_step_at, scan_step_at, scan_from, judged}
 use Rattle.parts.specs.Tiles.{bytes_at, AllLong}
-use Rattle.parts.specs.declared.step.ScanStep.TheVariants.{Part}
-use Rattle.parts.specs.declared.scan.Scanned.TheVariants.{Table}
 use Rattle.parts.proofs.ScanLaws.{step_sot, sot_no_eoc, sot_rest, sot_part, same_part, Scans, scans_end, scans_part}
 use Rattle.parts.proofs.ScanAnswers.{scans_judged}
 use Rattle.parts.proofs.Iso.{eoc_ends}
@@ -128,7 +127,7 @@ module _ (s : List ℕ) (tile : ℕ) (e : TilePartEntry) (o : OfTile s tile e) (
 
     pub step_there : (psot s e.offset.0 ≡ 0 → ⊥)
         → scan_step_at (front ++ (patched (bytes_at s e) ++ y)) (length front)
-        ≡ Part (record { tile_index = 0; numbers = e.numbers; offset = record { 0 = length front }; length = e.length })
+        ≡ Ok (Some (record { tile_index = 0; numbers = e.numbers; offset = record { 0 = length front }; length = e.length }))
     unfolding whole
     step_there some =
         let size : psot s e.offset.0 ≡ e.length = ⊎_elim (λ l. l) (λ z. absurd (some z.0)) o.stands.long in
@@ -139,7 +138,7 @@ module _ (s : List ℕ) (tile : ℕ) (e : TilePartEntry) (o : OfTile s tile e) (
     -- with Psot 0 it takes all that stands after it
     pub step_last : psot s e.offset.0 ≡ 0
         → scan_step_at (front ++ (patched (bytes_at s e) ++ y)) (length front)
-        ≡ Part (record { tile_index = 0; numbers = e.numbers; offset = record { 0 = length front }; length = e.length + length y })
+        ≡ Ok (Some (record { tile_index = 0; numbers = e.numbers; offset = record { 0 = length front }; length = e.length + length y }))
     unfolding whole
     step_last z =
         sot_there
@@ -168,5 +167,5 @@ length_under at [] = refl
 length_under at (e ∷ es) = ap suc (length_under (at + e.length) es)
 
 -- so it is accepted
-pub scans_table : {a : List ℕ} {at : ℕ} (es : List TilePartEntry) → Scans a at (under_zero at es) → judged (scan_from a at) ≡ Table (length es)
+pub scans_table : {a : List ℕ} {at : ℕ} (es : List TilePartEntry) → Scans a at (under_zero at es) → judged (scan_from a at) ≡ Ok (length es)
 scans_table {a} {at} es h = scans_judged (length es) h (length_under at es)

@@ -9,6 +9,7 @@ use mathlib.Core.List.{List, [], ◌∷◌, ◌++◌, append_assoc}
 use lib.ListN.{length, take, length-append}
 use lib.Seq.{get_or-take, take-append-le, drop-append-le, length-take-le, take-add}
 use borrow.Author.Tests.{ne_eqb}
+use Rattle.std.specs.Prelude.{Option, Some, None, Result, Ok, Err}
 use Rattle.numbers.specs.Bytes.{be, put}
 use Rattle.numbers.proofs.BytesLaws.{be_cong, be_rest, be_front, be_put_before, length_put}
 use Rattle.types.specs.Markers.{SIZ, TLM, CAP, SOT}
@@ -25,12 +26,12 @@ use Rattle.header.proofs.WalkVisited.{length_visited}
 use Rattle.header.proofs.WalkItems.{Item, delimiter, segment, item, item_long, ends_sot, passes_again}
 use Rattle.tile.specs.Siz.{one_tile}
 use Rattle.tile.specs.Rewrite.{cut_to}
-use Rattle.tile.specs.declared.rewrite.TileSize.{TileSize}
-use Rattle.tile.specs.declared.rewrite.TileSize.TheVariants.{Whole, Cut, Refused}
 use Rattle.tile.proofs.RewriteHeader.{length_one}
 use Rattle.laws.specs.Demand3.{AllBytes}
 use Rattle.laws.proofs.Demand3Edition.{SameCaps, none, cap_later, caps_on, fits_again}
 use Rattle.laws.proofs.Demand3Items.{kept_tlm, kept_other, by_marker, piece, Field, field, marker_again, pass_again}
+use Rattle.types.specs.declared.Area.{Area}
+use Rattle.types.specs.declared.Refusal.{Refusal}
 
 -- ---- the walk over what is kept
 
@@ -115,24 +116,24 @@ put_front f k at bs h =
 
 module _ (f : List ℕ) (long : 40 ≤ length f) where
   -- only the front of a header is cut
-  cut_front : (z : TileSize) (k : List ℕ) → cut_to z (f ++ k) ≡ cut_to z f ++ k
+  cut_front : (z : Result (Option Area) Refusal) (k : List ℕ) → cut_to z (f ++ k) ≡ cut_to z f ++ k
   unfolding cut_to
-  cut_front Whole k = refl
-  cut_front (Cut a) k = put_front f k 8 (one_tile a) (omega (arith, length_one a))
-  cut_front (Refused r) k = refl
+  cut_front (Ok None) k = refl
+  cut_front (Ok (Some a)) k = put_front f k 8 (one_tile a) (omega (arith, length_one a))
+  cut_front (Err r) k = refl
 
-  cut_length : (z : TileSize) → length (cut_to z f) ≡ length f
+  cut_length : (z : Result (Option Area) Refusal) → length (cut_to z f) ≡ length f
   unfolding cut_to
-  cut_length Whole = refl
-  cut_length (Cut a) = length_put f 8 (one_tile a) (omega (arith, length_one a))
-  cut_length (Refused r) = refl
+  cut_length (Ok None) = refl
+  cut_length (Ok (Some a)) = length_put f 8 (one_tile a) (omega (arith, length_one a))
+  cut_length (Err r) = refl
 
   -- SOC, the SIZ marker and Lsiz stay
-  cut_keeps : (z : TileSize) (i : ℕ) → i ≤ 6 → be 2 (cut_to z f) i ≡ be 2 f i
+  cut_keeps : (z : Result (Option Area) Refusal) (i : ℕ) → i ≤ 6 → be 2 (cut_to z f) i ≡ be 2 f i
   unfolding cut_to
-  cut_keeps Whole i h = refl
-  cut_keeps (Cut a) i h = be_put_before 2 f 8 (one_tile a) i (omega arith) (omega arith)
-  cut_keeps (Refused r) i h = refl
+  cut_keeps (Ok None) i h = refl
+  cut_keeps (Ok (Some a)) i h = be_put_before 2 f 8 (one_tile a) i (omega arith) (omega arith)
+  cut_keeps (Err r) i h = refl
 
 siz_no_delimiter : delimits SIZ ≡ false
 unfolding delimits
@@ -150,7 +151,7 @@ front_is s next h =
     sym (take-add 2 (next - 2) s) ∙ ap (λ (n : ℕ). take n s) back
 
 -- the SIZ segment from SOC on, cut, with anything after it
-module _ (s : List ℕ) (marker : be 2 s 2 ≡ SIZ) (lsiz : 36 ≤ be 2 s 4) (next : ℕ) (siz : Item s 2 next) (inside : next ≤ length s) (z : TileSize) where
+module _ (s : List ℕ) (marker : be 2 s 2 ≡ SIZ) (lsiz : 36 ≤ be 2 s 4) (next : ℕ) (siz : Item s 2 next) (inside : next ≤ length s) (z : Result (Option Area) Refusal) where
   abbrev cut : List ℕ
   cut = cut_to z (take 2 s ++ piece s 2 next)
 
@@ -192,7 +193,7 @@ pub record Rewalked (s caps a : List ℕ) (to : ℕ) : Type 0 where
 rewalked_as : {s caps a b : List ℕ} {to stop : ℕ} → a ≡ b → to ≡ stop → Rewalked s caps a to → Rewalked s caps b stop
 rewalked_as e f r = rw (← e, ← f) r
 
-module _ (s : List ℕ) (bytes : AllBytes s) (rest : List ℕ) (two : 2 ≤ length rest) (begins : be 2 rest 0 ≡ SOT) (marker : be 2 s 2 ≡ SIZ) (lsiz : 36 ≤ be 2 s 4) (z : TileSize) where
+module _ (s : List ℕ) (bytes : AllBytes s) (rest : List ℕ) (two : 2 ≤ length rest) (begins : be 2 rest 0 ≡ SOT) (marker : be 2 s 2 ≡ SIZ) (lsiz : 36 ≤ be 2 s 4) (z : Result (Option Area) Refusal) where
   rewalked_run : {stop : ℕ} {visits : List Visit} → Run (walk_at s) 2 visits stop → be 2 s stop ≡ SOT
       → Rewalked s (caps_in s visits) (cut_to z (decode_header s visits) ++ rest) (length (decode_header s visits))
   unfolding decode_header

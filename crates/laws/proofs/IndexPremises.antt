@@ -3,7 +3,7 @@ use Prim.Native.Nat.{ℕ}
 use native.Mathlib.Omega.{arith}
 use mathlib.Core.Path.{◌≡◌, refl, sym, ap, ◌∙◌}
 use mathlib.Core.List.{List, [], ◌∷◌, ◌++◌}
-use lib.ListN.{length}
+use Rattle.std.specs.Prelude.{Ok}
 use Rattle.types.specs.declared.PartNumbers.TheVariants.{Known}
 use Rattle.types.specs.declared.TilePartEntry.{TilePartEntry}
 use Rattle.types.proofs.RowReading.{All, none, more}
@@ -14,7 +14,6 @@ use Rattle.index.specs.Merge.{merged}
 use Rattle.index.specs.Run.{run_in}
 use Rattle.index.specs.Extend.{index_after, index_made}
 use Rattle.index.specs.Entries.{picked, entries_by}
-use Rattle.index.specs.declared.extend.Indexed.TheVariants.{Entries}
 use Rattle.index.proofs.Lookup.{run_nothing, run_there}
 use Rattle.index.proofs.IndexLaws.{absent_empty, call_afresh, same_run, same_parts, Ascends, runs_ascend, times, standing, Small, each_once, single, too_large, pair}
 use Rattle.tile.specs.declared.rules.Rule.{Rule}
@@ -61,11 +60,11 @@ number_too_wide = refl
 abbrev both : List TilePartEntry
 both = entry 0 0 12 ∷ entry 1 12 12 ∷ []
 
-pub stale : index_after (Entries 2) both 1 (key_of 1 0 ∷ 9 ∷ []) ≡ key_of 1 0 ∷ key_of 1 1 ∷ []
+pub stale : index_after (Ok 2) both 1 (key_of 1 0 ∷ 9 ∷ []) ≡ key_of 1 0 ∷ key_of 1 1 ∷ []
 unfolding indexes
 stale = ap (λ (l : List ℕ). merged (key_of 1 0 ∷ []) l ++ []) (single 1 (entry 1 12 12) (omega arith))
 
-pub made : index_made (Entries 2) both (key_of 1 0 ∷ 9 ∷ []) ≡ key_of 0 0 ∷ key_of 1 1 ∷ []
+pub made : index_made (Ok 2) both (key_of 1 0 ∷ 9 ∷ []) ≡ key_of 0 0 ∷ key_of 1 1 ∷ []
 unfolding index_made indexes
 made = ap (λ (l : List ℕ). l ++ []) (pair (entry 0 0 12) (entry 1 12 12) (omega arith) (omega arith))
 
@@ -99,8 +98,8 @@ unfolding scan_runs
 A-absent = absent_empty 1 (entries_from A 57) (omega arith) (few A 57 A-accepted) refl
 
 -- tile 5 arrives behind tile 0: a call, and tile 0 before and after it
-pub A-extended : index_after (Entries 2) (entry 0 57 14 ∷ entry 5 71 16 ∷ []) 1 (key_of 0 0 ∷ 9 ∷ []) ≡ index_made (Entries 2) (entry 0 57 14 ∷ entry 5 71 16 ∷ []) (key_of 0 0 ∷ 9 ∷ [])
-A-extended = call_afresh (Entries 2) (entry 0 57 14 ∷ entry 5 71 16 ∷ []) 1 (key_of 0 0 ∷ 9 ∷ []) (omega arith) (omega arith) (sym (single 0 (entry 0 57 14) (omega arith)))
+pub A-extended : index_after (Ok 2) (entry 0 57 14 ∷ entry 5 71 16 ∷ []) 1 (key_of 0 0 ∷ 9 ∷ []) ≡ index_made (Ok 2) (entry 0 57 14 ∷ entry 5 71 16 ∷ []) (key_of 0 0 ∷ 9 ∷ [])
+A-extended = call_afresh (Ok 2) (entry 0 57 14 ∷ entry 5 71 16 ∷ []) 1 (key_of 0 0 ∷ 9 ∷ []) (omega arith) (omega arith) (sym (single 0 (entry 0 57 14) (omega arith)))
 
 pub A-same-run : run_in (index_of ((entry 0 57 14 ∷ []) ++ (entry 5 71 16 ∷ []))) 0 ≡ run_in (index_of (entry 0 57 14 ∷ [])) 0
 unfolding scan_runs

@@ -6,6 +6,7 @@ use mathlib.Core.Path.{◌≡◌, refl, sym, ◌∙◌}
 use mathlib.Core.List.{List, [], ◌∷◌, ◌++◌, map}
 use lib.ListN.{length, take, length-take}
 use lib.Seq.{take-length}
+use Rattle.std.specs.Prelude.{None, Ok, Err}
 use Rattle.types.specs.Refusals.{refusal}
 use Rattle.header.specs.Tlm.{Entry}
 use Rattle.header.specs.Walk.{at_first_sot, walk_from}
@@ -18,13 +19,13 @@ use Rattle.parts.specs.Scan.{entries_from}
 use Rattle.lengths.specs.Segments.{tlms_of, once, ordered, Rising, NotFalling}
 use Rattle.lengths.specs.Check.{listed, behind_header, checked, Compares, unnumbered}
 use Rattle.lengths.specs.Iso.{Apart, Distinct, part_entries, codestream}
-use Rattle.lengths.specs.declared.check.Check.TheVariants.{Passes, Refused}
 use Rattle.lengths.proofs.CheckFileOrder.{listed_in_file_order, passes_table}
 use Rattle.lengths.proofs.IsoCheck.{pass_standard}
 use Rattle.laws.specs.Sample.{tlm_of, sot, A, lean}
 use Rattle.laws.proofs.SampleComputing.{length_tables}
 use Rattle.laws.proofs.SampleEdges.{check_A, check_58, check_59}
 use Rattle.laws.proofs.SampleStandard.{siz, lengths, first, second, parts, standards, A-main, A-parts, A-lengths}
+use Rattle.types.specs.declared.Reason.TheVariants.{NoTilePart, HeaderTooLong}
 
 abbrev of : ℕ → ℕ → Entry
 of index bytes = record { index = index; bytes = bytes }
@@ -75,7 +76,7 @@ twice_not_rising r = let low = r.0 in omega arith
 -- ---- the bytes of which the header is read
 
 -- one fewer than are enough is refused
-pub enough_needed : (checked A 58 ≡ Refused (refusal 6 58)) × (checked A 59 ≡ Passes)
+pub enough_needed : (checked A 58 ≡ Err (refusal NoTilePart 58)) × (checked A 59 ≡ Ok None)
 enough_needed = (check_58, check_59)
 
 -- A is the standard's, and passes by its law, whatever stands behind it
@@ -94,13 +95,13 @@ header_57 : length (main_header siz (tlm lengths ∷ [])) ≡ 57
 unfolding standards
 header_57 = refl
 
-pub longer_passes : (behind : List ℕ) → checked (longer behind) 59 ≡ Passes
+pub longer_passes : (behind : List ℕ) → checked (longer behind) 59 ≡ Ok None
 unfolding tables
 longer_passes behind =
     pass_standard siz (tlm lengths ∷ []) first (second ∷ []) behind A-main A-parts 59 (omega (arith, header_57)) (omega (arith, length-take 59 (longer behind)))
     A-distinct (A-lengths ∙ sym A-listed)
 
 -- past 2^32-1 bytes the whole is refused, and is not if the header is read of a part
-pub longer_refused : (behind : List ℕ) → 0xffff_ffff < length (longer behind) → checked (longer behind) (length (longer behind)) ≡ Refused (refusal 19 0)
+pub longer_refused : (behind : List ℕ) → 0xffff_ffff < length (longer behind) → checked (longer behind) (length (longer behind)) ≡ Err (refusal HeaderTooLong 0)
 unfolding checked behind_header
 longer_refused behind long = rw (take-length (longer behind), judged_long (longer behind) long)

@@ -1,7 +1,7 @@
 -- The premises of the laws on the order of a tile's tile-parts: each is needed, by a smallest input without it, and is met by something real.
 use Prim.Native.Nat.{ℕ}
 use native.Mathlib.Omega.{arith}
-use mathlib.Core.Path.{◌≡◌, refl, ap, ◌∙◌}
+use mathlib.Core.Path.{◌≡◌, refl, ◌∙◌}
 use mathlib.Core.Bool.{true, false}
 use mathlib.Core.List.{List, [], ◌∷◌, ◌++◌, map}
 use lib.ListN.{length}
@@ -18,9 +18,9 @@ use Rattle.parts.specs.Tiles as parts
 use Rattle.tile.specs.Assembly.{parts_in, assembled}
 use Rattle.tile.specs.declared.rules.Rule.{Rule}
 use Rattle.tile.specs.declared.rules.Rule.TheVariants.{AnnexB, Original, InPlace}
-use Rattle.laws.specs.Sample.{two, four, sot_of, sot, head, A}
+use Rattle.laws.specs.Sample.{two, four, sot, head, A}
 use Rattle.laws.proofs.SampleComputing.{orders, split_runs, tiles}
-use Rattle.laws.proofs.SampleEdges.{numbered, A-in-order, A-scan}
+use Rattle.laws.proofs.SampleEdges.{numbered, A-in-order}
 use Rattle.laws.proofs.Demand3Order.{numbers_in, joined_numbers, assembled_in_order}
 use Rattle.laws.proofs.Rows.{order_agrees}
 

@@ -7,16 +7,14 @@ use mathlib.Core.Bool.{cond}
 use mathlib.Core.List.{List, ◌++◌}
 use lib.ListN.{length, take, drop}
 use lib.Dec.{leb}
+use Rattle.std.specs.Prelude.{Some, None, Result, Ok, Err}
 use Rattle.types.specs.declared.TilePartEntry.{TilePartEntry}
 use Rattle.types.specs.declared.Refusal.{Refusal}
 use Rattle.header.specs.Extent.{extent_of, told_by, enough_of, enough}
 use Rattle.header.specs.Parse.{judged_as, parsed, table_after, out_after}
 use Rattle.header.specs.declared.numbering.Numbering.{Numbering}
 use Rattle.header.specs.declared.reading.Reading.{Reading}
-use Rattle.header.specs.declared.extent.MainHeaderExtent.TheVariants.{Complete, Truncated}
 use Rattle.header.specs.declared.parse.MainHeaderInfo.{MainHeaderInfo}
-use Rattle.header.specs.declared.parse.MainHeader.{MainHeader}
-use Rattle.header.specs.declared.parse.MainHeader.TheVariants.{Header, Refused}
 use Rattle.header.proofs.NumberingLaws.{by_accepted}
 use Rattle.header.proofs.EditionLaws.{as_accepted}
 use Rattle.header.proofs.ParseLaws.{judged_read}
@@ -34,10 +32,10 @@ use Rattle.laws.specs.Region.{ReadAlike}
 -- ---- any prefix that is enough
 
 module _ (s : List ℕ) (n : ℕ) (held : enough s ≤ n) where
-  records_enough : (m : Numbering) (answer : MainHeader) (table : List TilePartEntry) → records_after m answer (take n s) table ≡ records_after m answer s table
+  records_enough : (m : Numbering) (answer : Result MainHeaderInfo Refusal) (table : List TilePartEntry) → records_after m answer (take n s) table ≡ records_after m answer s table
   unfolding records_after
-  records_enough m (Header h) table = ap (λ (es : List TilePartEntry). es ++ drop h.tlm_entries table) (table_enough s n held m)
-  records_enough m (Refused r) table = refl
+  records_enough m (Ok h) table = ap (λ (es : List TilePartEntry). es ++ drop h.tlm_entries table) (table_enough s n held m)
+  records_enough m (Err r) table = refl
 
   -- with the answers all else is the same
   alike : length s ≤ 0xffff_ffff → ((how : Reading) (rows room : ℕ) → parsed how (take n s) rows room ≡ parsed how s rows room) → ReadAlike (take n s) s
@@ -46,15 +44,15 @@ module _ (s : List ℕ) (n : ℕ) (held : enough s ≤ n) where
         answer = same;
         table =
             λ how rows room table.
-            ap (λ (a : MainHeader). table_after how.numbering a (take n s) table) (same how rows room)
+            ap (λ (a : Result MainHeaderInfo Refusal). table_after how.numbering a (take n s) table) (same how rows room)
             ∙ table_after_enough s n held how.numbering (parsed how s rows room) table;
         records =
             λ how rows room table.
-            ap (λ (a : MainHeader). records_after how.numbering a (take n s) table) (same how rows room)
+            ap (λ (a : Result MainHeaderInfo Refusal). records_after how.numbering a (take n s) table) (same how rows room)
             ∙ records_enough how.numbering (parsed how s rows room) table;
         out =
             λ how rows room out.
-            ap (λ (a : MainHeader). out_after a (take n s) out) (same how rows room) ∙ out_after_enough s n held (parsed how s rows room) out;
+            ap (λ (a : Result MainHeaderInfo Refusal). out_after a (take n s) out) (same how rows room) ∙ out_after_enough s n held (parsed how s rows room) out;
         marker = finding_enough s n held short;
       }
 
@@ -64,7 +62,7 @@ module _ (s : List ℕ) (n : ℕ) (held : enough s ≤ n) where
 -- ---- the region at which growth ends
 
 -- where no SOT is reached, the whole
-pub growth_whole : (s : List ℕ) → extent_of s ≡ Truncated → (grown s).region ≡ length s
+pub growth_whole : (s : List ℕ) → extent_of s ≡ None → (grown s).region ≡ length s
 unfolding enough enough_of
 growth_whole s e =
     let all : enough s ≡ length s = ap (enough_of (length s)) e in
@@ -83,13 +81,13 @@ region_checked s short = check_enough s (grown s).region (rw (grown_region s) (g
 
 -- ---- where the walk accepts with the first SOT at p
 
-module _ (how : Reading) (s : List ℕ) (h : MainHeaderInfo) (accepts : judged_as how s ≡ Header h) where
+module _ (how : Reading) (s : List ℕ) (h : MainHeaderInfo) (accepts : judged_as how s ≡ Ok h) where
   abbrev p : ℕ
   p = h.first_sot_offset.0
 
   -- the extent of each prefix is Complete(p) exactly when its length is at least p + 2, and otherwise Truncated (the first n bytes; the whole where there are
   -- no more, which has p + 2)
-  pub prefix_extent : (n : ℕ) → extent_of (take n s) ≡ cond (leb (p + 2) n) (Complete h.first_sot_offset) Truncated
+  pub prefix_extent : (n : ℕ) → extent_of (take n s) ≡ cond (leb (p + 2) n) (Some h.first_sot_offset) None
   unfolding told_by
   prefix_extent n = extent_prefix s n ∙ ap (told_by n) (accepted_complete how s h accepts)
 
@@ -102,7 +100,7 @@ module _ (how : Reading) (s : List ℕ) (h : MainHeaderInfo) (accepts : judged_a
   growth_ends = (grown_region s, rw (sym enough_accepted) (grown_first s))
 
   -- no region before it will do: the walk on it refuses, however it is read
-  pub no_earlier : (again : Reading) (j : ℕ) → j < (grown s).enlargements → (r : Refusal) × (judged_as again (take (region_at (length s) j) s) ≡ Refused r)
+  pub no_earlier : (again : Reading) (j : ℕ) → j < (grown s).enlargements → (r : Refusal) × (judged_as again (take (region_at (length s) j) s) ≡ Err r)
   no_earlier again j few = fewer_refused how again s h accepts (region_at (length s) j) (growth_ends.1.none j few)
 
   -- the walk on it gives the same p, decode header and table as on the whole

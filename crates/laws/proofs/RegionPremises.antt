@@ -1,6 +1,6 @@
 -- The premises of how much header is enough. They hold of sample A, and of a header that needs a second region; and each is needed: a byte fewer than
 -- enough is refused; past 2^32-1 bytes the whole is refused and its region is not; and with items that are no bytes an SOT may overlap Rsiz.
-use Prim.Native.Nat.{ℕ, ◌+◌, ◌-◌, ◌≤◌, ◌<◌, min}
+use Prim.Native.Nat.{ℕ, ◌+◌, ◌≤◌, ◌<◌, min}
 use native.Mathlib.Omega.{arith}
 use mathlib.Core.Path.{◌≡◌, refl, sym, ap, ◌∙◌}
 use mathlib.Core.Bool.{cond}
@@ -8,15 +8,13 @@ use mathlib.Core.List.{List, [], ◌∷◌, ◌++◌}
 use lib.ListN.{length, take, length-append, length-take}
 use lib.Seq.{take-append-add}
 use lib.Dec.{leb}
+use Rattle.std.specs.Prelude.{Some, None, Result, Ok, Err}
 use Rattle.types.specs.Refusals.{refusal}
 use Rattle.header.specs.Extent.{extent_of, enough_of, enough}
 use Rattle.header.specs.Reading.{older_by, newer_by, by_default}
 use Rattle.header.specs.Parse.{judged_as}
 use Rattle.header.specs.declared.numbering.Numbering.TheVariants.{CarriedOn, Restarting}
 use Rattle.header.specs.declared.reading.Reading.{Reading}
-use Rattle.header.specs.declared.extent.MainHeaderExtent.TheVariants.{Complete, Truncated}
-use Rattle.header.specs.declared.parse.MainHeader.{MainHeader}
-use Rattle.header.specs.declared.parse.MainHeader.TheVariants.{Header, Refused}
 use Rattle.header.proofs.NumberingLaws.{by_refused}
 use Rattle.header.proofs.EditionLaws.{as_refused, as_older}
 use Rattle.header.proofs.ParseLaws.{front_long}
@@ -31,10 +29,13 @@ use Rattle.laws.proofs.SampleEdges.{A-length, header_58, header_59, sot_65534, s
 use Rattle.laws.proofs.SampleNumbering.{three, restarting}
 use Rattle.laws.proofs.SampleStandard.{siz}
 use Rattle.laws.proofs.Region.{prefix_extent, enough_accepted}
+use Rattle.header.specs.declared.parse.MainHeaderInfo.{MainHeaderInfo}
+use Rattle.types.specs.declared.Refusal.{Refusal}
+use Rattle.types.specs.declared.Reason.TheVariants.{NoSiz, NoTilePart, HeaderTooLong, CapOutOfPlace}
 
-abbrev accepted : ℕ → ℕ → ℕ → MainHeader
+abbrev accepted : ℕ → ℕ → ℕ → Result MainHeaderInfo Refusal
 accepted first long entries =
-    Header (record { first_sot_offset = record { 0 = first }; decode_header_length = long; tlm_entries = entries; fillers = 0 })
+    Ok (record { first_sot_offset = record { 0 = first }; decode_header_length = long; tlm_entries = entries; fillers = 0 })
 
 -- ---- they hold of A: 59 bytes are enough
 
@@ -42,22 +43,22 @@ A-read : judged_as by_default A ≡ accepted 57 45 2
 unfolding editions
 A-read = refl
 
-A-extent : extent_of A ≡ Complete (record { 0 = 57 })
+A-extent : extent_of A ≡ Some (record { 0 = 57 })
 A-extent = accepted_complete by_default A _ A-read
 
 pub A-enough : enough A ≡ 59
 A-enough = enough_accepted by_default A _ A-read
 
-pub A-prefixes : (n : ℕ) → extent_of (take n A) ≡ cond (leb 59 n) (Complete (record { 0 = 57 })) Truncated
+pub A-prefixes : (n : ℕ) → extent_of (take n A) ≡ cond (leb 59 n) (Some (record { 0 = 57 })) None
 A-prefixes n = prefix_extent by_default A _ A-read n
 
 -- with one fewer the walk refuses
-pub enough_needed : (judged_as by_default (take 58 A) ≡ Refused (refusal 6 58)) × (judged_as by_default (take 59 A) ≡ judged_as by_default A)
+pub enough_needed : (judged_as by_default (take 58 A) ≡ Err (refusal NoTilePart 58)) × (judged_as by_default (take 59 A) ≡ judged_as by_default A)
 enough_needed = (header_58, header_59 ∙ sym A-read)
 
 -- ---- and of a header that is refused: SOC, and SOT where SIZ should be
 
-pub refused_told : (extent_of (0xff ∷ 0x4f ∷ 0xff ∷ 0x90 ∷ []) ≡ Complete (record { 0 = 2 })) × (judged_as by_default (0xff ∷ 0x4f ∷ 0xff ∷ 0x90 ∷ []) ≡ Refused (refusal 2 2))
+pub refused_told : (extent_of (0xff ∷ 0x4f ∷ 0xff ∷ 0x90 ∷ []) ≡ Some (record { 0 = 2 })) × (judged_as by_default (0xff ∷ 0x4f ∷ 0xff ∷ 0x90 ∷ []) ≡ Err (refusal NoSiz 2))
 unfolding extents editions
 refused_told = (refl, refl)
 
@@ -73,7 +74,7 @@ second_region t =
 -- ---- past 2^32-1 bytes: A with that many behind it is refused whole, however it is read; growth takes 65,536 bytes, which are accepted
 
 module _ (t : List ℕ) (long : 0xffff_ffff < length (A ++ t)) where
-  pub long_refused : (how : Reading) → judged_as how (A ++ t) ≡ Refused (refusal 19 0)
+  pub long_refused : (how : Reading) → judged_as how (A ++ t) ≡ Err (refusal HeaderTooLong 0)
   long_refused how = as_refused how (A ++ t) _ (by_refused how.numbering (A ++ t) _ (front_long (A ++ t) long))
 
   pub long_region : grown (A ++ t) ≡ record { region = 65536; enlargements = 0 }
@@ -94,6 +95,6 @@ module _ (t : List ℕ) (long : 0xffff_ffff < length (A ++ t)) where
 abbrev no_bytes : List ℕ
 no_bytes = 0xff ∷ 0x4f ∷ 0xff ∷ 0x51 ∷ 0 ∷ 1 ∷ 0xfe90 ∷ 0x4000 ∷ []
 
-pub bytes_needed : (enough no_bytes ≡ 7) × ((judged_as (newer_by CarriedOn) (take 7 no_bytes) ≡ accepted 5 5 0) × (judged_as (newer_by CarriedOn) no_bytes ≡ Refused (refusal 33 2)))
+pub bytes_needed : (enough no_bytes ≡ 7) × ((judged_as (newer_by CarriedOn) (take 7 no_bytes) ≡ accepted 5 5 0) × (judged_as (newer_by CarriedOn) no_bytes ≡ Err (refusal CapOutOfPlace 2)))
 unfolding enough enough_of extents editions
 bytes_needed = (refl, (refl, refl))

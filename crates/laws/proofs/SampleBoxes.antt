@@ -7,6 +7,7 @@ use mathlib.Core.List.{List, [], ◌∷◌, ◌++◌}
 use lib.ListN.{length, length-append}
 use Rattle.numbers.specs.Rows.{row, bytes_of_rows}
 use Rattle.types.specs.Refusals.{refusal}
+use Rattle.types.specs.declared.Reason.{Reason}
 use Rattle.reader.specs.Search.{JP2C}
 use Rattle.reader.specs.Iso.{Form, plain, last, IsoBox, box_rows, header_size, box_bytes, Stands, signature}
 use Rattle.reader.specs.Boxes.{Listing, refused}
@@ -20,8 +21,8 @@ use Rattle.laws.proofs.SampleComputing.{box_trees}
 abbrev pub listed_as : ℕ → ℕ → ℕ → ℕ → ℕ → BoxEntry
 listed_as depth kind start content long = record { depth = depth; kind = kind; start = record { 0 = start }; content = record { 0 = content }; length = long }
 
-abbrev pub unlisted : ℕ → ℕ → Listing
-unlisted number place = refused (refusal number place)
+abbrev pub unlisted : Reason → ℕ → Listing
+unlisted reason place = refused (refusal reason place)
 
 unfoldable pub tree_bytes_lem : Unit {0}
 unfolding box_trees bytes_of_rows box_rows header_size box_bytes tree_bytes tree_entries signature

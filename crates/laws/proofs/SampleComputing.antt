@@ -28,7 +28,7 @@ use Rattle.tile.specs.Original.{fitting, reaching, axis_of, columns_of, both_axe
 use Rattle.tile.specs.AnnexB.{laid, cells_of, from_of, to_of, cell_area, in_cells, on_grid, grid_tile}
 use Rattle.tile.specs.Rules.{image_area, by_annex_b, by_original, placed_by}
 use Rattle.tile.specs.Rewrite.{sized, moved, cut_by, size_of, size_in, tile_size, cut_to, rewritten, over, rewrite_answer, rewrite_out}
-use Rattle.tile.specs.Assembly.{range_of, and_part, parts_in, is_sot, patched, part_size, size_for, joined, assembled, answer_for, assembly_answer, assembly_out}
+use Rattle.tile.specs.Assembly.{part_of, and_part, parts_in, is_sot, patched, part_size, size_for, joined, assembled, answer_for, assembly_answer, assembly_out}
 use Rattle.reader.specs.Components.{siz_whole, count_held, apart, all_apart, components_read, at_tile, components_in_tile, divided, component_at, is_there, component_in, chosen, component_of, component_in_tile}
 use Rattle.reader.specs.Search.{box_at, content, passed, on_box, found_from, is_jp2, found_in}
 use Rattle.laws.specs.Sample.{two, four, siz_from, siz_of, siz, header, grid, counting, tlm_of, tlm, announcing, cap, sot_of, sot, part, head, with_tlm, listing, A, lean, signature, jp2c, box_head, long_head, box, nest}
@@ -88,7 +88,7 @@ unfolding samples part_end split_step_at split.move_of split.move_at split_from 
 split_runs = tt
 
 unfoldable pub tiles : Unit {0}
-unfolding samples pair one_tile ceil_div fitting reaching axis_of columns_of both_axes in_grid tile_area laid cells_of from_of to_of cell_area in_cells on_grid grid_tile by_annex_b by_original placed_by sized moved cut_by size_of size_in tile_size cut_to rewritten rewrite.with_room rewrite.judged over rewrite_answer rewrite_out records_at records_from records_in range_of and_part parts_in is_sot patched part_size size_for joined assembled answer_for assembly_answer assembly_out
+unfolding samples pair one_tile ceil_div fitting reaching axis_of columns_of both_axes in_grid tile_area laid cells_of from_of to_of cell_area in_cells on_grid grid_tile by_annex_b by_original placed_by sized moved cut_by size_of size_in tile_size cut_to rewritten rewrite.with_room rewrite.judged over rewrite_answer rewrite_out records_at records_from records_in part_of and_part parts_in is_sot patched part_size size_for joined assembled answer_for assembly_answer assembly_out
 tiles = tt
 
 unfoldable pub searches : Unit {0}

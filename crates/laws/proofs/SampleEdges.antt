@@ -8,6 +8,7 @@ use mathlib.Core.List.{List, [], ◌∷◌, ◌++◌, map, flatten}
 use lib.ListN.{length, take, replicate}
 use lib.Dec.{eqb}
 use borrow.Author.Tests.{ne_eqb}
+use Rattle.std.specs.Prelude.{Option, Some, None, Result, Ok, Err}
 use Rattle.numbers.specs.Bytes.{bytes_of}
 use Rattle.types.specs.Markers.{SOC, CAP, SOT, EOC}
 use Rattle.types.specs.Refusals.{refusal}
@@ -35,22 +36,14 @@ use Rattle.header.proofs.EditionLaws.{as_refused}
 use Rattle.header.proofs.IsoMain.{up_to_sot}
 use Rattle.header.specs.Find.{finding}
 use Rattle.header.specs.declared.step.HeaderStep.TheVariants.{Delimiter, Segment}
-use Rattle.header.specs.declared.find.Finding.{Finding}
-use Rattle.header.specs.declared.find.Finding.TheVariants.{Absent}
-use Rattle.header.specs.declared.extent.MainHeaderExtent.TheVariants.{Complete, Truncated}
-use Rattle.header.specs.declared.parse.MainHeader.{MainHeader}
-use Rattle.header.specs.declared.parse.MainHeader.TheVariants.{Header}
 use Rattle.parts.specs.Scan.{entries_from, scanned, scanned_table}
 use Rattle.parts.specs.Split.{parts_of}
 use Rattle.parts.specs.Tiles.{of_tile}
 use Rattle.parts.specs.Order.{in_order}
 use Rattle.parts.proofs.OrderAnswers.{TPsotByte}
-use Rattle.parts.specs.declared.scan.Scanned.TheVariants.{Table}
 use Rattle.lengths.specs.Check.{differing}
 use Rattle.lengths.specs.Check as lengths
-use Rattle.lengths.specs.declared.check.Said.TheVariants.{Part, Nothing}
-use Rattle.lengths.specs.declared.check.Check.{Check}
-use Rattle.lengths.specs.declared.check.Check.TheVariants as check
+use Rattle.lengths.specs.declared.check.Said.{Said}
 use Rattle.index.specs.Index.{key_of, index_of}
 use Rattle.index.specs.Index.{numbered as numbered-entries}
 use Rattle.index.specs.Merge.{merged}
@@ -58,8 +51,6 @@ use Rattle.index.specs.Run.{run_in}
 use Rattle.index.specs.Extend.{extended, index_after}
 use Rattle.index.specs.Entries.{picked, entries_by}
 use Rattle.index.specs.Entries as entries
-use Rattle.index.specs.declared.extend.Indexed.TheVariants.{Entries}
-use Rattle.index.specs.declared.extend.Indexed.TheVariants as index
 use Rattle.index.proofs.Lookup.{run_there}
 use Rattle.index.proofs.IndexLaws.{run_of_tile, pair}
 use Rattle.index.proofs.IndexLaws as index-laws
@@ -67,18 +58,11 @@ use Rattle.tile.specs.Rewrite.{from_zero, tile_size, rewritten, rewrite_answer, 
 use Rattle.tile.specs.Assembly.{assembly_answer, assembly_out}
 use Rattle.tile.specs.declared.rules.Rule.{Rule}
 use Rattle.tile.specs.declared.rules.Rule.TheVariants.{AnnexB, Original, InPlace}
-use Rattle.tile.specs.declared.rewrite.TileSize.{TileSize}
-use Rattle.tile.specs.declared.rewrite.TileSize.TheVariants.{Whole, Cut}
-use Rattle.tile.specs.declared.rewrite.Written.TheVariants.{Bytes}
 use Rattle.reader.specs.Components.{components_read, components_in_tile, component_of, component_in_tile}
-use Rattle.reader.specs.declared.components.ComponentsRead.{ComponentsRead}
-use Rattle.reader.specs.declared.components.ComponentRead.{ComponentRead}
-use Rattle.reader.specs.Search.{JP2C, found_in}
+use Rattle.reader.specs.Search.{JP2C, found_in, codestream}
 use Rattle.reader.specs.Boxes.{boxes, boxes_of, entries_of}
 use Rattle.reader.specs.Boxes as tree
-use Rattle.reader.specs.declared.boxes.Counted.TheVariants as count
 use Rattle.reader.specs.Growth.{region_at, grown}
-use Rattle.reader.specs.declared.search.Found.TheVariants.{Codestream}
 use Rattle.reader.proofs.GrowthLaws.{region_pow, whole_suffices, truncated_not, grown_end, grown_on}
 use Rattle.reader.proofs.GrowthFirst.{grown_only}
 use Rattle.laws.proofs.SampleComputing.{samples, extents, walks, numberings, editions, findings, scan_runs, length_tables, orders, indexes, split_runs, tiles, searches, box_trees, siz_readings, components}
@@ -89,16 +73,14 @@ use Rattle.laws.proofs.SampleBoxes.{listed_as, unlisted}
 use Rattle.laws.specs.Sample.{two, zeros, siz_of, header, grid, counting, tlm_of, tlm, announcing, cap, sot_of, sot, part, head, with_tlm, listing, A, lean, signature, jp2c, JP2H, RES, UINF, IHDR, RESC, ULST, UUID, box_head, long_head, box, nest}
 use Rattle.laws.proofs.SampleStandard as standard
 use Rattle.laws.proofs.SampleNumbering as many
-use Rattle.header.specs.declared.parse.MainHeader.TheVariants as parse
-use Rattle.header.specs.declared.find.Finding.TheVariants as finds
-use Rattle.parts.specs.declared.scan.Scanned.TheVariants as scans
-use Rattle.tile.specs.declared.rewrite.TileSize.TheVariants as size
-use Rattle.tile.specs.declared.rewrite.Written.TheVariants as writes
-use Rattle.reader.specs.declared.search.Found.TheVariants as found
-use Rattle.reader.specs.declared.siz.SizRead.TheVariants as read
-use Rattle.reader.specs.declared.components.ComponentsRead.TheVariants as checks
-use Rattle.reader.specs.declared.components.ComponentRead.TheVariants as one
 use Rattle.reader.specs.Siz as siz-reading
+use Rattle.reader.specs.declared.components.ComponentInfo.{ComponentInfo}
+use Rattle.reader.specs.declared.components.Components.{Components}
+use Rattle.lengths.specs.declared.check.Difference.{Difference}
+use Rattle.header.specs.declared.parse.MainHeaderInfo.{MainHeaderInfo}
+use Rattle.types.specs.declared.Refusal.{Refusal}
+use Rattle.types.specs.declared.Reason.{Reason}
+use Rattle.types.specs.declared.Reason.TheVariants.{NoSoc, NoSiz, SegmentPastEnd, TlmTooShort, TlmFormUnknown, NoTilePart, TilePartCutShort, TilePartPastEnd, TileOutside, BoxCutShort, NoCodestreamBox, CodestreamBoxTooShort, BoxTooLong, OutputTooSmall, TableTooSmall, SizNotFound, ImageEndsBeforeItStarts, ComponentsNotHeld, SubsamplingOf0, TlmTooManyEntries, BoxDoesNotFit, BoxLengthWrong, BoxesTooDeep, NoGrid, NoSuchTile, TlmNumberRepeated, CapOutOfPlace, CapLengthWrong}
 
 abbrev newer : Reading
 newer = newer_by CarriedOn
@@ -110,12 +92,12 @@ unfolding samples
 A-length = refl
 
 -- a main header: first SOT, decode header, TLM entries and fillers
-abbrev filled : ℕ → ℕ → ℕ → ℕ → MainHeader
+abbrev filled : ℕ → ℕ → ℕ → ℕ → Result MainHeaderInfo Refusal
 filled first long entries fillers =
-    Header (record { first_sot_offset = record { 0 = first }; decode_header_length = long; tlm_entries = entries; fillers = fillers })
+    Ok (record { first_sot_offset = record { 0 = first }; decode_header_length = long; tlm_entries = entries; fillers = fillers })
 
 -- one without fillers
-abbrev accepted : ℕ → ℕ → ℕ → MainHeader
+abbrev accepted : ℕ → ℕ → ℕ → Result MainHeaderInfo Refusal
 accepted first long entries = filled first long entries 0
 
 abbrev recorded : PartNumbers → ℕ → ℕ → ℕ → TilePartEntry
@@ -129,8 +111,8 @@ abbrev only : ℕ → ℕ → ℕ → TilePartEntry
 only = recorded (Known 0 1)
 
 -- where a marker is found
-abbrev at : ℕ → Finding
-at offset = finds.At (record { 0 = offset })
+abbrev at : ℕ → Result (Option CodestreamOffset) Refusal
+at offset = Ok (Some (record { 0 = offset }))
 
 pub A-header : judged A ≡ accepted 57 45 2
 unfolding walks
@@ -151,15 +133,15 @@ A-scan = refl
 
 -- ---- * A: extent of 58 bytes Truncated, of 59 Complete(57); as a main header 58 bytes are refused, and 59 accepted as the whole is.
 
-pub extent_58 : extent_of (take 58 A) ≡ Truncated
+pub extent_58 : extent_of (take 58 A) ≡ None
 unfolding extents
 extent_58 = refl
 
-pub extent_59 : extent_of (take 59 A) ≡ Complete (record { 0 = 57 })
+pub extent_59 : extent_of (take 59 A) ≡ Some (record { 0 = 57 })
 unfolding extents
 extent_59 = refl
 
-pub header_58 : judged_as by_default (take 58 A) ≡ parse.Refused (refusal 6 58)
+pub header_58 : judged_as by_default (take 58 A) ≡ Err (refusal NoTilePart 58)
 unfolding editions
 header_58 = refl
 
@@ -195,7 +177,7 @@ header_0 AnnexB = head
 header_0 Original = head
 header_0 InPlace = header 4 4 0 0 4 4
 
-pub tile_5 : (rule : Rule) → tile_size rule head 5 ≡ Cut (put_5 rule)
+pub tile_5 : (rule : Rule) → tile_size rule head 5 ≡ Ok (Some (put_5 rule))
 unfolding tiles
 tile_5 AnnexB = refl
 tile_5 Original = refl
@@ -207,7 +189,7 @@ tile_5_header AnnexB = refl
 tile_5_header Original = refl
 tile_5_header InPlace = refl
 
-pub tile_5_assembled : (rule : Rule) → assembly_answer rule head (lent 5) A 63 ≡ Bytes 63
+pub tile_5_assembled : (rule : Rule) → assembly_answer rule head (lent 5) A 63 ≡ Ok 63
 unfolding scan_runs tiles
 tile_5_assembled AnnexB = refl
 tile_5_assembled Original = refl
@@ -225,27 +207,27 @@ tile_0 AnnexB = refl
 tile_0 Original = refl
 tile_0 InPlace = refl
 
-pub tile_0_assembled : (rule : Rule) → assembly_answer rule head (lent 0) A 61 ≡ Bytes 61
+pub tile_0_assembled : (rule : Rule) → assembly_answer rule head (lent 0) A 61 ≡ Ok 61
 unfolding scan_runs tiles
 tile_0_assembled AnnexB = refl
 tile_0_assembled Original = refl
 tile_0_assembled InPlace = refl
 
--- ---- * A, tile 6: y0 is 8, past 6: refusal 10 by the original's rule, and 31 by Annex B and in place, as there are six tiles.
+-- ---- * A, tile 6: y0 is 8, past 6: refusal TileOutside by the original's rule, and 31 by Annex B and in place, as there are six tiles.
 
-pub tile_6 : rewrite_answer Original head 6 45 ≡ writes.Refused (refusal 10 2)
+pub tile_6 : rewrite_answer Original head 6 45 ≡ Err (refusal TileOutside 2)
 unfolding tiles
 tile_6 = refl
 
-pub tile_6_annex : rewrite_answer AnnexB head 6 45 ≡ writes.Refused (refusal 31 2)
+pub tile_6_annex : rewrite_answer AnnexB head 6 45 ≡ Err (refusal NoSuchTile 2)
 unfolding tiles
 tile_6_annex = refl
 
-pub tile_6_in_place : rewrite_answer InPlace head 6 45 ≡ writes.Refused (refusal 31 2)
+pub tile_6_in_place : rewrite_answer InPlace head 6 45 ≡ Err (refusal NoSuchTile 2)
 unfolding tiles
 tile_6_in_place = refl
 
--- ---- * In place: XTOsiz 0, XOsiz 3, XTsiz 4, Xsiz 10, tile 0: from 3 to 4; tile 1, of full size: from 4 to 8. YTsiz 0: refusal 30.
+-- ---- * In place: XTOsiz 0, XOsiz 3, XTsiz 4, Xsiz 10, tile 0: from 3 to 4; tile 1, of full size: from 4 to 8. YTsiz 0: refusal NoGrid.
 
 pub in_place_clipped : rewritten InPlace (grid 10 4 3 0 4 4 0 0) 0 ≡ grid 4 4 3 0 1 4 3 0
 unfolding tiles
@@ -255,7 +237,7 @@ pub in_place_full : rewritten InPlace (grid 10 4 3 0 4 4 0 0) 1 ≡ grid 8 4 4 0
 unfolding tiles
 in_place_full = refl
 
-pub in_place_no_grid : rewrite_answer InPlace (header 10 6 0 0 4 0) 0 45 ≡ writes.Refused (refusal 30 2)
+pub in_place_no_grid : rewrite_answer InPlace (header 10 6 0 0 4 0) 0 45 ≡ Err (refusal NoGrid 2)
 unfolding tiles
 in_place_no_grid = refl
 
@@ -269,15 +251,15 @@ pub marker_tlm : finding A 0xff55 ≡ at 45
 unfolding findings
 marker_tlm = refl
 
-pub marker_soc : finding A 0xff4f ≡ Absent
+pub marker_soc : finding A 0xff4f ≡ Ok None
 unfolding findings
 marker_soc = refl
 
-pub marker_sot : finding A 0xff90 ≡ Absent
+pub marker_sot : finding A 0xff90 ≡ Ok None
 unfolding findings
 marker_sot = refl
 
-pub marker_ppm : finding A 0xff60 ≡ Absent
+pub marker_ppm : finding A 0xff60 ≡ Ok None
 unfolding findings
 marker_ppm = refl
 
@@ -290,25 +272,25 @@ pub ppm_first : finding (with_tlm (ppm ++ ppm)) 0xff60 ≡ at 45
 unfolding findings
 ppm_first = refl
 
-pub ppm_in_text : finding (with_tlm (0xff ∷ 0x64 ∷ 0 ∷ 6 ∷ 0 ∷ 1 ∷ 0xff ∷ 0x60 ∷ [])) 0xff60 ≡ Absent
+pub ppm_in_text : finding (with_tlm (0xff ∷ 0x64 ∷ 0 ∷ 6 ∷ 0 ∷ 1 ∷ 0xff ∷ 0x60 ∷ [])) 0xff60 ≡ Ok None
 unfolding findings
 ppm_in_text = refl
 
-pub ppm_behind : finding (head ++ part 0 19 ppm) 0xff60 ≡ Absent
+pub ppm_behind : finding (head ++ part 0 19 ppm) 0xff60 ≡ Ok None
 unfolding findings
 ppm_behind = refl
 
-pub ppm_high_byte : finding (with_tlm (0x7f ∷ 0x60 ∷ 0 ∷ 3 ∷ 0 ∷ [])) 0xff60 ≡ Absent
+pub ppm_high_byte : finding (with_tlm (0x7f ∷ 0x60 ∷ 0 ∷ 3 ∷ 0 ∷ [])) 0xff60 ≡ Ok None
 unfolding findings
 ppm_high_byte = refl
 
--- ---- * A marker of no byte: refusal 1. Of A without its last TLM entry's byte, so that the walk comes to no SOT: 3, also where the marker was passed.
+-- ---- * A marker of no byte: refusal NoSoc. Of A without its last TLM entry's byte, so that the walk comes to no SOT: 3, also where the marker was passed.
 
-pub marker_of_nothing : finding [] 0xff60 ≡ finds.Refused (refusal 1 0)
+pub marker_of_nothing : finding [] 0xff60 ≡ Err (refusal NoSoc 0)
 unfolding findings
 marker_of_nothing = refl
 
-pub marker_refused : finding (take 56 A) 0xff51 ≡ finds.Refused (refusal 3 45)
+pub marker_refused : finding (take 56 A) 0xff51 ≡ Err (refusal SegmentPastEnd 45)
 unfolding findings
 marker_refused = refl
 
@@ -371,10 +353,10 @@ pub filler_behind : judged (head ++ (two SOT ++ two 0x0030)) ≡ accepted 45 45 
 unfolding walks
 filler_behind = refl
 
--- ---- * Ltlm 3: refusal 4. Ltlm 4: no entries.
+-- ---- * Ltlm 3: refusal TlmTooShort. Ltlm 4: no entries.
 
 -- no Stlm
-pub ltlm_3 : judged (with_tlm (0xff ∷ 0x55 ∷ 0 ∷ 3 ∷ 0 ∷ [])) ≡ parse.Refused (refusal 4 45)
+pub ltlm_3 : judged (with_tlm (0xff ∷ 0x55 ∷ 0 ∷ 3 ∷ 0 ∷ [])) ≡ Err (refusal TlmTooShort 45)
 unfolding walks
 ltlm_3 = refl
 
@@ -452,7 +434,7 @@ single_carried = refl
 pub carried_65535 : judged_by CarriedOn (up_to_sot standard.siz (three 32_765 5) []) ≡ accepted 131_133 45 65_535
 carried_65535 = many.carried 32_765 5 (omega arith) (omega arith) (omega arith)
 
-pub carried_65536 : judged_by CarriedOn (up_to_sot standard.siz (three 32_765 6) []) ≡ parse.Refused (refusal 26 131_117)
+pub carried_65536 : judged_by CarriedOn (up_to_sot standard.siz (three 32_765 6) []) ≡ Err (refusal TlmTooManyEntries 131_117)
 unfolding bytes_of
 carried_65536 = many.past 32_765 6 (omega arith) (omega arith) (omega arith) (omega arith) (bytes_of 2 SOT ++ []) (omega arith)
 
@@ -461,27 +443,27 @@ restarting_65536 = many.restarting 32_765 6 (omega arith) (omega arith)
 
 -- ---- * 65,536 of them, and behind them a segment that is cut: 26 at the third of theirs; restarting, 3.
 
-pub past_before_3 : judged_by CarriedOn (main_header standard.siz (three 32_765 6) ++ many.cut) ≡ parse.Refused (refusal 26 131_117)
+pub past_before_3 : judged_by CarriedOn (main_header standard.siz (three 32_765 6) ++ many.cut) ≡ Err (refusal TlmTooManyEntries 131_117)
 past_before_3 = many.past 32_765 6 (omega arith) (omega arith) (omega arith) (omega arith) many.cut (omega arith)
 
-pub restarting_3 : judged_by Restarting (main_header standard.siz (three 32_765 6) ++ many.cut) ≡ parse.Refused (refusal 3 131_135)
-restarting_3 = many.own_restarts 32_765 6 (omega arith) (omega arith) many.cut (omega arith) 3 many.cut_there
+pub restarting_3 : judged_by Restarting (main_header standard.siz (three 32_765 6) ++ many.cut) ≡ Err (refusal SegmentPastEnd 131_135)
+restarting_3 = many.own_restarts 32_765 6 (omega arith) (omega arith) many.cut (omega arith) SegmentPastEnd many.cut_there
 
 -- ---- * 65,536 of them, and behind them one segment more with one: 26 at the third, where the number first passes.
 
-pub past_before_past : judged_by CarriedOn (main_header standard.siz (three 32_765 6) ++ many.one_more) ≡ parse.Refused (refusal 26 131_117)
+pub past_before_past : judged_by CarriedOn (main_header standard.siz (three 32_765 6) ++ many.one_more) ≡ Err (refusal TlmTooManyEntries 131_117)
 past_before_past = many.past 32_765 6 (omega arith) (omega arith) (omega arith) (omega arith) many.one_more (omega arith)
 
 -- ---- * 65,535 of them, and behind them one that is cut, with Ltlm 3, or with ST 3: 3, 4, 5 there.
 
-pub at_65535_3 : judged_by CarriedOn (main_header standard.siz (three 32_765 5) ++ many.cut) ≡ parse.Refused (refusal 3 131_133)
-at_65535_3 = many.own_carries 32_765 5 (omega arith) (omega arith) many.cut (omega arith) 3 many.cut_there (omega arith)
+pub at_65535_3 : judged_by CarriedOn (main_header standard.siz (three 32_765 5) ++ many.cut) ≡ Err (refusal SegmentPastEnd 131_133)
+at_65535_3 = many.own_carries 32_765 5 (omega arith) (omega arith) many.cut (omega arith) SegmentPastEnd many.cut_there (omega arith)
 
-pub at_65535_4 : judged_by CarriedOn (main_header standard.siz (three 32_765 5) ++ many.ltlm_3) ≡ parse.Refused (refusal 4 131_133)
-at_65535_4 = many.own_carries 32_765 5 (omega arith) (omega arith) many.ltlm_3 (omega arith) 4 many.ltlm_3_there (omega arith)
+pub at_65535_4 : judged_by CarriedOn (main_header standard.siz (three 32_765 5) ++ many.ltlm_3) ≡ Err (refusal TlmTooShort 131_133)
+at_65535_4 = many.own_carries 32_765 5 (omega arith) (omega arith) many.ltlm_3 (omega arith) TlmTooShort many.ltlm_3_there (omega arith)
 
-pub at_65535_5 : judged_by CarriedOn (main_header standard.siz (three 32_765 5) ++ many.st_3) ≡ parse.Refused (refusal 5 131_133)
-at_65535_5 = many.own_carries 32_765 5 (omega arith) (omega arith) many.st_3 (omega arith) 5 many.st_3_there (omega arith)
+pub at_65535_5 : judged_by CarriedOn (main_header standard.siz (three 32_765 5) ++ many.st_3) ≡ Err (refusal TlmFormUnknown 131_133)
+at_65535_5 = many.own_carries 32_765 5 (omega arith) (omega arith) many.st_3 (omega arith) TlmFormUnknown many.st_3_there (omega arith)
 
 -- ---- * `FF4F FF51 0002 FF90`: bytes 6 and 7 are the SOT, whose bit 14 is set. In the newer edition 33 at 2; the older accepts. With Rsiz 0 before the
 -- SOT the newer accepts.
@@ -489,7 +471,7 @@ at_65535_5 = many.own_carries 32_765 5 (omega arith) (omega arith) many.st_3 (om
 abbrev shortest : List ℕ
 shortest = 0xff ∷ 0x4f ∷ 0xff ∷ 0x51 ∷ 0 ∷ 2 ∷ 0xff ∷ 0x90 ∷ []
 
-pub sot_announces : judged_as newer shortest ≡ parse.Refused (refusal 33 2)
+pub sot_announces : judged_as newer shortest ≡ Err (refusal CapOutOfPlace 2)
 unfolding editions
 sot_announces = refl
 
@@ -503,7 +485,7 @@ rsiz_0 = refl
 
 -- ---- * Rsiz 4000: 33 at 2 without CAP, accepted with one. Rsiz BFFF: accepted without, 33 at the CAP with one.
 
-pub cap_missing : judged_as newer (announcing 0x4000 []) ≡ parse.Refused (refusal 33 2)
+pub cap_missing : judged_as newer (announcing 0x4000 []) ≡ Err (refusal CapOutOfPlace 2)
 unfolding editions
 cap_missing = refl
 
@@ -515,31 +497,31 @@ pub cap_unannounced : judged_as newer (announcing 0xbfff []) ≡ accepted 8 8 0
 unfolding editions
 cap_unannounced = refl
 
-pub cap_unwanted : judged_as newer (announcing 0xbfff (cap 6 0 [])) ≡ parse.Refused (refusal 33 8)
+pub cap_unwanted : judged_as newer (announcing 0xbfff (cap 6 0 [])) ≡ Err (refusal CapOutOfPlace 8)
 unfolding editions
 cap_unwanted = refl
 
 -- ---- * Two CAP: announced, 33 at the second; not announced, at the first.
 
-pub cap_repeated : judged_as newer (announcing 0x4000 (cap 6 0 [] ++ cap 6 0 [])) ≡ parse.Refused (refusal 33 16)
+pub cap_repeated : judged_as newer (announcing 0x4000 (cap 6 0 [] ++ cap 6 0 [])) ≡ Err (refusal CapOutOfPlace 16)
 unfolding editions
 cap_repeated = refl
 
-pub caps_unwanted : judged_as newer (announcing 0 (cap 6 0 [] ++ cap 6 0 [])) ≡ parse.Refused (refusal 33 8)
+pub caps_unwanted : judged_as newer (announcing 0 (cap 6 0 [] ++ cap 6 0 [])) ≡ Err (refusal CapOutOfPlace 8)
 unfolding editions
 caps_unwanted = refl
 
 -- ---- * Lcap 5: 34. Lcap 6: accepted if Pcap is 0, and 34 with a one. Lcap 8: 34, accepted. 32 ones: Lcap 68 34, Lcap 70 accepted.
 
-pub lcap_5 : judged_as newer (announcing 0x4000 (two CAP ++ two 5 ++ zeros 3)) ≡ parse.Refused (refusal 34 8)
+pub lcap_5 : judged_as newer (announcing 0x4000 (two CAP ++ two 5 ++ zeros 3)) ≡ Err (refusal CapLengthWrong 8)
 unfolding editions
 lcap_5 = refl
 
-pub lcap_6_one : judged_as newer (announcing 0x4000 (cap 6 1 [])) ≡ parse.Refused (refusal 34 8)
+pub lcap_6_one : judged_as newer (announcing 0x4000 (cap 6 1 [])) ≡ Err (refusal CapLengthWrong 8)
 unfolding editions
 lcap_6_one = refl
 
-pub lcap_8_none : judged_as newer (announcing 0x4000 (cap 8 0 (zeros 2))) ≡ parse.Refused (refusal 34 8)
+pub lcap_8_none : judged_as newer (announcing 0x4000 (cap 8 0 (zeros 2))) ≡ Err (refusal CapLengthWrong 8)
 unfolding editions
 lcap_8_none = refl
 
@@ -547,7 +529,7 @@ pub lcap_8_one : judged_as newer (announcing 0x4000 (cap 8 0x2_0000 (zeros 2))) 
 unfolding editions
 lcap_8_one = refl
 
-pub lcap_68 : judged_as newer (announcing 0x4000 (cap 68 0xffff_ffff (zeros 62))) ≡ parse.Refused (refusal 34 8)
+pub lcap_68 : judged_as newer (announcing 0x4000 (cap 68 0xffff_ffff (zeros 62))) ≡ Err (refusal CapLengthWrong 8)
 unfolding editions
 lcap_68 = refl
 
@@ -557,40 +539,40 @@ lcap_70 = refl
 
 -- ---- * A wrong Lcap and a second CAP: 33 at the second, whichever is the wrong one.
 
-pub cap_33_first : judged_as newer (announcing 0x4000 (cap 6 1 [] ++ cap 6 0 [])) ≡ parse.Refused (refusal 33 16)
+pub cap_33_first : judged_as newer (announcing 0x4000 (cap 6 1 [] ++ cap 6 0 [])) ≡ Err (refusal CapOutOfPlace 16)
 unfolding editions
 cap_33_first = refl
 
-pub cap_33_too : judged_as newer (announcing 0x4000 (cap 6 0 [] ++ cap 6 1 [])) ≡ parse.Refused (refusal 33 16)
+pub cap_33_too : judged_as newer (announcing 0x4000 (cap 6 0 [] ++ cap 6 1 [])) ≡ Err (refusal CapOutOfPlace 16)
 unfolding editions
 cap_33_too = refl
 
 -- ---- * CAP missing, and behind it a segment that is cut: 3. CAP not wanted, and numbers past 65,534 before it: 26.
 
-pub cap_after_3 : judged_as newer (announcing 0x4000 (two 0xff64 ++ two 0xffff)) ≡ parse.Refused (refusal 3 8)
+pub cap_after_3 : judged_as newer (announcing 0x4000 (two 0xff64 ++ two 0xffff)) ≡ Err (refusal SegmentPastEnd 8)
 unfolding editions
 cap_after_3 = refl
 
-pub cap_after_26 : judged_as newer (main_header standard.siz (three 32_765 6) ++ (two CAP ++ two 2 ++ two SOT)) ≡ parse.Refused (refusal 26 131_117)
+pub cap_after_26 : judged_as newer (main_header standard.siz (three 32_765 6) ++ (two CAP ++ two 2 ++ two SOT)) ≡ Err (refusal TlmTooManyEntries 131_117)
 unfolding two bytes_of
 cap_after_26 =
-    as_refused newer _ (refusal 26 131_117) (many.past 32_765 6 (omega arith) (omega arith) (omega arith) (omega arith) (two CAP ++ two 2 ++ two SOT) (omega arith))
+    as_refused newer _ (refusal TlmTooManyEntries 131_117) (many.past 32_765 6 (omega arith) (omega arith) (omega arith) (omega arith) (two CAP ++ two 2 ++ two SOT) (omega arith))
 
 -- ---- * CAP missing, and no room: 33; in the older edition 18, then 17. A wrong Lcap, and no room: 34.
 
-pub cap_before_18 : parsed newer (announcing 0x4000 (tlm 0x10 (5 ∷ 0 ∷ 14 ∷ []))) 0 0 ≡ parse.Refused (refusal 33 2)
+pub cap_before_18 : parsed newer (announcing 0x4000 (tlm 0x10 (5 ∷ 0 ∷ 14 ∷ []))) 0 0 ≡ Err (refusal CapOutOfPlace 2)
 unfolding editions
 cap_before_18 = refl
 
-pub older_18 : parsed by_default (announcing 0x4000 (tlm 0x10 (5 ∷ 0 ∷ 14 ∷ []))) 0 0 ≡ parse.Refused (refusal 18 1)
+pub older_18 : parsed by_default (announcing 0x4000 (tlm 0x10 (5 ∷ 0 ∷ 14 ∷ []))) 0 0 ≡ Err (refusal TableTooSmall 1)
 unfolding editions
 older_18 = refl
 
-pub lcap_before_17 : parsed newer (announcing 0x4000 (cap 6 1 [])) 0 0 ≡ parse.Refused (refusal 34 8)
+pub lcap_before_17 : parsed newer (announcing 0x4000 (cap 6 1 [])) 0 0 ≡ Err (refusal CapLengthWrong 8)
 unfolding editions
 lcap_before_17 = refl
 
-pub older_17 : parsed by_default (announcing 0x4000 (cap 6 1 [])) 0 0 ≡ parse.Refused (refusal 17 16)
+pub older_17 : parsed by_default (announcing 0x4000 (cap 6 1 [])) 0 0 ≡ Err (refusal OutputTooSmall 16)
 unfolding editions
 older_17 = refl
 
@@ -600,7 +582,7 @@ pub cap_inside : judged_as newer (announcing 0 (two 0xff64 ++ two 10 ++ cap 6 0 
 unfolding editions
 cap_inside = refl
 
-pub cap_behind : judged_as newer (announcing 0x4000 [] ++ cap 6 0 []) ≡ parse.Refused (refusal 33 2)
+pub cap_behind : judged_as newer (announcing 0x4000 [] ++ cap 6 0 []) ≡ Err (refusal CapOutOfPlace 2)
 unfolding editions
 cap_behind = refl
 
@@ -620,17 +602,17 @@ edition_2 = refl
 
 -- ---- * Psot equal to the rest: accepted; one more: 9.
 
-pub psot_rest : scanned (part 0 14 []) 0 1 ≡ Table 1
+pub psot_rest : scanned (part 0 14 []) 0 1 ≡ Ok 1
 unfolding scan_runs
 psot_rest = refl
 
-pub psot_past : scanned (part 0 15 []) 0 1 ≡ scans.Refused (refusal 9 0)
+pub psot_past : scanned (part 0 15 []) 0 1 ≡ Err (refusal TilePartPastEnd 0)
 unfolding scan_runs
 psot_past = refl
 
 -- ---- * SOT, Isot 0, Psot 5, then 10 zero bytes: one entry of 5, accepted. Without the zeros: 7 at 5.
 
-pub psot_5 : scanned (sot 0 5 ++ zeros 10) 0 1 ≡ Table 1
+pub psot_5 : scanned (sot 0 5 ++ zeros 10) 0 1 ≡ Ok 1
 unfolding scan_runs
 psot_5 = refl
 
@@ -638,17 +620,17 @@ pub psot_5_entry : entries_from (sot 0 5 ++ zeros 10) 0 ≡ only 0 0 5 ∷ []
 unfolding scan_runs
 psot_5_entry = refl
 
-pub psot_5_short : scanned (sot 0 5) 0 1 ≡ scans.Refused (refusal 7 5)
+pub psot_5_short : scanned (sot 0 5) 0 1 ≡ Err (refusal TilePartCutShort 5)
 unfolding scan_runs
 psot_5_short = refl
 
 -- ---- * One byte after the last part: 7. Twelve zero bytes after it: accepted.
 
-pub one_after : scanned (part 0 14 [] ++ zeros 1) 0 1 ≡ scans.Refused (refusal 7 14)
+pub one_after : scanned (part 0 14 [] ++ zeros 1) 0 1 ≡ Err (refusal TilePartCutShort 14)
 unfolding scan_runs
 one_after = refl
 
-pub twelve_after : scanned (part 0 14 [] ++ zeros 12) 0 1 ≡ Table 1
+pub twelve_after : scanned (part 0 14 [] ++ zeros 12) 0 1 ≡ Ok 1
 unfolding scan_runs
 twelve_after = refl
 
@@ -829,55 +811,55 @@ one_tile_lem = pair (only 7 0 14) (only 7 14 14) (omega arith) (omega arith)
 
 -- ---- * Index of two entries into room for two; one. Scratch for two; one. One of them old: scratch for one; none. Three said to be old: scratch for two; one.
 
-pub two_fit : extended 2 0 2 2 ≡ Entries 2
+pub two_fit : extended 2 0 2 2 ≡ Ok 2
 unfolding indexes
 two_fit = refl
 
-pub no_key : extended 2 0 1 2 ≡ index.Refused (refusal 18 2)
+pub no_key : extended 2 0 1 2 ≡ Err (refusal TableTooSmall 2)
 unfolding indexes
 no_key = refl
 
-pub no_scratch : extended 2 0 2 1 ≡ index.Refused (refusal 18 2)
+pub no_scratch : extended 2 0 2 1 ≡ Err (refusal TableTooSmall 2)
 unfolding indexes
 no_scratch = refl
 
-pub one_old : extended 2 1 2 1 ≡ Entries 2
+pub one_old : extended 2 1 2 1 ≡ Ok 2
 unfolding indexes
 one_old = refl
 
-pub one_old_no_scratch : extended 2 1 2 0 ≡ index.Refused (refusal 18 2)
+pub one_old_no_scratch : extended 2 1 2 0 ≡ Err (refusal TableTooSmall 2)
 unfolding indexes
 one_old_no_scratch = refl
 
-pub too_old : extended 2 3 2 2 ≡ Entries 2
+pub too_old : extended 2 3 2 2 ≡ Ok 2
 unfolding indexes
 too_old = refl
 
-pub too_old_no_scratch : extended 2 3 2 1 ≡ index.Refused (refusal 18 2)
+pub too_old_no_scratch : extended 2 3 2 1 ≡ Err (refusal TableTooSmall 2)
 unfolding indexes
 too_old_no_scratch = refl
 
 -- ---- * Index of 2^48 entries; one more, with any room.
 
-pub most_numbered : extended 0x1_0000_0000_0000 0 0x1_0000_0000_0000 0x1_0000_0000_0000 ≡ Entries 0x1_0000_0000_0000
+pub most_numbered : extended 0x1_0000_0000_0000 0 0x1_0000_0000_0000 0x1_0000_0000_0000 ≡ Ok 0x1_0000_0000_0000
 unfolding indexes
 most_numbered = refl
 
-pub too_many : extended 0x1_0000_0000_0001 0 0x1_0000_0000_0001 0x1_0000_0000_0001 ≡ index.Refused (refusal 18 0x1_0000_0000_0001)
+pub too_many : extended 0x1_0000_0000_0001 0 0x1_0000_0000_0001 0x1_0000_0000_0001 ≡ Err (refusal TableTooSmall 0x1_0000_0000_0001)
 unfolding indexes
 too_many = refl
 
 -- ---- * Extended by a part of tile 5 where tile 5 has one, and tile 0; by none. Where the old keys are no index.
 
-pub gains : index_after (Entries 3) (only 5 0 14 ∷ only 0 14 14 ∷ only 5 28 14 ∷ []) 2 (key 0 1 ∷ key 5 0 ∷ 9 ∷ []) ≡ key 0 1 ∷ key 5 0 ∷ key 5 2 ∷ []
+pub gains : index_after (Ok 3) (only 5 0 14 ∷ only 0 14 14 ∷ only 5 28 14 ∷ []) 2 (key 0 1 ∷ key 5 0 ∷ 9 ∷ []) ≡ key 0 1 ∷ key 5 0 ∷ key 5 2 ∷ []
 unfolding indexes
 gains = ap (λ (l : List ℕ). merged (key 0 1 ∷ key 5 0 ∷ []) l ++ []) (index-laws.single 2 (only 5 28 14) (omega arith))
 
-pub gains_before : index_after (Entries 3) (only 5 0 14 ∷ only 0 14 14 ∷ only 0 28 14 ∷ []) 2 (key 0 1 ∷ key 5 0 ∷ 9 ∷ []) ≡ key 0 1 ∷ key 0 2 ∷ key 5 0 ∷ []
+pub gains_before : index_after (Ok 3) (only 5 0 14 ∷ only 0 14 14 ∷ only 0 28 14 ∷ []) 2 (key 0 1 ∷ key 5 0 ∷ 9 ∷ []) ≡ key 0 1 ∷ key 0 2 ∷ key 5 0 ∷ []
 unfolding indexes
 gains_before = ap (λ (l : List ℕ). merged (key 0 1 ∷ key 5 0 ∷ []) l ++ []) (index-laws.single 2 (only 0 28 14) (omega arith))
 
-pub no_index : index_after (Entries 3) (only 5 0 14 ∷ only 0 14 14 ∷ only 0 28 14 ∷ []) 2 (key 5 0 ∷ key 0 1 ∷ 9 ∷ []) ≡ key 5 0 ∷ key 0 1 ∷ key 0 2 ∷ []
+pub no_index : index_after (Ok 3) (only 5 0 14 ∷ only 0 14 14 ∷ only 0 28 14 ∷ []) 2 (key 5 0 ∷ key 0 1 ∷ 9 ∷ []) ≡ key 5 0 ∷ key 0 1 ∷ key 0 2 ∷ []
 unfolding indexes
 no_index = ap (λ (l : List ℕ). merged (key 5 0 ∷ key 0 1 ∷ []) l ++ []) (index-laws.single 2 (only 0 28 14) (omega arith))
 
@@ -895,164 +877,167 @@ pub its_own : picked 5 (only 0 0 14 ∷ only 5 14 14 ∷ []) (key 5 0 ∷ key 5 
 unfolding indexes
 its_own = refl
 
-pub entry_in_row : entries.given 1 1 ≡ Entries 1
+pub entry_in_row : entries.given 1 1 ≡ Ok 1
 unfolding indexes
 entry_in_row = refl
 
-pub entry_no_row : entries.given 1 0 ≡ index.Refused (refusal 18 1)
+pub entry_no_row : entries.given 1 0 ≡ Err (refusal TableTooSmall 1)
 unfolding indexes
 entry_no_row = refl
 
 -- ---- * A passes, of its first 59 bytes, of all, and of more than there are; of 58: 6; of none: 1.
 
-abbrev refuses : ℕ → ℕ → Check
-refuses number place = check.Refused (refusal number place)
+abbrev refuses : Reason → ℕ → Result (Option Difference) Refusal
+refuses reason place = Err (refusal reason place)
 
-pub check_A : lengths.checked A 89 ≡ check.Passes
+abbrev says : ℕ → ℕ → Option Said
+says tile length = Some (record { tile = tile; length = length })
+
+pub check_A : lengths.checked A 89 ≡ Ok None
 unfolding length_tables
 check_A = refl
 
-pub check_59 : lengths.checked A 59 ≡ check.Passes
+pub check_59 : lengths.checked A 59 ≡ Ok None
 unfolding length_tables
 check_59 = refl
 
-pub check_58 : lengths.checked A 58 ≡ refuses 6 58
+pub check_58 : lengths.checked A 58 ≡ refuses NoTilePart 58
 unfolding length_tables
 check_58 = refl
 
-pub check_0 : lengths.checked A 0 ≡ refuses 1 0
+pub check_0 : lengths.checked A 0 ≡ refuses NoSoc 0
 unfolding length_tables
 check_0 = refl
 
-pub check_most : lengths.checked A 0xffff_ffff_ffff_ffff ≡ check.Passes
+pub check_most : lengths.checked A 0xffff_ffff_ffff_ffff ≡ Ok None
 unfolding length_tables
 check_most = refl
 
 -- ---- * A with a length of 15 for 14: differs at 0; with index 4 for 5: at 1; without its second entry: at 1; with a third: at 2, where EOC stands.
 
-pub other_length : lengths.checked (listing (0 ∷ 0 ∷ 15 ∷ 5 ∷ 0 ∷ 16 ∷ [])) 89 ≡ differing 0 57 (Part 0 15) (Part 0 14)
+pub other_length : lengths.checked (listing (0 ∷ 0 ∷ 15 ∷ 5 ∷ 0 ∷ 16 ∷ [])) 89 ≡ differing 0 57 (says 0 15) (says 0 14)
 unfolding length_tables
 other_length = refl
 
-pub other_index : lengths.checked (listing (0 ∷ 0 ∷ 14 ∷ 4 ∷ 0 ∷ 16 ∷ [])) 89 ≡ differing 1 71 (Part 4 16) (Part 5 16)
+pub other_index : lengths.checked (listing (0 ∷ 0 ∷ 14 ∷ 4 ∷ 0 ∷ 16 ∷ [])) 89 ≡ differing 1 71 (says 4 16) (says 5 16)
 unfolding length_tables
 other_index = refl
 
-pub entry_missing : lengths.checked (listing (0 ∷ 0 ∷ 14 ∷ [])) 86 ≡ differing 1 68 Nothing (Part 5 16)
+pub entry_missing : lengths.checked (listing (0 ∷ 0 ∷ 14 ∷ [])) 86 ≡ differing 1 68 None (says 5 16)
 unfolding length_tables
 entry_missing = refl
 
-pub entry_surplus : lengths.checked (listing (0 ∷ 0 ∷ 14 ∷ 5 ∷ 0 ∷ 16 ∷ 7 ∷ 0 ∷ 12 ∷ [])) 92 ≡ differing 2 90 (Part 7 12) Nothing
+pub entry_surplus : lengths.checked (listing (0 ∷ 0 ∷ 14 ∷ 5 ∷ 0 ∷ 16 ∷ 7 ∷ 0 ∷ 12 ∷ [])) 92 ≡ differing 2 90 (says 7 12) None
 unfolding length_tables
 entry_surplus = refl
 
 -- ---- * No TLM segment; one without entries: differs at 0.
 
-pub no_segment : lengths.checked (with_tlm []) 59 ≡ differing 0 45 Nothing (Part 0 14)
+pub no_segment : lengths.checked (with_tlm []) 59 ≡ differing 0 45 None (says 0 14)
 unfolding length_tables
 no_segment = refl
 
-pub no_entries : lengths.checked (with_tlm (tlm 0 [])) 65 ≡ differing 0 51 Nothing (Part 0 14)
+pub no_entries : lengths.checked (with_tlm (tlm 0 [])) 65 ≡ differing 0 51 None (says 0 14)
 unfolding length_tables
 no_entries = refl
 
 -- ---- * Two segments of the same Ztlm: 32 at the second; of two: none. The third repeats the first: at the third. Two that repeat: at the first of them.
 
-pub same_ztlm : lengths.checked (lean (tlm_of 0 0 [] ++ tlm_of 0 0 []) (sot 0 12)) 30 ≡ refuses 32 12
+pub same_ztlm : lengths.checked (lean (tlm_of 0 0 [] ++ tlm_of 0 0 []) (sot 0 12)) 30 ≡ refuses TlmNumberRepeated 12
 unfolding length_tables
 same_ztlm = refl
 
-pub other_ztlm : lengths.checked (lean (tlm_of 0 0 [] ++ tlm_of 1 0 []) (sot 0 12)) 30 ≡ differing 0 18 Nothing (Part 0 12)
+pub other_ztlm : lengths.checked (lean (tlm_of 0 0 [] ++ tlm_of 1 0 []) (sot 0 12)) 30 ≡ differing 0 18 None (says 0 12)
 unfolding length_tables
 other_ztlm = refl
 
-pub third_repeats : lengths.checked (lean (tlm_of 0 0 [] ++ tlm_of 1 0 [] ++ tlm_of 0 0 []) (sot 0 12)) 36 ≡ refuses 32 18
+pub third_repeats : lengths.checked (lean (tlm_of 0 0 [] ++ tlm_of 1 0 [] ++ tlm_of 0 0 []) (sot 0 12)) 36 ≡ refuses TlmNumberRepeated 18
 unfolding length_tables
 third_repeats = refl
 
-pub first_that_repeats : lengths.checked (lean (tlm_of 0 0 [] ++ tlm_of 0 0 [] ++ tlm_of 1 0 [] ++ tlm_of 1 0 []) (sot 0 12)) 42 ≡ refuses 32 12
+pub first_that_repeats : lengths.checked (lean (tlm_of 0 0 [] ++ tlm_of 0 0 [] ++ tlm_of 1 0 [] ++ tlm_of 1 0 []) (sot 0 12)) 42 ≡ refuses TlmNumberRepeated 12
 unfolding length_tables
 first_that_repeats = refl
 
 -- ---- * The same Ztlm, and no SOT; a segment behind it that is cut: 6; 3. A tile-part that passes the end; an SOT that is cut: 32; of two Ztlm 9; 7.
 
-pub six_before_32 : lengths.checked (lean (tlm_of 0 0 [] ++ tlm_of 0 0 []) []) 18 ≡ refuses 6 18
+pub six_before_32 : lengths.checked (lean (tlm_of 0 0 [] ++ tlm_of 0 0 []) []) 18 ≡ refuses NoTilePart 18
 unfolding length_tables
 six_before_32 = refl
 
-pub three_before_32 : lengths.checked (lean (tlm_of 0 0 [] ++ tlm_of 0 0 []) (two 0xff64 ++ two 4)) 22 ≡ refuses 3 18
+pub three_before_32 : lengths.checked (lean (tlm_of 0 0 [] ++ tlm_of 0 0 []) (two 0xff64 ++ two 4)) 22 ≡ refuses SegmentPastEnd 18
 unfolding length_tables
 three_before_32 = refl
 
-pub thirty_two_before_9 : lengths.checked (lean (tlm_of 0 0 [] ++ tlm_of 0 0 []) (sot 0 13)) 30 ≡ refuses 32 12
+pub thirty_two_before_9 : lengths.checked (lean (tlm_of 0 0 [] ++ tlm_of 0 0 []) (sot 0 13)) 30 ≡ refuses TlmNumberRepeated 12
 unfolding length_tables
 thirty_two_before_9 = refl
 
-pub nine_of_two : lengths.checked (lean (tlm_of 0 0 [] ++ tlm_of 1 0 []) (sot 0 13)) 30 ≡ refuses 9 18
+pub nine_of_two : lengths.checked (lean (tlm_of 0 0 [] ++ tlm_of 1 0 []) (sot 0 13)) 30 ≡ refuses TilePartPastEnd 18
 unfolding length_tables
 nine_of_two = refl
 
-pub thirty_two_before_7 : lengths.checked (lean (tlm_of 0 0 [] ++ tlm_of 0 0 []) (two SOT)) 20 ≡ refuses 32 12
+pub thirty_two_before_7 : lengths.checked (lean (tlm_of 0 0 [] ++ tlm_of 0 0 []) (two SOT)) 20 ≡ refuses TlmNumberRepeated 12
 unfolding length_tables
 thirty_two_before_7 = refl
 
-pub seven_of_two : lengths.checked (lean (tlm_of 0 0 [] ++ tlm_of 1 0 []) (two SOT)) 20 ≡ refuses 7 18
+pub seven_of_two : lengths.checked (lean (tlm_of 0 0 [] ++ tlm_of 1 0 []) (two SOT)) 20 ≡ refuses TilePartCutShort 18
 unfolding length_tables
 seven_of_two = refl
 
 -- ---- * An entry that differs, and behind it a tile-part that passes the end: 9 there.
 
-pub nine_behind : lengths.checked (lean (tlm_of 0 0 (0 ∷ 13 ∷ [])) (sot 0 12 ++ sot 0 13)) 38 ≡ refuses 9 26
+pub nine_behind : lengths.checked (lean (tlm_of 0 0 (0 ∷ 13 ∷ [])) (sot 0 12 ++ sot 0 13)) 38 ≡ refuses TilePartPastEnd 26
 unfolding length_tables
 nine_behind = refl
 
 -- ---- * An entry of tile 9 in the first segment, and in the second the one that stands there: differs at 0, and does not go on in the second.
 
-pub stops_in_the_first : lengths.checked (lean (tlm_of 0 0x10 (9 ∷ 0 ∷ 12 ∷ []) ++ tlm_of 1 0x10 (0 ∷ 0 ∷ 12 ∷ [])) (sot 0 12)) 36 ≡ differing 0 24 (Part 9 12) (Part 0 12)
+pub stops_in_the_first : lengths.checked (lean (tlm_of 0 0x10 (9 ∷ 0 ∷ 12 ∷ []) ++ tlm_of 1 0x10 (0 ∷ 0 ∷ 12 ∷ [])) (sot 0 12)) 36 ≡ differing 0 24 (says 9 12) (says 0 12)
 unfolding length_tables
 stops_in_the_first = refl
 
 -- ---- * Two segments of one entry each, of which the second differs: at 1, counted over both.
 
-pub counted_over_both : lengths.checked (lean (tlm_of 0 0x10 (0 ∷ 0 ∷ 12 ∷ []) ++ tlm_of 1 0x10 (9 ∷ 0 ∷ 12 ∷ [])) (sot 0 12 ++ sot 0 12)) 48 ≡ differing 1 36 (Part 9 12) (Part 0 12)
+pub counted_over_both : lengths.checked (lean (tlm_of 0 0x10 (0 ∷ 0 ∷ 12 ∷ []) ++ tlm_of 1 0x10 (9 ∷ 0 ∷ 12 ∷ [])) (sot 0 12 ++ sot 0 12)) 48 ≡ differing 1 36 (says 9 12) (says 0 12)
 unfolding length_tables
 counted_over_both = refl
 
 -- ---- * Two segments of one length without an index, 12 with Ztlm 1 and 13 with Ztlm 0, before parts of 13 and 12: passes; their Ztlm swapped: differs at 0.
 
-pub by_ztlm : lengths.checked (lean (tlm_of 1 0 (0 ∷ 12 ∷ []) ++ tlm_of 0 0 (0 ∷ 13 ∷ [])) (sot 0 13 ++ (0 ∷ sot 1 12))) 47 ≡ check.Passes
+pub by_ztlm : lengths.checked (lean (tlm_of 1 0 (0 ∷ 12 ∷ []) ++ tlm_of 0 0 (0 ∷ 13 ∷ [])) (sot 0 13 ++ (0 ∷ sot 1 12))) 47 ≡ Ok None
 unfolding length_tables
 by_ztlm = refl
 
-pub by_file_order : lengths.checked (lean (tlm_of 0 0 (0 ∷ 12 ∷ []) ++ tlm_of 1 0 (0 ∷ 13 ∷ [])) (sot 0 13 ++ (0 ∷ sot 1 12))) 47 ≡ differing 0 22 (Part 0 12) (Part 0 13)
+pub by_file_order : lengths.checked (lean (tlm_of 0 0 (0 ∷ 12 ∷ []) ++ tlm_of 1 0 (0 ∷ 13 ∷ [])) (sot 0 13 ++ (0 ∷ sot 1 12))) 47 ≡ differing 0 22 (says 0 12) (says 0 13)
 unfolding length_tables
 by_file_order = refl
 
 -- ---- * Without an index; with index 7; without: numbered 0, 7, 1 in the order of Ztlm, which is the file's in reverse.
 
-pub numbered_by_ztlm : lengths.checked (lean (tlm_of 9 0 (0 ∷ 12 ∷ []) ++ tlm_of 8 0x10 (7 ∷ 0 ∷ 13 ∷ []) ++ tlm_of 4 0 (0 ∷ 14 ∷ [])) (part 0 14 [] ++ sot 7 13 ++ (0 ∷ sot 1 12))) 70 ≡ check.Passes
+pub numbered_by_ztlm : lengths.checked (lean (tlm_of 9 0 (0 ∷ 12 ∷ []) ++ tlm_of 8 0x10 (7 ∷ 0 ∷ 13 ∷ []) ++ tlm_of 4 0 (0 ∷ 14 ∷ [])) (part 0 14 [] ++ sot 7 13 ++ (0 ∷ sot 1 12))) 70 ≡ Ok None
 unfolding length_tables
 numbered_by_ztlm = refl
 
 -- ---- * 5 entries without an index with Ztlm 2, then two segments of 32,765 with Ztlm 0 and 1, then an SOT that is cut: 7. 6 entries: 26 at the first in the
 -- file. 6 with Ztlm 0, as the next: 32 at that.
 
-pub check_65535 : let s = up_to_sot standard.siz (segments 2 0 1 32_765 5) [] in lengths.checked s (length s) ≡ refuses 7 131_133
+pub check_65535 : let s = up_to_sot standard.siz (segments 2 0 1 32_765 5) [] in lengths.checked s (length s) ≡ refuses TilePartCutShort 131_133
 check_65535 = table.check_fits 2 0 1 32_765 5 (omega arith) (omega arith) (omega arith) (omega arith) (omega arith) (omega arith) (omega arith) (omega arith)
 
-pub check_65536 : let s = up_to_sot standard.siz (segments 2 0 1 32_765 6) [] in lengths.checked s (length s) ≡ refuses 26 45
+pub check_65536 : let s = up_to_sot standard.siz (segments 2 0 1 32_765 6) [] in lengths.checked s (length s) ≡ refuses TlmTooManyEntries 45
 check_65536 = table.check_past 2 0 1 32_765 6 (omega arith) (omega arith) (omega arith) (omega arith) (omega arith) (omega arith) (omega arith) (omega arith) (omega arith)
 
-pub thirty_two_before_26 : let s = up_to_sot standard.siz (segments 0 0 1 32_765 6) [] in lengths.checked s (length s) ≡ refuses 32 63
+pub thirty_two_before_26 : let s = up_to_sot standard.siz (segments 0 0 1 32_765 6) [] in lengths.checked s (length s) ≡ refuses TlmNumberRepeated 63
 thirty_two_before_26 = table.check_repeated 0 0 1 32_765 6 (omega arith) (omega arith) (omega arith) (omega arith) (omega arith) refl
 
 -- ---- * Psot 0: to the codestream's end. With EOC the table, which leaves it out, differs; without it passes.
 
-pub eoc_counted : lengths.checked (lean (tlm_of 0 0 (0 ∷ 12 ∷ [])) (sot 0 0 ++ two EOC)) 28 ≡ differing 0 14 (Part 0 12) (Part 0 14)
+pub eoc_counted : lengths.checked (lean (tlm_of 0 0 (0 ∷ 12 ∷ [])) (sot 0 0 ++ two EOC)) 28 ≡ differing 0 14 (says 0 12) (says 0 14)
 unfolding length_tables
 eoc_counted = refl
 
-pub no_eoc : lengths.checked (lean (tlm_of 0 0 (0 ∷ 12 ∷ [])) (sot 0 0)) 26 ≡ check.Passes
+pub no_eoc : lengths.checked (lean (tlm_of 0 0 (0 ∷ 12 ∷ [])) (sot 0 0)) 26 ≡ Ok None
 unfolding length_tables
 no_eoc = refl
 
@@ -1062,17 +1047,17 @@ pub eleven_more : parts_of (part 0 14 [] ++ zeros 11) ≡ part 0 14 [] ∷ []
 unfolding split_runs
 eleven_more = refl
 
--- ---- * JP2 signature only: 14 at 12. Then jp2c of length 8: empty content; 7: refusal 15.
+-- ---- * JP2 signature only: 14 at 12. Then jp2c of length 8: empty content; 7: refusal CodestreamBoxTooShort.
 
-pub signature_only : found_in signature ≡ found.Refused (refusal 14 12)
+pub signature_only : found_in signature ≡ Err (refusal NoCodestreamBox 12)
 unfolding searches
 signature_only = refl
 
-pub jp2c_8 : found_in (signature ++ jp2c 8) ≡ Codestream (record { 0 = 20 }) 0
+pub jp2c_8 : found_in (signature ++ jp2c 8) ≡ Ok (codestream (record { 0 = 20 }) 0)
 unfolding searches
 jp2c_8 = refl
 
-pub jp2c_7 : found_in (signature ++ jp2c 7) ≡ found.Refused (refusal 15 12)
+pub jp2c_7 : found_in (signature ++ jp2c 7) ≡ Err (refusal CodestreamBoxTooShort 12)
 unfolding searches
 jp2c_7 = refl
 
@@ -1082,11 +1067,11 @@ pub boxes_0 : boxes_of [] ≡ boxes []
 unfolding box_trees
 boxes_0 = refl
 
-pub boxes_1 : boxes_of (zeros 1) ≡ unlisted 27 0
+pub boxes_1 : boxes_of (zeros 1) ≡ unlisted BoxDoesNotFit 0
 unfolding box_trees
 boxes_1 = refl
 
-pub boxes_7 : boxes_of (zeros 7) ≡ unlisted 27 0
+pub boxes_7 : boxes_of (zeros 7) ≡ unlisted BoxDoesNotFit 0
 unfolding box_trees
 boxes_7 = refl
 
@@ -1094,25 +1079,25 @@ pub box_8 : boxes_of (box_head 8 UUID) ≡ boxes (listed_as 1 UUID 0 8 0 ∷ [])
 unfolding box_trees
 box_8 = refl
 
-pub box_9 : boxes_of (box_head 9 UUID) ≡ unlisted 27 0
+pub box_9 : boxes_of (box_head 9 UUID) ≡ unlisted BoxDoesNotFit 0
 unfolding box_trees
 box_9 = refl
 
 -- ---- * A box, and behind it 1 byte; 7: 27 there. In jp2h likewise, also where the file goes on behind it. A jp2h that its box fills.
 
-pub left_1 : boxes_of (box UUID [] ++ zeros 1) ≡ unlisted 27 8
+pub left_1 : boxes_of (box UUID [] ++ zeros 1) ≡ unlisted BoxDoesNotFit 8
 unfolding box_trees
 left_1 = refl
 
-pub left_7 : boxes_of (box UUID [] ++ zeros 7) ≡ unlisted 27 8
+pub left_7 : boxes_of (box UUID [] ++ zeros 7) ≡ unlisted BoxDoesNotFit 8
 unfolding box_trees
 left_7 = refl
 
-pub held_1 : boxes_of (box JP2H (zeros 1)) ≡ unlisted 27 8
+pub held_1 : boxes_of (box JP2H (zeros 1)) ≡ unlisted BoxDoesNotFit 8
 unfolding box_trees
 held_1 = refl
 
-pub held_7 : boxes_of (box JP2H (zeros 7) ++ box UUID []) ≡ unlisted 27 8
+pub held_7 : boxes_of (box JP2H (zeros 7) ++ box UUID []) ≡ unlisted BoxDoesNotFit 8
 unfolding box_trees
 held_7 = refl
 
@@ -1122,11 +1107,11 @@ held_8 = refl
 
 -- ---- * Length 1 with 8 bytes left; 15: 13. With 16, and XLBox 16: an empty box. In jp2h likewise, whose end counts and not the file's.
 
-pub xlbox_8 : boxes_of (box_head 1 UUID) ≡ unlisted 13 0
+pub xlbox_8 : boxes_of (box_head 1 UUID) ≡ unlisted BoxCutShort 0
 unfolding box_trees
 xlbox_8 = refl
 
-pub xlbox_15 : boxes_of (take 15 (long_head 16 UUID)) ≡ unlisted 13 0
+pub xlbox_15 : boxes_of (take 15 (long_head 16 UUID)) ≡ unlisted BoxCutShort 0
 unfolding box_trees
 xlbox_15 = refl
 
@@ -1134,11 +1119,11 @@ pub xlbox_16 : boxes_of (long_head 16 UUID) ≡ boxes (listed_as 1 UUID 0 16 0 �
 unfolding box_trees
 xlbox_16 = refl
 
-pub held_xlbox_8 : boxes_of (box JP2H (box_head 1 UUID) ++ box UUID []) ≡ unlisted 13 8
+pub held_xlbox_8 : boxes_of (box JP2H (box_head 1 UUID) ++ box UUID []) ≡ unlisted BoxCutShort 8
 unfolding box_trees
 held_xlbox_8 = refl
 
-pub held_xlbox_15 : boxes_of (box JP2H (take 15 (long_head 16 UUID)) ++ box UUID []) ≡ unlisted 13 8
+pub held_xlbox_15 : boxes_of (box JP2H (take 15 (long_head 16 UUID)) ++ box UUID []) ≡ unlisted BoxCutShort 8
 unfolding box_trees
 held_xlbox_15 = refl
 
@@ -1148,19 +1133,19 @@ held_xlbox_16 = refl
 
 -- ---- * Length 2; 7: 28; 8 is accepted above. XLBox 0; 15: 28; 16 is accepted above. XLBox 24 of a jp2h that holds a box: its content starts at 16.
 
-pub length_2 : boxes_of (box_head 2 UUID) ≡ unlisted 28 0
+pub length_2 : boxes_of (box_head 2 UUID) ≡ unlisted BoxLengthWrong 0
 unfolding box_trees
 length_2 = refl
 
-pub length_7 : boxes_of (box_head 7 UUID) ≡ unlisted 28 0
+pub length_7 : boxes_of (box_head 7 UUID) ≡ unlisted BoxLengthWrong 0
 unfolding box_trees
 length_7 = refl
 
-pub xlbox_says_0 : boxes_of (long_head 0 UUID) ≡ unlisted 28 0
+pub xlbox_says_0 : boxes_of (long_head 0 UUID) ≡ unlisted BoxLengthWrong 0
 unfolding box_trees
 xlbox_says_0 = refl
 
-pub xlbox_says_15 : boxes_of (long_head 15 UUID) ≡ unlisted 28 0
+pub xlbox_says_15 : boxes_of (long_head 15 UUID) ≡ unlisted BoxLengthWrong 0
 unfolding box_trees
 xlbox_says_15 = refl
 
@@ -1178,39 +1163,39 @@ pub opened_to_the_end : boxes_of (box_head 0 JP2H ++ box UUID []) ≡ boxes (lis
 unfolding box_trees
 opened_to_the_end = refl
 
-pub length_0_below : boxes_of (box JP2H (box_head 0 UUID)) ≡ unlisted 28 8
+pub length_0_below : boxes_of (box JP2H (box_head 0 UUID)) ≡ unlisted BoxLengthWrong 8
 unfolding box_trees
 length_0_below = refl
 
-pub length_0_twice : boxes_of (box_head 0 JP2H ++ box_head 0 UUID) ≡ unlisted 28 8
+pub length_0_twice : boxes_of (box_head 0 JP2H ++ box_head 0 UUID) ≡ unlisted BoxLengthWrong 8
 unfolding box_trees
 length_0_twice = refl
 
 -- ---- * XLBox 2^64-1 at 0: 27, as it passes the file alone; at 8: 16. At 8 with 2^64-8: 16; 2^64-9: 27.
 
-pub most_at_0 : boxes_of (long_head 0xffff_ffff_ffff_ffff UUID) ≡ unlisted 27 0
+pub most_at_0 : boxes_of (long_head 0xffff_ffff_ffff_ffff UUID) ≡ unlisted BoxDoesNotFit 0
 unfolding box_trees
 most_at_0 = refl
 
-pub most_at_8 : boxes_of (box UUID [] ++ long_head 0xffff_ffff_ffff_ffff UUID) ≡ unlisted 16 8
+pub most_at_8 : boxes_of (box UUID [] ++ long_head 0xffff_ffff_ffff_ffff UUID) ≡ unlisted BoxTooLong 8
 unfolding box_trees
 most_at_8 = refl
 
-pub passes_64 : boxes_of (box UUID [] ++ long_head 0xffff_ffff_ffff_fff8 UUID) ≡ unlisted 16 8
+pub passes_64 : boxes_of (box UUID [] ++ long_head 0xffff_ffff_ffff_fff8 UUID) ≡ unlisted BoxTooLong 8
 unfolding box_trees
 passes_64 = refl
 
-pub reaches_64 : boxes_of (box UUID [] ++ long_head 0xffff_ffff_ffff_fff7 UUID) ≡ unlisted 27 8
+pub reaches_64 : boxes_of (box UUID [] ++ long_head 0xffff_ffff_ffff_fff7 UUID) ≡ unlisted BoxDoesNotFit 8
 unfolding box_trees
 reaches_64 = refl
 
 -- ---- * A box that ends one byte past its jp2h, in the file or at its end: 27 at the box; where its jp2h ends: accepted, above.
 
-pub past_its_parent : boxes_of (box JP2H (box_head 9 UUID) ++ box UUID []) ≡ unlisted 27 8
+pub past_its_parent : boxes_of (box JP2H (box_head 9 UUID) ++ box UUID []) ≡ unlisted BoxDoesNotFit 8
 unfolding box_trees
 past_its_parent = refl
 
-pub past_both : boxes_of (box JP2H (box_head 9 UUID)) ≡ unlisted 27 8
+pub past_both : boxes_of (box JP2H (box_head 9 UUID)) ≡ unlisted BoxDoesNotFit 8
 unfolding box_trees
 past_both = refl
 
@@ -1220,19 +1205,19 @@ pub eight_deep : map (λ e. e.depth) (entries_of (boxes_of (nest 8 []))) ≡ 1 �
 unfolding box_trees
 eight_deep = refl
 
-pub eight_by_xlbox : tree.listed (nest 7 (long_head 16 JP2H)) 8 ≡ count.Boxes 8
+pub eight_by_xlbox : tree.listed (nest 7 (long_head 16 JP2H)) 8 ≡ Ok 8
 unfolding box_trees
 eight_by_xlbox = refl
 
-pub eight_with_content : boxes_of (nest 8 (zeros 1)) ≡ unlisted 29 56
+pub eight_with_content : boxes_of (nest 8 (zeros 1)) ≡ unlisted BoxesTooDeep 56
 unfolding box_trees
 eight_with_content = refl
 
-pub nine_deep : boxes_of (nest 9 []) ≡ unlisted 29 56
+pub nine_deep : boxes_of (nest 9 []) ≡ unlisted BoxesTooDeep 56
 unfolding box_trees
 nine_deep = refl
 
-pub uuid_at_8 : tree.listed (nest 7 (box UUID (zeros 1))) 8 ≡ count.Boxes 8
+pub uuid_at_8 : tree.listed (nest 7 (box UUID (zeros 1))) 8 ≡ Ok 8
 unfolding box_trees
 uuid_at_8 = refl
 
@@ -1264,64 +1249,64 @@ in_file_order = refl
 -- ---- * 13 before 28 and 27: length 1 with 15 bytes left in its jp2h, where the file goes on so that XLBox is 15; 32. 28 before 27: length 0 below the top, where
 -- the file goes on. 16 before 27 is above.
 
-pub thirteen_before_28 : boxes_of (box JP2H (take 15 (long_head 15 UUID)) ++ (15 ∷ box UUID [])) ≡ unlisted 13 8
+pub thirteen_before_28 : boxes_of (box JP2H (take 15 (long_head 15 UUID)) ++ (15 ∷ box UUID [])) ≡ unlisted BoxCutShort 8
 unfolding box_trees
 thirteen_before_28 = refl
 
-pub thirteen_before_27 : boxes_of (box JP2H (take 15 (long_head 32 UUID)) ++ (32 ∷ zeros 16)) ≡ unlisted 13 8
+pub thirteen_before_27 : boxes_of (box JP2H (take 15 (long_head 32 UUID)) ++ (32 ∷ zeros 16)) ≡ unlisted BoxCutShort 8
 unfolding box_trees
 thirteen_before_27 = refl
 
-pub twenty_eight_before_27 : boxes_of (box JP2H (box_head 0 UUID) ++ box UUID []) ≡ unlisted 28 8
+pub twenty_eight_before_27 : boxes_of (box JP2H (box_head 0 UUID) ++ box UUID []) ≡ unlisted BoxLengthWrong 8
 unfolding box_trees
 twenty_eight_before_27 = refl
 
 -- ---- * 28, 16 and 27 before 29: at depth 8 a jp2h with content, of length 0; with XLBox 2^64-1; that ends one byte past what holds it.
 
-pub twenty_eight_before_29 : boxes_of (nest 7 (box_head 0 JP2H ++ zeros 1)) ≡ unlisted 28 56
+pub twenty_eight_before_29 : boxes_of (nest 7 (box_head 0 JP2H ++ zeros 1)) ≡ unlisted BoxLengthWrong 56
 unfolding box_trees
 twenty_eight_before_29 = refl
 
-pub sixteen_before_29 : boxes_of (nest 7 (long_head 0xffff_ffff_ffff_ffff JP2H)) ≡ unlisted 16 56
+pub sixteen_before_29 : boxes_of (nest 7 (long_head 0xffff_ffff_ffff_ffff JP2H)) ≡ unlisted BoxTooLong 56
 unfolding box_trees
 sixteen_before_29 = refl
 
-pub twenty_seven_before_29 : boxes_of (nest 7 (box_head 9 JP2H)) ≡ unlisted 27 56
+pub twenty_seven_before_29 : boxes_of (nest 7 (box_head 9 JP2H)) ≡ unlisted BoxDoesNotFit 56
 unfolding box_trees
 twenty_seven_before_29 = refl
 
 -- ---- * What a superbox holds before what stands behind it: length 2 in jp2h, and behind it 1 byte: 28 at 8. Length 8: 27 at 16.
 
-pub inner_first : boxes_of (box JP2H (box_head 2 UUID) ++ zeros 1) ≡ unlisted 28 8
+pub inner_first : boxes_of (box JP2H (box_head 2 UUID) ++ zeros 1) ≡ unlisted BoxLengthWrong 8
 unfolding box_trees
 inner_first = refl
 
-pub then_behind : boxes_of (box JP2H (box_head 8 UUID) ++ zeros 1) ≡ unlisted 27 16
+pub then_behind : boxes_of (box JP2H (box_head 8 UUID) ++ zeros 1) ≡ unlisted BoxDoesNotFit 16
 unfolding box_trees
 then_behind = refl
 
 -- ---- * 18 last: 8 boxes and 8 rows; 7: 18 with 8. No row: for no box accepted, for a file that is refused 27.
 
-pub eight_rows : tree.listed (nest 8 []) 8 ≡ count.Boxes 8
+pub eight_rows : tree.listed (nest 8 []) 8 ≡ Ok 8
 unfolding box_trees
 eight_rows = refl
 
-pub seven_rows : tree.listed (nest 8 []) 7 ≡ count.Refused (refusal 18 8)
+pub seven_rows : tree.listed (nest 8 []) 7 ≡ Err (refusal TableTooSmall 8)
 unfolding box_trees
 seven_rows = refl
 
-pub none_into_none : tree.listed [] 0 ≡ count.Boxes 0
+pub none_into_none : tree.listed [] 0 ≡ Ok 0
 unfolding box_trees
 none_into_none = refl
 
-pub eighteen_last : tree.listed (box UUID [] ++ zeros 1) 0 ≡ count.Refused (refusal 27 8)
+pub eighteen_last : tree.listed (box UUID [] ++ zeros 1) 0 ≡ Err (refusal BoxDoesNotFit 8)
 unfolding box_trees
 eighteen_last = refl
 
 -- ---- * One box into a table of 28 bytes, which has no row: 18, and nothing is written; 29: its row. Two into 60: their rows, and 2 bytes as they were. Where it refuses any table
 -- is left as it was.
 
-pub no_row_for_one : tree.listed (box UUID []) 0 ≡ count.Refused (refusal 18 1)
+pub no_row_for_one : tree.listed (box UUID []) 0 ≡ Err (refusal TableTooSmall 1)
 unfolding box_trees
 no_row_for_one = refl
 
@@ -1344,13 +1329,13 @@ pub table_kept : (rows : List ℕ) → tree.listed_table (box UUID [] ++ zeros 1
 unfolding box_trees
 table_kept rows = refl
 
--- ---- * A with XOsiz 1, XTsiz 2^32-1, Xsiz 2, tile 0: refusal 10 by the original's rule. By Annex B, which has no such bound, 1 wide and 4 high.
+-- ---- * A with XOsiz 1, XTsiz 2^32-1, Xsiz 2, tile 0: refusal TileOutside by the original's rule. By Annex B, which has no such bound, 1 wide and 4 high.
 
-pub past_32 : tile_size Original (header 2 6 1 0 0xffffffff 4) 0 ≡ size.Refused (refusal 10 2)
+pub past_32 : tile_size Original (header 2 6 1 0 0xffffffff 4) 0 ≡ Err (refusal TileOutside 2)
 unfolding tiles
 past_32 = refl
 
-pub past_32_annex : tile_size AnnexB (header 2 6 1 0 0xffffffff 4) 0 ≡ Cut (from_zero 1 4)
+pub past_32_annex : tile_size AnnexB (header 2 6 1 0 0xffffffff 4) 0 ≡ Ok (Some (from_zero 1 4))
 unfolding tiles
 past_32_annex = refl
 
@@ -1363,7 +1348,7 @@ region_65536 s h =
     grown_end s 0 (whole_suffices s _ whole) ∙ (λ i. record { region = whole i; enlargements = 0 })
 
 -- no SOT in the first region
-pub region_65537 : (s : List ℕ) → length s ≡ 65537 → extent_of (take 65536 s) ≡ Truncated → grown s ≡ record { region = 65537; enlargements = 1 }
+pub region_65537 : (s : List ℕ) → length s ≡ 65537 → extent_of (take 65536 s) ≡ None → grown s ≡ record { region = 65537; enlargements = 1 }
 unfolding grown
 region_65537 s h t =
     let first : region_at (length s) 0 ≡ 65536 = region_pow (length s) 0 ∙ omega arith in
@@ -1374,7 +1359,7 @@ region_65537 s h t =
 
 -- ---- First SOT at 65,534 or before: no enlargement; at 65,535: one.
 
-pub sot_65534 : (s : List ℕ) (at : CodestreamOffset) → extent_of s ≡ Complete at → at.0 ≤ 65534 → grown s ≡ record { region = min 65536 (length s); enlargements = 0 }
+pub sot_65534 : (s : List ℕ) (at : CodestreamOffset) → extent_of s ≡ Some at → at.0 ≤ 65534 → grown s ≡ record { region = min 65536 (length s); enlargements = 0 }
 unfolding enough enough_of
 sot_65534 s at e h =
     let first : region_at (length s) 0 ≡ min 65536 (length s) = region_pow (length s) 0 ∙ omega arith in
@@ -1383,7 +1368,7 @@ sot_65534 s at e h =
     grown_only s 0 (record { has = omega (arith, first, bytes, inside); none = λ j l. absurd (omega arith) })
     ∙ (λ i. record { region = first i; enlargements = 0 })
 
-pub sot_65535 : (s : List ℕ) → extent_of s ≡ Complete (record { 0 = 65535 }) → grown s ≡ record { region = min 131072 (length s); enlargements = 1 }
+pub sot_65535 : (s : List ℕ) → extent_of s ≡ Some (record { 0 = 65535 }) → grown s ≡ record { region = min 131072 (length s); enlargements = 1 }
 unfolding enough enough_of
 sot_65535 s e =
     let first : region_at (length s) 0 ≡ min 65536 (length s) = region_pow (length s) 0 ∙ omega arith in
@@ -1398,29 +1383,29 @@ sot_65535 s e =
     ∙ (λ i. record { region = second i; enlargements = 1 })
 
 -- an accepted check of a count, and a component that is found
-abbrev checked : ℕ → Area → ComponentsRead
-checked count a = checks.Components (record { count = count; area = a })
+abbrev checked : ℕ → Area → Result Components Refusal
+checked count a = Ok (record { count = count; area = a })
 
-abbrev given : ℕ → Bool → ℕ → ℕ → Area → ComponentRead
-given bits signed xr yr a = one.Component (record { bits = bits; is_signed = signed; xrsiz = xr; yrsiz = yr; area = a })
+abbrev given : ℕ → Bool → ℕ → ℕ → Area → Result (Option ComponentInfo) Refusal
+given bits signed xr yr a = Ok (Some (record { bits = bits; is_signed = signed; xrsiz = xr; yrsiz = yr; area = a }))
 
 -- ---- * No byte; three bytes of A; four, which end with the marker of SIZ: 1, 2, 3.
 
-pub no_soc : components_read [] ≡ checks.Refused (refusal 1 0)
+pub no_soc : components_read [] ≡ Err (refusal NoSoc 0)
 unfolding components
 no_soc = refl
 
-pub no_siz : components_read (take 3 A) ≡ checks.Refused (refusal 2 2)
+pub no_siz : components_read (take 3 A) ≡ Err (refusal NoSiz 2)
 unfolding components
 no_siz = refl
 
-pub no_length : components_read (take 4 A) ≡ checks.Refused (refusal 3 2)
+pub no_length : components_read (take 4 A) ≡ Err (refusal SegmentPastEnd 2)
 unfolding components
 no_length = refl
 
 -- ---- * A, its first 44 bytes: 3. Its first 45: one component, 10 by 6.
 
-pub siz_cut : components_read (take 44 A) ≡ checks.Refused (refusal 3 2)
+pub siz_cut : components_read (take 44 A) ≡ Err (refusal SegmentPastEnd 2)
 unfolding components
 siz_cut = refl
 
@@ -1430,7 +1415,7 @@ siz_whole_lem = refl
 
 -- ---- * Lsiz 40: 24. 41 of one component is A's.
 
-pub lsiz_40 : components_read (counting 40 0 0 1 (7 ∷ 1 ∷ [])) ≡ checks.Refused (refusal 24 2)
+pub lsiz_40 : components_read (counting 40 0 0 1 (7 ∷ 1 ∷ [])) ≡ Err (refusal ComponentsNotHeld 2)
 unfolding components
 lsiz_40 = refl
 
@@ -1439,13 +1424,13 @@ unfolding components
 lsiz_41 = refl
 
 -- no component
-pub csiz_0 : components_read (counting 38 0 0 0 []) ≡ checks.Refused (refusal 24 2)
+pub csiz_0 : components_read (counting 38 0 0 0 []) ≡ Err (refusal ComponentsNotHeld 2)
 unfolding components
 csiz_0 = refl
 
 -- ---- * Csiz 2 with Lsiz 41: 24; with 44: accepted.
 
-pub csiz_2_short : components_read (counting 41 0 0 2 (7 ∷ 1 ∷ 1 ∷ [])) ≡ checks.Refused (refusal 24 2)
+pub csiz_2_short : components_read (counting 41 0 0 2 (7 ∷ 1 ∷ 1 ∷ [])) ≡ Err (refusal ComponentsNotHeld 2)
 unfolding components
 csiz_2_short = refl
 
@@ -1455,25 +1440,25 @@ csiz_2 = refl
 
 -- ---- * XRsiz or YRsiz 0, of the first component or of the last: 25; 1: accepted, as A.
 
-pub xrsiz_0 : components_read (counting 41 0 0 1 (7 ∷ 0 ∷ 1 ∷ [])) ≡ checks.Refused (refusal 25 2)
+pub xrsiz_0 : components_read (counting 41 0 0 1 (7 ∷ 0 ∷ 1 ∷ [])) ≡ Err (refusal SubsamplingOf0 2)
 unfolding components
 xrsiz_0 = refl
 
-pub yrsiz_0 : components_read (counting 41 0 0 1 (7 ∷ 1 ∷ 0 ∷ [])) ≡ checks.Refused (refusal 25 2)
+pub yrsiz_0 : components_read (counting 41 0 0 1 (7 ∷ 1 ∷ 0 ∷ [])) ≡ Err (refusal SubsamplingOf0 2)
 unfolding components
 yrsiz_0 = refl
 
-pub last_yrsiz_0 : components_read (counting 44 0 0 2 (7 ∷ 1 ∷ 1 ∷ 7 ∷ 1 ∷ 0 ∷ [])) ≡ checks.Refused (refusal 25 2)
+pub last_yrsiz_0 : components_read (counting 44 0 0 2 (7 ∷ 1 ∷ 1 ∷ 7 ∷ 1 ∷ 0 ∷ [])) ≡ Err (refusal SubsamplingOf0 2)
 unfolding components
 last_yrsiz_0 = refl
 
 -- ---- * XOsiz one past Xsiz, YOsiz one past Ysiz: 22. Equal: an image without a column.
 
-pub xosiz_11 : components_read (counting 41 11 0 1 (7 ∷ 1 ∷ 1 ∷ [])) ≡ checks.Refused (refusal 22 2)
+pub xosiz_11 : components_read (counting 41 11 0 1 (7 ∷ 1 ∷ 1 ∷ [])) ≡ Err (refusal ImageEndsBeforeItStarts 2)
 unfolding components
 xosiz_11 = refl
 
-pub yosiz_7 : components_read (counting 41 0 7 1 (7 ∷ 1 ∷ 1 ∷ [])) ≡ checks.Refused (refusal 22 2)
+pub yosiz_7 : components_read (counting 41 0 7 1 (7 ∷ 1 ∷ 1 ∷ [])) ≡ Err (refusal ImageEndsBeforeItStarts 2)
 unfolding components
 yosiz_7 = refl
 
@@ -1489,11 +1474,11 @@ in_tile_5 AnnexB = refl
 in_tile_5 Original = refl
 in_tile_5 InPlace = refl
 
-pub in_tile_6 : components_in_tile AnnexB A 6 ≡ checks.Refused (refusal 31 2)
+pub in_tile_6 : components_in_tile AnnexB A 6 ≡ Err (refusal NoSuchTile 2)
 unfolding components
 in_tile_6 = refl
 
-pub in_tile_6_original : components_in_tile Original A 6 ≡ checks.Refused (refusal 10 2)
+pub in_tile_6_original : components_in_tile Original A 6 ≡ Err (refusal TileOutside 2)
 unfolding components
 in_tile_6_original = refl
 
@@ -1503,11 +1488,11 @@ pub component_0 : component_of A 0 ≡ given 8 false 1 1 (area 0 0 10 6)
 unfolding components
 component_0 = refl
 
-pub component_1 : component_of A 1 ≡ one.NoSuch
+pub component_1 : component_of A 1 ≡ Ok None
 unfolding components
 component_1 = refl
 
-pub component_most : component_of A 0xffffffffffffffff ≡ one.NoSuch
+pub component_most : component_of A 0xffffffffffffffff ≡ Ok None
 unfolding components
 component_most = refl
 
@@ -1542,45 +1527,45 @@ ssiz_255 = refl
 
 -- ---- * 3 before 24, 24 before 25, 25 before 22, 22 before 30, 31 and 10, and these before no such component.
 
-pub three_first : components_read (counting 40 0 0 1 (7 ∷ [])) ≡ checks.Refused (refusal 3 2)
+pub three_first : components_read (counting 40 0 0 1 (7 ∷ [])) ≡ Err (refusal SegmentPastEnd 2)
 unfolding components
 three_first = refl
 
-pub twenty_four_first : components_read (counting 44 0 0 1 (7 ∷ 0 ∷ 0 ∷ 7 ∷ 0 ∷ 0 ∷ [])) ≡ checks.Refused (refusal 24 2)
+pub twenty_four_first : components_read (counting 44 0 0 1 (7 ∷ 0 ∷ 0 ∷ 7 ∷ 0 ∷ 0 ∷ [])) ≡ Err (refusal ComponentsNotHeld 2)
 unfolding components
 twenty_four_first = refl
 
-pub twenty_five_first : components_read (counting 41 11 0 1 (7 ∷ 0 ∷ 1 ∷ [])) ≡ checks.Refused (refusal 25 2)
+pub twenty_five_first : components_read (counting 41 11 0 1 (7 ∷ 0 ∷ 1 ∷ [])) ≡ Err (refusal SubsamplingOf0 2)
 unfolding components
 twenty_five_first = refl
 
-pub twenty_two_first : (rule : Rule) → components_in_tile rule (counting 41 11 0 1 (7 ∷ 1 ∷ 1 ∷ [])) 6 ≡ checks.Refused (refusal 22 2)
+pub twenty_two_first : (rule : Rule) → components_in_tile rule (counting 41 11 0 1 (7 ∷ 1 ∷ 1 ∷ [])) 6 ≡ Err (refusal ImageEndsBeforeItStarts 2)
 unfolding components
 twenty_two_first AnnexB = refl
 twenty_two_first Original = refl
 twenty_two_first InPlace = refl
 
-pub ten_first : component_in_tile Original A 6 1 ≡ one.Refused (refusal 10 2)
+pub ten_first : component_in_tile Original A 6 1 ≡ Err (refusal TileOutside 2)
 unfolding components
 ten_first = refl
 
-pub thirty_one_first : component_in_tile AnnexB A 6 1 ≡ one.Refused (refusal 31 2)
+pub thirty_one_first : component_in_tile AnnexB A 6 1 ≡ Err (refusal NoSuchTile 2)
 unfolding components
 thirty_one_first = refl
 
-pub thirty_before_none : component_in_tile AnnexB (header 10 6 10 0 4 4) 0 1 ≡ one.Refused (refusal 30 2)
+pub thirty_before_none : component_in_tile AnnexB (header 10 6 10 0 4 4) 0 1 ≡ Err (refusal NoGrid 2)
 unfolding components
 thirty_before_none = refl
 
 -- what Annex B tells of a tile of SIZ with an Xsiz, XOsiz, XTsiz and XTOsiz, 1 high in tiles of 1; and of one so many high, 1 wide
-abbrev across : ℕ → ℕ → ℕ → ℕ → ℕ → TileSize
+abbrev across : ℕ → ℕ → ℕ → ℕ → ℕ → Result (Option Area) Refusal
 across x xo xt xto tile = tile_size AnnexB (grid x 1 xo 0 xt 1 xto 0) tile
 
-abbrev down : ℕ → ℕ → ℕ → ℕ → ℕ → TileSize
+abbrev down : ℕ → ℕ → ℕ → ℕ → ℕ → Result (Option Area) Refusal
 down y yo yt yto tile = tile_size AnnexB (grid 1 y 0 yo 1 yt 0 yto) tile
 
-abbrev no_grid : TileSize
-no_grid = size.Refused (refusal 30 2)
+abbrev no_grid : Result (Option Area) Refusal
+no_grid = Err (refusal NoGrid 2)
 
 -- ---- * XTOsiz 1 past XOsiz 0: 30. XOsiz 1: accepted. Down likewise.
 
@@ -1588,7 +1573,7 @@ pub xto_past : across 2 0 1 1 0 ≡ no_grid
 unfolding tiles
 xto_past = refl
 
-pub xto_level : across 2 1 1 1 0 ≡ Whole
+pub xto_level : across 2 1 1 1 0 ≡ Ok None
 unfolding tiles
 xto_level = refl
 
@@ -1596,7 +1581,7 @@ pub yto_past : down 2 0 1 1 0 ≡ no_grid
 unfolding tiles
 yto_past = refl
 
-pub yto_level : down 2 1 1 1 0 ≡ Whole
+pub yto_level : down 2 1 1 1 0 ≡ Ok None
 unfolding tiles
 yto_level = refl
 
@@ -1606,7 +1591,7 @@ pub no_columns : across 1 1 2 0 0 ≡ no_grid
 unfolding tiles
 no_columns = refl
 
-pub one_column : across 2 1 2 0 0 ≡ Cut (from_zero 1 1)
+pub one_column : across 2 1 2 0 0 ≡ Ok (Some (from_zero 1 1))
 unfolding tiles
 one_column = refl
 
@@ -1614,7 +1599,7 @@ pub no_rows : down 1 1 2 0 0 ≡ no_grid
 unfolding tiles
 no_rows = refl
 
-pub one_row : down 2 1 2 0 0 ≡ Cut (from_zero 1 1)
+pub one_row : down 2 1 2 0 0 ≡ Ok (Some (from_zero 1 1))
 unfolding tiles
 one_row = refl
 
@@ -1624,7 +1609,7 @@ pub xt_0 : across 1 0 0 0 0 ≡ no_grid
 unfolding tiles
 xt_0 = refl
 
-pub xt_1 : across 1 0 1 0 0 ≡ Whole
+pub xt_1 : across 1 0 1 0 0 ≡ Ok None
 unfolding tiles
 xt_1 = refl
 
@@ -1632,7 +1617,7 @@ pub yt_0 : down 1 0 0 0 0 ≡ no_grid
 unfolding tiles
 yt_0 = refl
 
-pub yt_1 : down 1 0 1 0 0 ≡ Whole
+pub yt_1 : down 1 0 1 0 0 ≡ Ok None
 unfolding tiles
 yt_1 = refl
 
@@ -1642,11 +1627,11 @@ pub reach_short : across 3 2 2 0 0 ≡ no_grid
 unfolding tiles
 reach_short = refl
 
-pub reach_into : across 3 2 3 0 0 ≡ Cut (from_zero 1 1)
+pub reach_into : across 3 2 3 0 0 ≡ Ok (Some (from_zero 1 1))
 unfolding tiles
 reach_into = refl
 
-pub reach_far : across 0xffffffff 0xfffffffe 0xffffffff 0xfffffffe 0 ≡ Cut (from_zero 1 1)
+pub reach_far : across 0xffffffff 0xfffffffe 0xffffffff 0xfffffffe 0 ≡ Ok (Some (from_zero 1 1))
 unfolding tiles
 reach_far = refl
 
@@ -1654,25 +1639,25 @@ pub reach_short_down : down 3 2 2 0 0 ≡ no_grid
 unfolding tiles
 reach_short_down = refl
 
-pub reach_into_down : down 3 2 3 0 0 ≡ Cut (from_zero 1 1)
+pub reach_into_down : down 3 2 3 0 0 ≡ Ok (Some (from_zero 1 1))
 unfolding tiles
 reach_into_down = refl
 
 -- ---- * The last tile of six; one more: 31. With 2^32 tiles, and with (2^32-1)^2, Isot 65,535 names one.
 
-pub last_tile : tile_size AnnexB head 5 ≡ Cut (from_zero 2 2)
+pub last_tile : tile_size AnnexB head 5 ≡ Ok (Some (from_zero 2 2))
 unfolding tiles
 last_tile = refl
 
-pub past_last : tile_size AnnexB head 6 ≡ size.Refused (refusal 31 2)
+pub past_last : tile_size AnnexB head 6 ≡ Err (refusal NoSuchTile 2)
 unfolding tiles
 past_last = refl
 
-pub many_tiles : tile_size AnnexB (grid 0x10000 0x10000 0 0 1 1 0 0) 0xffff ≡ Whole
+pub many_tiles : tile_size AnnexB (grid 0x10000 0x10000 0 0 1 1 0 0) 0xffff ≡ Ok None
 unfolding tiles
 many_tiles = refl
 
-pub most_tiles : tile_size AnnexB (grid 0xffffffff 0xffffffff 0 0 1 1 0 0) 0xffff ≡ Whole
+pub most_tiles : tile_size AnnexB (grid 0xffffffff 0xffffffff 0 0 1 1 0 0) 0xffff ≡ Ok None
 unfolding tiles
 most_tiles = refl
 
@@ -1700,13 +1685,13 @@ moved_1 = refl
 
 -- ---- * A header of 39 bytes, or of 40 with FF52 at 2: unchanged by every rule, whatever stands there; of 40: 30 where there is no grid.
 
-pub bytes_39 : (rule : Rule) → tile_size rule (take 39 (grid 1 1 0 0 0 1 0 0)) 0 ≡ Whole
+pub bytes_39 : (rule : Rule) → tile_size rule (take 39 (grid 1 1 0 0 0 1 0 0)) 0 ≡ Ok None
 unfolding tiles
 bytes_39 AnnexB = refl
 bytes_39 Original = refl
 bytes_39 InPlace = refl
 
-pub bytes_40_other : (rule : Rule) → tile_size rule (two SOC ++ (0xff ∷ 0x52 ∷ zeros 36)) 0 ≡ Whole
+pub bytes_40_other : (rule : Rule) → tile_size rule (two SOC ++ (0xff ∷ 0x52 ∷ zeros 36)) 0 ≡ Ok None
 unfolding tiles
 bytes_40_other AnnexB = refl
 bytes_40_other Original = refl
@@ -1722,15 +1707,15 @@ pub thirty_first : tile_size AnnexB (grid 4 4 0 0 4 4 0 1) 1 ≡ no_grid
 unfolding tiles
 thirty_first = refl
 
-pub thirty_one_alone : tile_size AnnexB (grid 4 4 0 1 4 4 0 1) 1 ≡ size.Refused (refusal 31 2)
+pub thirty_one_alone : tile_size AnnexB (grid 4 4 0 1 4 4 0 1) 1 ≡ Err (refusal NoSuchTile 2)
 unfolding tiles
 thirty_one_alone = refl
 
-pub thirty_short : rewrite_answer AnnexB (grid 4 4 0 0 4 4 0 1) 0 0 ≡ writes.Refused (refusal 30 2)
+pub thirty_short : rewrite_answer AnnexB (grid 4 4 0 0 4 4 0 1) 0 0 ≡ Err (refusal NoGrid 2)
 unfolding tiles
 thirty_short = refl
 
-pub thirty_one_short : rewrite_answer AnnexB head 6 0 ≡ writes.Refused (refusal 31 2)
+pub thirty_one_short : rewrite_answer AnnexB head 6 0 ≡ Err (refusal NoSuchTile 2)
 unfolding tiles
 thirty_one_short = refl
 
@@ -1745,12 +1730,12 @@ pub row_written : scanned_table (part 0 14 []) 0 (replicate 22 7) ≡ row_of (on
 unfolding scan_runs
 row_written = refl
 
-pub no_row : scanned (part 0 14 []) 0 0 ≡ scans.Refused (refusal 18 1)
+pub no_row : scanned (part 0 14 []) 0 0 ≡ Err (refusal TableTooSmall 1)
 unfolding scan_runs
 no_row = refl
 
 -- one byte less than the assembly needs: 17
-pub no_room : (rule : Rule) → assembly_answer rule head (lent 5) A 62 ≡ writes.Refused (refusal 17 63)
+pub no_room : (rule : Rule) → assembly_answer rule head (lent 5) A 62 ≡ Err (refusal OutputTooSmall 63)
 unfolding scan_runs tiles
 no_room AnnexB = refl
 no_room Original = refl
@@ -1762,7 +1747,7 @@ unfolding tiles
 tile_6_short = refl
 
 -- a range that passes the end chooses no tile, and does not stop the rest
-pub dropped_first : (rule : Rule) → assembly_answer rule head (row_of (entry 5 73 17) ++ lent 0) A 61 ≡ Bytes 61
+pub dropped_first : (rule : Rule) → assembly_answer rule head (row_of (entry 5 73 17) ++ lent 0) A 61 ≡ Ok 61
 unfolding scan_runs tiles
 dropped_first AnnexB = refl
 dropped_first Original = refl
@@ -1771,7 +1756,7 @@ dropped_first InPlace = refl
 -- ---- beside the table: component sizes where the standard has others, or none (docs/DIFFERENCES.md, "Components")
 
 -- an image without a column has no tile
-pub no_column : components_in_tile AnnexB (header 10 6 10 0 4 4) 0 ≡ checks.Refused (refusal 30 2)
+pub no_column : components_in_tile AnnexB (header 10 6 10 0 4 4) 0 ≡ Err (refusal NoGrid 2)
 unfolding components
 no_column = refl
 
@@ -1792,14 +1777,14 @@ past_grid = refl
 
 -- ---- beside the table: where the SIZ reading stops
 
-pub past_the_end : siz-reading.siz_read (0xff ∷ 0x4f ∷ 0xff ∷ 0x52 ∷ 0xff ∷ 0xff ∷ []) ≡ read.Refused (refusal 21 65539)
+pub past_the_end : siz-reading.siz_read (0xff ∷ 0x4f ∷ 0xff ∷ 0x52 ∷ 0xff ∷ 0xff ∷ []) ≡ Err (refusal SizNotFound 65539)
 unfolding siz_readings
 past_the_end = refl
 
-pub one_left : siz-reading.siz_read (0xff ∷ 0x4f ∷ 0 ∷ []) ≡ read.Refused (refusal 21 2)
+pub one_left : siz-reading.siz_read (0xff ∷ 0x4f ∷ 0 ∷ []) ≡ Err (refusal SizNotFound 2)
 unfolding siz_readings
 one_left = refl
 
-pub nothing : siz-reading.siz_read [] ≡ read.Refused (refusal 21 2)
+pub nothing : siz-reading.siz_read [] ≡ Err (refusal SizNotFound 2)
 unfolding siz_readings
 nothing = refl

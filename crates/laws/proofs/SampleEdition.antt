@@ -4,6 +4,7 @@ use native.Mathlib.Omega.{arith}
 use mathlib.Core.Path.{◌≡◌, refl, ◌∙◌}
 use mathlib.Core.List.{List, [], ◌∷◌, ◌++◌}
 use lib.ListN.{drop, replicate}
+use Rattle.std.specs.Prelude.{Ok, Err}
 use Rattle.numbers.specs.Bits.{bit}
 use Rattle.numbers.specs.Bytes.{bytes_of}
 use Rattle.numbers.specs.Rows.{bytes_of_rows}
@@ -20,12 +21,12 @@ use Rattle.header.specs.Parse.{judged_by, judged_as}
 use Rattle.header.specs.declared.numbering.Numbering.TheVariants.{CarriedOn}
 use Rattle.header.specs.declared.reading.Reading.{Reading}
 use Rattle.header.specs.declared.parse.MainHeaderInfo.{MainHeaderInfo}
-use Rattle.header.specs.declared.parse.MainHeader.TheVariants.{Header, Refused}
 use Rattle.header.proofs.IsoMain.{up_to_sot, main_standard}
 use Rattle.header.proofs.IsoNumbering.{carried_standard}
 use Rattle.header.proofs.IsoCap.{cap_in_main, newer_standard}
 use Rattle.laws.proofs.SampleComputing.{samples, editions}
 use Rattle.laws.proofs.SampleStandard.{size}
+use Rattle.types.specs.declared.Reason.TheVariants.{CapOutOfPlace}
 
 abbrev newer : Reading
 newer = newer_by CarriedOn
@@ -78,12 +79,12 @@ unfolding standards
 high_announced = with parts cap refl refl
 
 -- accepted, by the law
-pub high_accepted : (h : MainHeaderInfo) → judged_by CarriedOn (up_to_sot siz pieces []) ≡ Header h → judged_as newer (up_to_sot siz pieces []) ≡ Header h
+pub high_accepted : (h : MainHeaderInfo) → judged_by CarriedOn (up_to_sot siz pieces []) ≡ Ok h → judged_as newer (up_to_sot siz pieces []) ≡ Ok h
 unfolding standards
 high_accepted h judged = newer_standard CarriedOn siz pieces [] main (omega arith) high_announced h judged
 
 -- the older accepts it
-pub high_judged : judged_by CarriedOn (up_to_sot siz pieces []) ≡ Header (record { first_sot_offset = record { 0 = 55 }; decode_header_length = 55; tlm_entries = 0; fillers = 0 })
+pub high_judged : judged_by CarriedOn (up_to_sot siz pieces []) ≡ Ok (record { first_sot_offset = record { 0 = 55 }; decode_header_length = 55; tlm_entries = 0; fillers = 0 })
 unfolding standards bytes_of
 high_judged = carried_standard siz pieces [] main (omega arith) ∙ main_standard siz pieces [] main (omega arith)
 
@@ -100,6 +101,6 @@ pub none_announced : Announced none []
 unfolding standards
 none_announced = without refl refl
 
-pub none_refused : judged_as newer (up_to_sot none [] []) ≡ Refused (refusal 33 2)
+pub none_refused : judged_as newer (up_to_sot none [] []) ≡ Err (refusal CapOutOfPlace 2)
 unfolding editions standards
 none_refused = refl

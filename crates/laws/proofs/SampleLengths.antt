@@ -7,6 +7,7 @@ use mathlib.Core.List.{List, [], ◌∷◌, ◌++◌, map}
 use lib.ListN.{length, length-append}
 use lib.Seq.{take-length}
 use borrow.Author.Tests.{eq-eqb, le-leb, lt-leb}
+use Rattle.std.specs.Prelude.{Err}
 use Rattle.numbers.specs.Bytes.{be, bytes_of}
 use Rattle.numbers.specs.Rows.{bytes_of_rows}
 use Rattle.numbers.proofs.BytesLaws.{length_bytes, be_bytes_of, be_front}
@@ -28,12 +29,12 @@ use Rattle.parts.proofs.ScanLaws.{step_short, sot_no_eoc, scan_refused}
 use Rattle.lengths.specs.Segments.{tlms_of, is_in, once, insert, ordered}
 use Rattle.lengths.specs.Check.{behind_scan, behind_table, behind_header, checked}
 use Rattle.lengths.specs.Iso.{Apart, Distinct}
-use Rattle.lengths.specs.declared.check.Check.TheVariants.{Refused}
 use Rattle.lengths.proofs.CheckLaws.{behind_sound, repeat_refuses, order_accepts}
 use Rattle.lengths.proofs.IsoListed.{Met, none, next, stands_from, main_met, main_places, once_standard}
 use Rattle.lengths.proofs.IsoCheck.{check_standard}
 use Rattle.laws.proofs.SampleStandard.{siz, A-main, siz_length}
 use Rattle.laws.proofs.SampleNumbering.{entries_of, count, ranges}
+use Rattle.types.specs.declared.Reason.TheVariants.{TilePartCutShort, TlmTooManyEntries, TlmNumberRepeated}
 
 -- segments of these Ztlm: n entries, then two full ones
 abbrev pub segments : ℕ → ℕ → ℕ → ℕ → ℕ → List Piece
@@ -103,7 +104,7 @@ module _ (z y x full n : ℕ) (hz : z < 256) (hy : y < 256) (hx : x < 256) (fits
 
   module _ (last : x < z) (middle : y < x) where
     passing : (vs : List Visit) → Met s vs (tables (segments z y x full n)) → map (λ v. v.at) vs ≡ stands_from 2 (other siz ∷ segments z y x full n)
-        → full + full ≤ 65_535 → 65_535 < full + full + n → ended_by CarriedOn s 0 (ordered s vs) at_first_sot ≡ refused (refusal 26 45)
+        → full + full ≤ 65_535 → 65_535 < full + full + n → ended_by CarriedOn s 0 (ordered s vs) at_first_sot ≡ refused (refusal TlmTooManyEntries 45)
     unfolding tables ordered insert ended_by next_number
     passing vs (next {v = v} a (next {v = u} b (next {v = w} c none))) there h many =
         let ua : unindexed s v.at ≡ n = a.many ∙ count n in
@@ -115,14 +116,14 @@ module _ (z y x full n : ℕ) (hz : z < 256) (hy : y < 256) (hx : x < 256) (fits
         ∙ rw (b.is, ub, le-leb (0 + full) 65_535 (omega arith))
         (rw (c.is, uc, le-leb (0 + full + full) 65_535 (omega arith))
         (rw (a.is, ua, lt-leb (0 + full + full + n) 65_535 (omega arith))
-        (ap (λ (p : ℕ). refused (refusal 26 p)) (at_45 vs there v (u ∷ w ∷ []) refl))))
+        (ap (λ (p : ℕ). refused (refusal TlmTooManyEntries p)) (at_45 vs there v (u ∷ w ∷ []) refl))))
 
     apart : Distinct (tables (segments z y x full n))
     unfolding Distinct Apart tables
     apart = ((λ e. omega arith, (λ e. omega arith, tt)), ((λ e. omega arith, tt), (tt, tt)))
 
     -- 26 there, and not 7 where the tile-part is cut
-    pub check_past : full + full ≤ 65_535 → 65_535 < full + full + n → checked s (length s) ≡ Refused (refusal 26 45)
+    pub check_past : full + full ≤ 65_535 → 65_535 < full + full + n → checked s (length s) ≡ Err (refusal TlmTooManyEntries 45)
     unfolding behind_table
     check_past h many =
         whole
@@ -130,7 +131,7 @@ module _ (z y x full n : ℕ) (hz : z < 256) (hy : y < 256) (hx : x < 256) (fits
         ∙ rw (passing (tlms_of s) (main_met siz (segments z y x full n) [] main) (main_places siz (segments z y x full n) [] main) h many)
 
     -- with few enough it is 7
-    pub check_fits : full + full + n ≤ 65_535 → checked s (length s) ≡ Refused (refusal 7 (63 + 4 * full + 2 * n))
+    pub check_fits : full + full + n ≤ 65_535 → checked s (length s) ≡ Err (refusal TilePartCutShort (63 + 4 * full + 2 * n))
     unfolding tables without_index behind_scan
     check_fits few =
         let at : ℕ = length (main_header siz (segments z y x full n)) in
@@ -140,18 +141,18 @@ module _ (z y x full n : ℕ) (hz : z < 256) (hy : y < 256) (hx : x < 256) (fits
         be_behind 2 (main_header siz (segments z y x full n)) (bytes_of 2 SOT ++ []) ∙ be_front 2 (bytes_of 2 SOT) [] 0 (omega (arith, length_bytes 2 SOT)) ∙ be_bytes_of 2 SOT (omega arith) in
         check_standard siz (segments z y x full n) [] main short apart (omega (arith, count full, count n))
         ∙ rw (scan_refused s at _ (step_short s at (omega arith) (sot_no_eoc s at marker) (omega arith)))
-        (ap (λ (p : ℕ). Refused (refusal 7 p)) length_header)
+        (ap (λ (p : ℕ). Err (refusal TilePartCutShort p)) length_header)
 
   -- ---- two of the same Ztlm: 32 at the second, and not 26
 
   repeating : z ≡ y → (vs : List Visit) → Met s vs (tables (segments z y x full n)) → map (λ v. v.at) vs ≡ stands_from 2 (other siz ∷ segments z y x full n)
-      → once s [] vs ≡ refused (refusal 32 (51 + 2 * n))
+      → once s [] vs ≡ refused (refusal TlmNumberRepeated (51 + 2 * n))
   unfolding tables once is_in stands_from piece_bytes
   repeating same vs (next {v = v} a (next {v = u} b more)) there =
       let second : u.at ≡ 2 + length (segment_bytes siz) + length (bytes_of_rows (tlm_rows (entries_of z n))) = cc in
       rw (a.number, b.number, eq-eqb y z (sym same))
-      (ap (λ (p : ℕ). refused (refusal 32 p)) (omega (arith, siz_length, count n, length_tlm (entries_of z n))))
+      (ap (λ (p : ℕ). refused (refusal TlmNumberRepeated p)) (omega (arith, siz_length, count n, length_tlm (entries_of z n))))
 
-  pub check_repeated : z ≡ y → checked s (length s) ≡ Refused (refusal 32 (51 + 2 * n))
+  pub check_repeated : z ≡ y → checked s (length s) ≡ Err (refusal TlmNumberRepeated (51 + 2 * n))
   check_repeated same =
       whole ∙ repeat_refuses s s _ ends (repeating same (tlms_of s) (main_met siz (segments z y x full n) [] main) (main_places siz (segments z y x full n) [] main))

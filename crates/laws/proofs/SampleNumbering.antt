@@ -8,12 +8,14 @@ use mathlib.Core.List.{List, [], ◌∷◌, ◌++◌}
 use lib.ListN.{length, replicate, length-append, length-replicate}
 use lib.Dec.{eqb}
 use borrow.Author.Tests.{le-leb}
+use Rattle.std.specs.Prelude.{Ok, Err}
 use Rattle.numbers.specs.Bytes.{be, bytes_of}
 use Rattle.numbers.specs.Rows.{bytes_of_rows}
 use Rattle.numbers.proofs.BytesLaws.{length_bytes, be_rest}
 use Rattle.numbers.proofs.Rows.{be_behind, be_one}
 use Rattle.types.specs.Markers.{SOC, TLM, SOT}
 use Rattle.types.specs.Refusals.{refusal}
+use Rattle.types.specs.declared.Reason.{Reason}
 use Rattle.types.specs.declared.Refusal.{Refusal}
 use Rattle.header.specs.Iso.{segment_bytes}
 use Rattle.header.specs.IsoTlm.{Pointer, TlmSegment, tlm_rows, Held, TlmRanges, numbered, numbered_on, insert, ordered, iso_table, without_index, InOrder}
@@ -25,9 +27,6 @@ use Rattle.header.specs.declared.step.Marker.{Marker}
 use Rattle.header.specs.Tlm.{Entry, index_size, tlm_at}
 use Rattle.header.specs.Walk.{cut_at, tlm_step, walk_step_at, walk_from}
 use Rattle.header.specs.Numbering.{entries_by}
-use Rattle.header.specs.declared.tlm.Tlm.TheVariants as tlms
-use Rattle.header.specs.declared.walk.WalkStep.TheVariants as walk
-use Rattle.header.specs.declared.parse.MainHeader.TheVariants.{Header, Refused}
 use Rattle.header.proofs.StepLaws.{step_no_end, step_segment}
 use Rattle.header.proofs.TlmLaws.{tlm_short, tlm_unknown}
 use Rattle.header.proofs.WalkLaws.{pass_tlm, walk_segment, walk_cut}
@@ -36,6 +35,7 @@ use Rattle.header.proofs.IsoTlm.{length_tlm}
 use Rattle.header.proofs.IsoMain.{up_to_sot, main_standard, carried_main, tlm_carried}
 use Rattle.header.proofs.IsoNumbering.{carried_standard, own_carried, own_restarting, past_standard}
 use Rattle.laws.proofs.SampleStandard.{siz, A-main, siz_length}
+use Rattle.types.specs.declared.Reason.TheVariants.{SegmentPastEnd, TlmTooShort, TlmFormUnknown, TlmTooManyEntries}
 
 -- so many entries of 2 bytes, without an index, in a segment of a Ztlm
 abbrev pub entries_of : ℕ → ℕ → TlmSegment
@@ -112,7 +112,7 @@ module _ (full n : ℕ) (fits : full ≤ 32_765) (few : n ≤ 32_765) where
   short tail h = omega (arith, length-append (main_header siz (three full n)) tail, length_pieces)
 
   -- a header and the first tile-part's SOT: the walk accepts it, and so does either numbering, if the numbers do not pass
-  walked : judged (up_to_sot siz (three full n) []) ≡ Header (record {
+  walked : judged (up_to_sot siz (three full n) []) ≡ Ok (record {
     first_sot_offset = record { 0 = 63 + 4 * full + 2 * n };
     decode_header_length = 45;
     tlm_entries = full + (full + n);
@@ -123,9 +123,9 @@ module _ (full n : ℕ) (fits : full ≤ 32_765) (few : n ≤ 32_765) where
       let header : length (main_header siz []) ≡ 45 = omega (arith, length-append (bytes_of 2 SOC) (segment_bytes siz ++ []), length-append (segment_bytes siz) [], length_bytes 2 SOC, siz_length) in
       let many : pointer_count (tables (three full n)) ≡ full + (full + n) = omega (arith, count full, count n) in
       main_standard siz (three full n) [] main (short (bytes_of 2 SOT ++ []) (omega arith))
-      ∙ (λ i. Header (record { first_sot_offset = record { 0 = length_pieces i }; decode_header_length = header i; tlm_entries = many i; fillers = 0 }))
+      ∙ (λ i. Ok (record { first_sot_offset = record { 0 = length_pieces i }; decode_header_length = header i; tlm_entries = many i; fillers = 0 }))
 
-  pub restarting : judged_by Restarting (up_to_sot siz (three full n) []) ≡ Header (record {
+  pub restarting : judged_by Restarting (up_to_sot siz (three full n) []) ≡ Ok (record {
     first_sot_offset = record { 0 = 63 + 4 * full + 2 * n };
     decode_header_length = 45;
     tlm_entries = full + (full + n);
@@ -133,7 +133,7 @@ module _ (full n : ℕ) (fits : full ≤ 32_765) (few : n ≤ 32_765) where
   })
   restarting = judged_restart (up_to_sot siz (three full n) []) ∙ walked
 
-  pub carried : full + (full + n) ≤ 65_535 → judged_by CarriedOn (up_to_sot siz (three full n) []) ≡ Header (record {
+  pub carried : full + (full + n) ≤ 65_535 → judged_by CarriedOn (up_to_sot siz (three full n) []) ≡ Ok (record {
     first_sot_offset = record { 0 = 63 + 4 * full + 2 * n };
     decode_header_length = 45;
     tlm_entries = full + (full + n);
@@ -144,25 +144,25 @@ module _ (full n : ℕ) (fits : full ≤ 32_765) (few : n ≤ 32_765) where
 
   -- they pass in the third segment, whatever stands behind it
   pub past : full + full ≤ 65_535 → 65_535 < full + full + n → (tail : List ℕ) → length tail ≤ 8
-      → judged_by CarriedOn (main_header siz (three full n) ++ tail) ≡ Refused (refusal 26 (57 + 4 * full))
+      → judged_by CarriedOn (main_header siz (three full n) ++ tail) ≡ Err (refusal TlmTooManyEntries (57 + 4 * full))
   unfolding tables without_index
   past h many tail little =
       past_standard siz (two_full full) (entries n) [] tail main (short tail little) (omega (arith, count full)) refl (omega (arith, count full, count n))
-      ∙ (λ i. Refused (refusal 26 (length_before i)))
+      ∙ (λ i. Err (refusal TlmTooManyEntries (length_before i)))
 
   -- what the walk refuses behind the three
-  module _ (tail : List ℕ) (little : length tail ≤ 8) (number : ℕ)
-      (found : (front : List ℕ) → walk_step_at (front ++ tail) (length front) ≡ walk.Refused (refusal number (length front))) where
-    pub own_restarts : judged_by Restarting (main_header siz (three full n) ++ tail) ≡ Refused (refusal number (63 + 4 * full + 2 * n))
+  module _ (tail : List ℕ) (little : length tail ≤ 8) (reason : Reason)
+      (found : (front : List ℕ) → walk_step_at (front ++ tail) (length front) ≡ Err (refusal reason (length front))) where
+    pub own_restarts : judged_by Restarting (main_header siz (three full n) ++ tail) ≡ Err (refusal reason (63 + 4 * full + 2 * n))
     own_restarts =
-        own_restarting siz (three full n) tail main (short tail little) (refusal number (length (main_header siz (three full n)))) (found (main_header siz (three full n)))
-        ∙ (λ i. Refused (refusal number (length_pieces i)))
+        own_restarting siz (three full n) tail main (short tail little) (refusal reason (length (main_header siz (three full n)))) (found (main_header siz (three full n)))
+        ∙ (λ i. Err (refusal reason (length_pieces i)))
 
-    pub own_carries : full + (full + n) ≤ 65_535 → judged_by CarriedOn (main_header siz (three full n) ++ tail) ≡ Refused (refusal number (63 + 4 * full + 2 * n))
+    pub own_carries : full + (full + n) ≤ 65_535 → judged_by CarriedOn (main_header siz (three full n) ++ tail) ≡ Err (refusal reason (63 + 4 * full + 2 * n))
     unfolding tables without_index
     own_carries h =
-        own_carried siz (three full n) tail main (short tail little) (refusal number (length (main_header siz (three full n)))) (found (main_header siz (three full n))) (omega (arith, count full, count n))
-        ∙ (λ i. Refused (refusal number (length_pieces i)))
+        own_carried siz (three full n) tail main (short tail little) (refusal reason (length (main_header siz (three full n)))) (found (main_header siz (three full n))) (omega (arith, count full, count n))
+        ∙ (λ i. Err (refusal reason (length_pieces i)))
 
 -- ---- what the walk refuses at its next marker
 
@@ -181,7 +181,7 @@ abbrev pub one_more : List ℕ
 one_more = 0xff ∷ 0x55 ∷ 0 ∷ 6 ∷ 0 ∷ 0 ∷ 0 ∷ 14 ∷ []
 
 module _ (front : List ℕ) where
-  pub cut_there : walk_step_at (front ++ cut) (length front) ≡ walk.Refused (refusal 3 (length front))
+  pub cut_there : walk_step_at (front ++ cut) (length front) ≡ Err (refusal SegmentPastEnd (length front))
   unfolding delimits segment_end be cut_at
   cut_there =
       let s : List ℕ = front ++ cut in
@@ -193,8 +193,8 @@ module _ (front : List ℕ) where
       ∙ rw (le-leb (length front + 2) (length s) (omega arith))
 
   -- a TLM segment that stands whole is refused as it refuses itself
-  whole_tlm : (tail : List ℕ) → be 2 tail 0 ≡ TLM → 2 + be 2 tail 2 ≡ length tail → 4 ≤ length tail → (r : Refusal) → tlm_at (front ++ tail) (length front) ≡ tlms.Refused r
-      → walk_step_at (front ++ tail) (length front) ≡ walk.Refused r
+  whole_tlm : (tail : List ℕ) → be 2 tail 0 ≡ TLM → 2 + be 2 tail 2 ≡ length tail → 4 ≤ length tail → (r : Refusal) → tlm_at (front ++ tail) (length front) ≡ Err r
+      → walk_step_at (front ++ tail) (length front) ≡ Err r
   unfolding delimits segment_end tlm_step
   whole_tlm tail is ends four r found =
       let s : List ℕ = front ++ tail in
@@ -206,15 +206,15 @@ module _ (front : List ℕ) where
       ∙ pass_tlm s (length front) m marker
       ∙ ap (tlm_step m) found
 
-  pub ltlm_3_there : walk_step_at (front ++ ltlm_3) (length front) ≡ walk.Refused (refusal 4 (length front))
+  pub ltlm_3_there : walk_step_at (front ++ ltlm_3) (length front) ≡ Err (refusal TlmTooShort (length front))
   unfolding be
   ltlm_3_there =
-      whole_tlm ltlm_3 refl refl (omega arith) (refusal 4 (length front)) (tlm_short (front ++ ltlm_3) (length front) (omega (arith, be_rest 2 front ltlm_3 2)))
+      whole_tlm ltlm_3 refl refl (omega arith) (refusal TlmTooShort (length front)) (tlm_short (front ++ ltlm_3) (length front) (omega (arith, be_rest 2 front ltlm_3 2)))
 
-  pub st_3_there : walk_step_at (front ++ st_3) (length front) ≡ walk.Refused (refusal 5 (length front))
+  pub st_3_there : walk_step_at (front ++ st_3) (length front) ≡ Err (refusal TlmFormUnknown (length front))
   unfolding be
   st_3_there =
-      whole_tlm st_3 refl refl (omega arith) (refusal 5 (length front))
+      whole_tlm st_3 refl refl (omega arith) (refusal TlmFormUnknown (length front))
       (tlm_unknown (front ++ st_3) (length front) (omega (arith, be_rest 2 front st_3 2)) (ap index_size (sym (be_one (front ++ st_3) (length front + 5)) ∙ be_rest 1 front st_3 5)))
 
 -- ---- the standard's table of two segments

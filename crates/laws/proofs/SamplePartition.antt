@@ -3,18 +3,19 @@
 use Prim.Native.Nat.{ℕ}
 use native.Mathlib.Omega.{arith}
 use mathlib.Core.Path.{◌≡◌, refl}
+use Rattle.std.specs.Prelude.{Err}
 use Rattle.types.specs.Area.{Has}
 use Rattle.types.specs.Refusals.{refusal}
 use Rattle.tile.specs.AnnexB.{across, down}
 use Rattle.tile.specs.Rules.{image_area, placed_by}
 use Rattle.tile.specs.declared.rules.Rule.TheVariants.{AnnexB}
-use Rattle.tile.specs.declared.rules.Placed.TheVariants.{Refused}
 use Rattle.tile.proofs.AnnexBLaws.{Laid}
 use Rattle.tile.proofs.RulesPartition.{OneTile, tiles_partition}
 use Rattle.reader.proofs.ComponentsPartition.{OneTileOf, component_partition}
 use Rattle.laws.specs.Sample.{grid, A}
 use Rattle.laws.proofs.SampleComputing.{components}
 use Rattle.laws.proofs.SampleEdges.{component_0}
+use Rattle.types.specs.declared.Reason.TheVariants.{NoGrid}
 
 -- ---- it is met
 
@@ -43,6 +44,6 @@ pub point_there : Has (image_area (grid 2 1 0 0 1 1 1 0)) 0 0
 unfolding components
 point_there = record { left = omega arith; right = omega arith; top = omega arith; bottom = omega arith }
 
-pub no_tile_there : (tile : ℕ) → placed_by AnnexB (grid 2 1 0 0 1 1 1 0) tile ≡ Refused (refusal 30 2)
+pub no_tile_there : (tile : ℕ) → placed_by AnnexB (grid 2 1 0 0 1 1 1 0) tile ≡ Err (refusal NoGrid 2)
 unfolding components
 no_tile_there tile = refl

@@ -4,7 +4,6 @@
 use Prim.Native.Nat.{ℕ, ◌/◌, min}
 use mathlib.Core.List.{List, ◌++◌}
 use lib.ListN.{length, take, drop}
-use Rattle.numbers.specs.contracts as numbers
 use Rattle.types.specs.contracts as types
 use Rattle.header.specs.contracts as header
 use Rattle.header.specs.Parse.{table_after, out_after}
@@ -24,17 +23,6 @@ use Rattle.probe.specs.contracts as probe
 use Rattle.settling.specs.Settles.{Settles, SettlesAs}
 use Rattle.settling.proofs.Settling.{last, beside, before, settles, by_one, by_first}
 
--- ---- numbers
-
-pub clamped_sub : {M : Type 1} → Settles M numbers.clamped_sub.ended (λ 𝓤. numbers.clamped_sub.clauses)
-clamped_sub m κs a g = settles m (last m) λ x y e i. (e i, x.1)
-
-pub minimum : {M : Type 1} → Settles M numbers.minimum.ended (λ 𝓤. numbers.minimum.clauses)
-minimum m κs a g = settles m (last m) λ x y e i. (e i, x.1)
-
-pub maximum : {M : Type 1} → Settles M numbers.maximum.ended (λ 𝓤. numbers.maximum.clauses)
-maximum m κs a g = settles m (last m) λ x y e i. (e i, x.1)
-
 -- ---- types
 
 pub codestream_at : {M : Type 1} → Settles M types.CodestreamOffset.at.ended (λ 𝓤. types.CodestreamOffset.at.clauses)
@@ -52,6 +40,12 @@ in_file_lem m κs a g = settles m (last m) λ x y e i. (e i, x.1)
 pub in_codestream_lem : {M : Type 1} → Settles M types.FileOffset.in_codestream.ended (λ 𝓤. types.FileOffset.in_codestream.clauses)
 in_codestream_lem m κs a g = settles m (last m) λ x y e i. (e i, x.1)
 
+pub tell : {M : Type 1} → Settles M types.tell.ended (λ 𝓤. types.tell.clauses)
+tell m κs a g = settles m (before m (last m)) λ x y e i. (e.0 i, (tt, (e.1 i, tt)))
+
+pub refusal_number : {M : Type 1} → Settles M types.Refusal.number.ended (λ 𝓤. types.Refusal.number.clauses)
+refusal_number m κs a g = settles m (last m) λ x y e i. (e i, x.1)
+
 -- ---- header
 
 pub main_header_extent : {M : Type 1} → Settles M header.extent.main_header_extent.ended (λ 𝓤. header.extent.main_header_extent.clauses)
@@ -60,13 +54,13 @@ main_header_extent m κs a g = settles m (last m) λ x y e i. (e i, x.1)
 pub find_marker : {M : Type 1} → Settles M header.find.find_marker.ended (λ 𝓤. header.find.find_marker.clauses)
 find_marker m κs a g = settles m (last m) λ x y e i. (e i, x.1)
 
-pub numbering_of_lem : {M : Type 1} → Settles M header.numbering.numbering_of.ended (λ 𝓤. header.numbering.numbering_of.clauses)
+pub numbering_of_lem : {M : Type 1} → Settles M header.numbering.NumberingFromU32.from.ended (λ 𝓤. header.numbering.NumberingFromU32.from.clauses)
 numbering_of_lem m κs a g = settles m (last m) λ x y e i. (e i, x.1)
 
-pub edition_of_lem : {M : Type 1} → Settles M header.edition.edition_of.ended (λ 𝓤. header.edition.edition_of.clauses)
+pub edition_of_lem : {M : Type 1} → Settles M header.edition.EditionFromU32.from.ended (λ 𝓤. header.edition.EditionFromU32.from.clauses)
 edition_of_lem m κs a g = settles m (last m) λ x y e i. (e i, x.1)
 
-pub reading_of_lem : {M : Type 1} → Settles M header.reading.reading_of.ended (λ 𝓤. header.reading.reading_of.clauses)
+pub reading_of_lem : {M : Type 1} → Settles M header.reading.ReadingFromReadingNumbers.from.ended (λ 𝓤. header.reading.ReadingFromReadingNumbers.from.clauses)
 reading_of_lem m κs a g = settles m (last m) λ x y e i. (e i, x.1)
 
 pub test_front : {M : Type 1} → Settles M header.parse.test_front.ended (λ 𝓤. header.parse.test_front.clauses)
@@ -93,9 +87,6 @@ scan_judge m κs a g = settles m (last m) λ x y e i. (e i, x.1)
 
 pub parts_decide : {M : Type 1} → Settles M parts.walk.decide.ended (λ 𝓤. parts.walk.decide.clauses)
 parts_decide m κs a g = settles m (beside m) λ x y e i. (e i, x.1)
-
-pub scan_tell : {M : Type 1} → Settles M parts.scan.tell.ended (λ 𝓤. parts.scan.tell.clauses)
-scan_tell m κs a g = settles m (before m (last m)) λ x y e i. (e.0 i, (tt, (e.1 i, tt)))
 
 pub scan_sot_markers : {M : Type 1} → Settles M parts.scan.scan_sot_markers.ended (λ 𝓤. parts.scan.scan_sot_markers.clauses)
 scan_sot_markers m κs a g = settles m (before m (last m)) λ x y e i. (e.0 i, (tt, (tt, (e.1 i, tt))))
@@ -130,6 +121,9 @@ split_tell m κs a g = settles m (before m (before m (last m))) λ x y e i. (e.0
 pub check_length_table : {M : Type 1} → Settles M lengths.check.check_length_table.ended (λ 𝓤. lengths.check.check_length_table.clauses)
 check_length_table m κs a g = settles m (last m) λ x y e i. (e i, x.1)
 
+pub said_of_entry : {M : Type 1} → Settles M lengths.check.SaidFromTilePartEntry.from.ended (λ 𝓤. lengths.check.SaidFromTilePartEntry.from.clauses)
+said_of_entry m κs a g = settles m (last m) λ x y e i. (e i, x.1)
+
 -- ---- index
 
 pub index_tile_of : {M : Type 1} → Settles M index.keys.tile_of.ended (λ 𝓤. index.keys.tile_of.clauses)
@@ -146,9 +140,6 @@ index_needs m κs a g = settles m (last m) λ x y e i. (e i, x.1)
 
 pub index_decide : {M : Type 1} → Settles M index.extend.decide.ended (λ 𝓤. index.extend.decide.clauses)
 index_decide m κs a g = settles m (last m) λ x y e i. (e i, x.1)
-
-pub index_tell : {M : Type 1} → Settles M index.extend.tell.ended (λ 𝓤. index.extend.tell.clauses)
-index_tell m κs a g = settles m (before m (last m)) λ x y e i. (e.0 i, (tt, (e.1 i, tt)))
 
 pub extend_index : {M : Type 1} → Settles M index.extend.extend_index.ended (λ 𝓤. index.extend.extend_index.clauses)
 extend_index m κs a g =
@@ -239,6 +230,12 @@ rewrite_siz_for_tile m κs a g = settles m (before m (last m)) λ x y e i. (e.0 
 pub build_minimal_codestream : {M : Type 1} → Settles M tile.assembly.build_minimal_codestream.ended (λ 𝓤. tile.assembly.build_minimal_codestream.clauses)
 build_minimal_codestream m κs a g = settles m (before m (last m)) λ x y e i. (e.0 i, (tt, (tt, (tt, (tt, (e.1 i, tt))))))
 
+pub refusal_for_lem : {M : Type 1} → Settles M tile.rules.RefusalFromNoTile.from.ended (λ 𝓤. tile.rules.RefusalFromNoTile.from.clauses)
+refusal_for_lem m κs a g = settles m (last m) λ x y e i. (e i, x.1)
+
+pub rule_of_lem : {M : Type 1} → Settles M tile.rules.RuleFromU32.from.ended (λ 𝓤. tile.rules.RuleFromU32.from.clauses)
+rule_of_lem m κs a g = settles m (last m) λ x y e i. (e i, x.1)
+
 -- ---- reader
 
 pub parse_siz_marker : {M : Type 1} → Settles M reader.siz.parse_siz_marker.ended (λ 𝓤. reader.siz.parse_siz_marker.clauses)
@@ -327,14 +324,8 @@ winterhasp_split_part m κs a g = settles m (before m (before m (last m))) λ x 
 pub winterhasp_split_at : {M : Type 1} → Settles M host.split.winterhasp_split_at.ended (λ 𝓤. host.split.winterhasp_split_at.clauses)
 winterhasp_split_at m κs a g = settles m (before m (before m (last m))) λ x y e i. (e.0 i, (tt, (tt, (e.1.1 i, (e.1.0 i, tt)))))
 
-pub tell_written : {M : Type 1} → Settles M host.rewrite.tell_written.ended (λ 𝓤. host.rewrite.tell_written.clauses)
-tell_written m κs a g = settles m (before m (last m)) λ x y e i. (e.0 i, (tt, (e.1 i, tt)))
-
 pub winterhasp_rewrite_siz_for_tile : {M : Type 1} → Settles M host.rewrite.winterhasp_rewrite_siz_for_tile.ended (λ 𝓤. host.rewrite.winterhasp_rewrite_siz_for_tile.clauses)
 winterhasp_rewrite_siz_for_tile m κs a g = settles m (before m (before m (last m))) λ x y e i. (e.0 i, (tt, (tt, (e.1.1 i, (e.1.0 i, tt)))))
-
-pub rule_of_lem : {M : Type 1} → Settles M host.rules.rule_of.ended (λ 𝓤. host.rules.rule_of.clauses)
-rule_of_lem m κs a g = settles m (last m) λ x y e i. (e i, x.1)
 
 pub winterhasp_rewrite_siz_for_tile_by_rule : {M : Type 1} → Settles M host.rewrite.winterhasp_rewrite_siz_for_tile_by_rule.ended (λ 𝓤. host.rewrite.winterhasp_rewrite_siz_for_tile_by_rule.clauses)
 winterhasp_rewrite_siz_for_tile_by_rule m κs a g = settles m (before m (before m (last m))) λ x y e i. (e.0 i, (tt, (tt, (tt, (e.1.1 i, (e.1.0 i, tt))))))

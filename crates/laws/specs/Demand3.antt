@@ -1,6 +1,6 @@
 -- Demand 3, sentence by sentence: the codestream that it takes, what is asked of a tile, and what is said. Each is spelled with the definitions that
 -- the functions' contracts cite, so it is said of what the functions answer.
-use Rattle.std.specs.Prelude.{ℕ, ◌+◌, ◌≤◌, ◌<◌, ◌≡◌, List, [], ◌∷◌, ◌++◌, map, length, get_or, take, drop}
+use Rattle.std.specs.Prelude.{ℕ, ◌+◌, ◌≤◌, ◌<◌, ◌≡◌, List, [], ◌∷◌, ◌++◌, map, length, get_or, take, drop, Ok, Err}
 use Rattle.numbers.specs.Bytes.{be}
 use Rattle.types.specs.Row.{rows_of}
 use Rattle.types.specs.declared.Refusal.{Refusal}
@@ -10,19 +10,15 @@ use Rattle.header.specs.Strip.{decode_header}
 use Rattle.header.specs.Reading.{newer_by}
 use Rattle.header.specs.declared.numbering.Numbering.{Numbering}
 use Rattle.header.specs.declared.parse.MainHeaderInfo.{MainHeaderInfo}
-use Rattle.header.specs.declared.parse.MainHeader.TheVariants.{Header}
 use Rattle.parts.specs.Sot.{psot}
 use Rattle.parts.specs.Scan.{scan_from, entries_from}
 use Rattle.parts.specs.Split.{parts_of}
 use Rattle.parts.specs.Tiles.{Adjoining, of_tile, bytes_at, joined, AllLong}
-use Rattle.parts.specs.declared.scan.Scanned.TheVariants.{Table}
 use Rattle.tile.specs.Rewrite.{tile_size, rewritten}
 use Rattle.tile.specs.Assembly.{parts_in, assembled, assembly_answer, assembly_out}
 use Rattle.tile.specs.declared.rules.Rule.{Rule}
-use Rattle.tile.specs.declared.rewrite.Written.TheVariants.{Bytes}
 use Rattle.header.specs.Parse as parse
 use Rattle.parts.specs.Scan as scan
-use Rattle.tile.specs.declared.rewrite.TileSize.TheVariants as size
 
 -- ---- "Take a codestream whose header walk accepts with the first SOT at p and whose scan from p accepts."
 
@@ -34,10 +30,10 @@ AllBytes s = (i : ℕ) → get_or s i 0 < 256
 pub record Accepted (s : List ℕ) (p : ℕ) : Type 0 where
   pub bytes : AllBytes s
   pub info : MainHeaderInfo
-  pub header : parse.judged s ≡ Header info
+  pub header : parse.judged s ≡ Ok info
   pub first : info.first_sot_offset.0 ≡ p
   pub count : ℕ
-  pub scan : scan.judged (scan_from s p) ≡ Table count
+  pub scan : scan.judged (scan_from s p) ≡ Ok count
 
 -- ---- "The entries start at p, each begins where the one before ends, and all lie inside the codestream."
 
@@ -74,7 +70,7 @@ pub record Assembles (rule : Rule) (s : List ℕ) (tile : ℕ) (es : List TilePa
   pub some : es ≡ [] → ⊥
   pub sized : NoPsot0 s es
   pub siz : 38 ≤ lsiz s
-  pub accepts : (r : Refusal) → tile_size rule (decode_header_of s) tile ≡ size.Refused r → ⊥
+  pub accepts : (r : Refusal) → tile_size rule (decode_header_of s) tile ≡ Err r → ⊥
   pub room : length (assembled_of rule s es) ≤ length out
   pub short : length (assembled_of rule s es) ≤ 0xffff_ffff
 
@@ -89,20 +85,20 @@ under_zero at (e ∷ rest) = record { tile_index = 0; numbers = e.numbers; offse
 pub record Standing (header : List ℕ) (es : List TilePartEntry) (codestream : List ℕ) : Type 0 where
   pub front : take (length header) codestream ≡ header
   pub info : MainHeaderInfo
-  pub walk : parse.judged codestream ≡ Header info
-  pub numbered : (n : Numbering) → parse.judged_by n codestream ≡ Header info
+  pub walk : parse.judged codestream ≡ Ok info
+  pub numbered : (n : Numbering) → parse.judged_by n codestream ≡ Ok info
   pub first : info.first_sot_offset.0 ≡ length header
-  pub scan : scan.judged (scan_from codestream (length header)) ≡ Table (length es)
+  pub scan : scan.judged (scan_from codestream (length header)) ≡ Ok (length es)
   pub entries : entries_from codestream (length header) ≡ under_zero (length header) es
 
 -- the table lent to the assembly holds the rows of the entries; its output then holds such a codestream
 pub record Reassembled (rule : Rule) (s : List ℕ) (tile : ℕ) (es : List TilePartEntry) (out : List ℕ) : Type 0 where
-  pub answer : assembly_answer rule (decode_header_of s) (rows_of es) s (length out) ≡ Bytes (length (assembled_of rule s es))
+  pub answer : assembly_answer rule (decode_header_of s) (rows_of es) s (length out) ≡ Ok (length (assembled_of rule s es))
   pub output : assembly_out rule (decode_header_of s) (rows_of es) s out ≡ assembled_of rule s es ++ drop (length (assembled_of rule s es)) out
   pub standing : Standing (rewritten rule (decode_header_of s) tile) es (assembled_of rule s es)
   -- where the newer edition accepts the codestream, it accepts this one
-  pub newer : (n : Numbering) (h : MainHeaderInfo) → parse.judged_as (newer_by n) s ≡ Header h
-      → parse.judged_as (newer_by n) (assembled_of rule s es) ≡ Header standing.info
+  pub newer : (n : Numbering) (h : MainHeaderInfo) → parse.judged_as (newer_by n) s ≡ Ok h
+      → parse.judged_as (newer_by n) (assembled_of rule s es) ≡ Ok standing.info
 
 -- ---- all of it, by every rule
 

@@ -2,10 +2,9 @@
 -- SOT. Where it stops, the scan's rest says whether there is a tile-part.
 use Prim.Native.Nat.{ℕ, ◌+◌, ◌-◌, ◌≤◌, ◌<◌}
 use native.Mathlib.Omega.{arith}
-use mathlib.Core.Path.{◌≡◌, refl, sym, ap, ◌∙◌}
+use mathlib.Core.Path.{◌≡◌, refl, sym, ap, ap₂, ◌∙◌}
 use mathlib.Core.List.{List, ◌∷◌, ◌++◌}
 use lib.ListN.{length, get_or}
-use Rattle.types.specs.declared.Refusal.{Refusal}
 use Rattle.types.specs.declared.TilePartEntry.{TilePartEntry}
 use Rattle.chain.specs.Chain.{Visit, Chain, also}
 use Rattle.header.specs.Tlm.{Entry, entry_count, entry_on, entries_on, record_of}
@@ -14,21 +13,16 @@ use Rattle.header.specs.Numbering.{entries_by, ended_by}
 use Rattle.header.specs.declared.numbering.Numbering.TheVariants.{CarriedOn}
 use Rattle.header.proofs.NumberingLaws.{refused_first}
 use Rattle.header.proofs.TlmFill.{entries_next}
-use Rattle.parts.specs.Scan.{ScanEnd, ended, scan_step_at, scan_from, entries_from, judged, ended_as}
-use Rattle.parts.specs.Scan as scan
-use Rattle.parts.specs.declared.scan.Scanned.TheVariants as answer
+use Rattle.parts.specs.Scan.{ScanEnd, scan_step_at, scan_from}
 use Rattle.parts.proofs.ScanLaws.{part_stands, scan_part}
-use Rattle.parts.proofs.ScanAnswers.{judged_table}
 use Rattle.numbers.proofs.Choice.{by_bool}
 use lib.Dec.{leb}
 use borrow.Author.Tests.{leb-true, leb-false}
+use Rattle.std.specs.Prelude.{Some, None, Ok}
 use Rattle.lengths.specs.Segments.{tlms_of, numbers_end}
 use Rattle.lengths.specs.Places.{having, Notes}
 use Rattle.lengths.specs.Check.{pair_of, listed, standing, said, compared, behind_scan}
 use Rattle.lengths.specs.Agree.{agreed_by, settled_as, settled}
-use Rattle.lengths.specs.declared.check.Said.TheVariants.{Nothing}
-use Rattle.lengths.specs.declared.check.Check.TheVariants.{Refused}
-use Rattle.lengths.specs.declared.check.Agreed.TheVariants.{To, Not}
 use Rattle.lengths.specs.declared.check.Stop.{Stop}
 use Rattle.lengths.proofs.SegmentsOrder.{grouped_end}
 use Rattle.lengths.proofs.PlacesNumbered.{next, end_from, listed_from, all_from_0, end_none, end_fits, end_past, listed_none, listed_one}
@@ -68,7 +62,7 @@ module _ (h s : List ℕ) (place first count from start at number i : ℕ) (m : 
 
   module _ {e : TilePartEntry} {o : ℕ} (is : e ≡ record_of o entry) where
     -- it agrees
-    module _ (end : ℕ) (agreed : agreed_by (pair_of e) (scan_step_at s at) ≡ To end) where
+    module _ (end : ℕ) (agreed : agreed_by (pair_of e) (scan_step_at s at) ≡ Some end) where
       pub there : Passed s at entry end
       there = agrees s at entry end (ap (λ (x : TilePartEntry). agreed_by (pair_of x) (scan_step_at s at)) (sym is) ∙ agreed)
 
@@ -102,12 +96,12 @@ module _ (h s : List ℕ) (place first count from start at number i : ℕ) (m : 
           (omega arith, omega arith)
 
     -- it does not
-    pub matching_stops : agreed_by (pair_of e) (scan_step_at s at) ≡ Not → (rest : List Entry)
-        → compared start from (entries_on h place first 0 count ++ rest) (standing s from) ≡ settled_as number at (standing s at) (said (pair_of e))
+    pub matching_stops : agreed_by (pair_of e) (scan_step_at s at) ≡ None → (rest : List Entry)
+        → compared start from (entries_on h place first 0 count ++ rest) (standing s from) ≡ Ok (settled_as number at (standing s at) (Some (said (pair_of e))))
     matching_stops differs rest =
         due rest
         ∙ stopped s at entry number _ (ap (λ (x : TilePartEntry). agreed_by (pair_of x) (scan_step_at s at)) (sym is) ∙ differs)
-        ∙ ap (λ (x : TilePartEntry). settled_as number at (standing s at) (said (pair_of x))) (sym is)
+        ∙ ap (λ (x : TilePartEntry). Ok (settled_as number at (standing s at) (Some (said (pair_of x))))) (sym is)
 
 -- ---- segment by segment
 
@@ -135,10 +129,10 @@ comparing_start h s start bytes numbered =
 -- where the comparison stopped: the whole is answered by what is left
 pub record Stopped (h s : List ℕ) (start at : ℕ) (stop : Stop) : Type 0 where
   pub ends : (scan_from s start).ended ≡ (scan_from s at).ended
-  pub same : compared 0 start (listed h) (standing s start) ≡ settled stop at (standing s at)
+  pub same : compared 0 start (listed h) (standing s start) ≡ Ok (settled stop at (standing s at))
 
 module _ (h s : List ℕ) (start at number first z : ℕ) (c : Comparing h s start at number first z) where
-  pub stops_whole : 256 ≤ z → Stopped h s start at (record { number = number; listed = Nothing })
+  pub stops_whole : 256 ≤ z → Stopped h s start at (record { number = number; listed = None })
   unfolding entries_by
   stops_whole done =
       record {
@@ -197,33 +191,14 @@ module _ (h s : List ℕ) (start at number first z : ℕ) (c : Comparing h s sta
               }
 
           pub stops_inside : i < count → {e : TilePartEntry} {o : ℕ} → e ≡ record_of o (entry_on h place first i)
-              → agreed_by (pair_of e) (scan_step_at s to) ≡ Not → Stopped h s start to (record { number = told; listed = said (pair_of e) })
+              → agreed_by (pair_of e) (scan_step_at s to) ≡ None → Stopped h s start to (record { number = told; listed = Some (said (pair_of e)) })
           stops_inside more is differs =
               record {
                 ends = c.ends ∙ m.ends;
                 same = ahead ∙ matching_stops h s place first count at number to told i m more is differs (listed_from h (next h place first) (z + 1));
               }
 
--- ---- the scan's rest
-
-module _ (h s : List ℕ) (start at : ℕ) (stop : Stop) (st : Stopped h s start at stop) where
-  pub rest_refused : (r : Refusal) → judged (scan_from s at) ≡ answer.Refused r
-      → Refused r ≡ behind_scan (scan_from s start).ended (compared 0 start (listed h) (standing s start))
-  unfolding behind_scan judged ended_as
-  rest_refused r e = by (scan_from s at).ended refl e
-    where
-      by : (end : ScanEnd) → (scan_from s at).ended ≡ end → ended_as end (length (scan_from s at).visits) ≡ answer.Refused r
-          → Refused r ≡ behind_scan (scan_from s start).ended (compared 0 start (listed h) (standing s start))
-      by ended there e = let z : ◌≡◌ {A = ℕ} 0 1 = cc in absurd (omega arith)
-      by (scan.refused q) there e =
-          let same : q ≡ r = cc in
-          sym (ap (λ (x : ScanEnd). behind_scan x (compared 0 start (listed h) (standing s start))) (st.ends ∙ there) ∙ ap Refused same)
-
-  pub rest_counted : (n : ℕ) → judged (scan_from s at) ≡ answer.Table n → n ≡ length (entries_from s at)
-  rest_counted n e = sym (judged_table s at n e).1
-
-  pub rest_answered : (n : ℕ) → judged (scan_from s at) ≡ answer.Table n
-      → settled stop at (standing s at) ≡ behind_scan (scan_from s start).ended (compared 0 start (listed h) (standing s start))
-  unfolding behind_scan
-  rest_answered n e =
-      sym (ap (λ (x : ScanEnd). behind_scan x (compared 0 start (listed h) (standing s start))) (st.ends ∙ (judged_table s at n e).0) ∙ st.same)
+-- the answer there is the whole's
+pub stopped_answers : (h s : List ℕ) (start at : ℕ) (stop : Stop) → Stopped h s start at stop
+    → behind_scan (scan_from s at).ended (Ok (settled stop at (standing s at))) ≡ behind_scan (scan_from s start).ended (compared 0 start (listed h) (standing s start))
+stopped_answers h s start at stop st = sym (ap₂ behind_scan st.ends st.same)

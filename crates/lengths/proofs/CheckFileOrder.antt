@@ -5,6 +5,7 @@ use native.Mathlib.Omega.{arith}
 use mathlib.Core.Path.{◌≡◌, refl, sym, ap, ap₂, ◌∙◌}
 use mathlib.Core.List.{List, ◌∷◌, map}
 use lib.ListN.{length, take}
+use Rattle.std.specs.Prelude.{None, Ok}
 use Rattle.types.specs.declared.TilePartEntry.{TilePartEntry}
 use Rattle.chain.specs.Chain.{Visit, Run, stay, step}
 use Rattle.chain.proofs.ChainLaws.{chain_run}
@@ -18,7 +19,6 @@ use Rattle.parts.specs.Scan.{ended, move_at, scan_from, recorded, entries_from}
 use Rattle.parts.proofs.ScanLaws.{rises}
 use Rattle.lengths.specs.Segments.{tlms_of, NotFalling}
 use Rattle.lengths.specs.Check.{pair_of, listed, standing, checked, Compares, unnumbered}
-use Rattle.lengths.specs.declared.check.Check.TheVariants.{Passes}
 use Rattle.lengths.proofs.SegmentsLaws.{ordered_same, entries_of_tlms}
 use Rattle.lengths.proofs.CheckVerdict.{passes_only}
 
@@ -37,7 +37,7 @@ placed_run s (step {at = at} {next = next} {rest = rest} found past more) =
     (ap (λ (n : ℕ). placed n (map pair_of (map (recorded s) rest))) there ∙ placed_run s more)
 
 -- a reader may go by either
-pub passes_table : (s : List ℕ) (region : ℕ) → checked s region ≡ Passes → NotFalling (take region s) (tlms_of (take region s))
+pub passes_table : (s : List ℕ) (region : ℕ) → checked s region ≡ Ok None → NotFalling (take region s) (tlms_of (take region s))
     → (p : ℕ) × Compares s region p × (table_by CarriedOn (take region s) ≡ map unnumbered (entries_from s p))
 unfolding table_by standing entries_from scan_from
 passes_table s region e order =

@@ -8,6 +8,7 @@ use lib.ListN.{length, take, drop, take-append-drop}
 use lib.Seq.{take-length}
 use lib.Dec.{leb, eqb}
 use borrow.Author.Tests.{eqb-true}
+use Rattle.std.specs.Prelude.{Result, Ok, Err}
 use Rattle.numbers.specs.Bytes.{be}
 use Rattle.numbers.proofs.BytesLaws.{be_front}
 use Rattle.numbers.proofs.Rows.{be_one}
@@ -22,8 +23,6 @@ use Rattle.header.specs.Strip.{is_tlm}
 use Rattle.header.specs.Numbering.{next_number, entries_by, ended_by}
 use Rattle.header.specs.Parse.{judged}
 use Rattle.header.specs.declared.numbering.Numbering.TheVariants.{CarriedOn, Restarting}
-use Rattle.header.specs.declared.parse.MainHeader.{MainHeader}
-use Rattle.header.specs.declared.parse.MainHeader.TheVariants as main
 use Rattle.header.proofs.WalkLaws.{walk_run}
 use Rattle.header.proofs.NumberingLaws.{judged_restart}
 use Rattle.header.proofs.ExtentPrefix.{Reached}
@@ -33,6 +32,8 @@ use Rattle.header.proofs.Enough.{by_enough}
 use Rattle.parts.specs.Scan.{scan_from}
 use Rattle.lengths.specs.Segments.{tlms_in, tlms_of, once, insert, ordered, before, table_end}
 use Rattle.lengths.specs.Check.{listed, standing, compared, behind_scan, behind_table, behind_header, checked}
+use Rattle.header.specs.declared.parse.MainHeaderInfo.{MainHeaderInfo}
+use Rattle.types.specs.declared.Refusal.{Refusal}
 
 module _ (q t : List ℕ) where
   -- TLM segments that the walk over the prefix passed
@@ -136,12 +137,12 @@ module _ (q t : List ℕ) where
     after_table s at at_first_sot = ap (λ (es : List Entry). behind_scan (scan_from s at).ended (compared 0 at es (standing s at))) listed_prefix
     after_table s at (refused x) = refl
 
-    behind_same : (s : List ℕ) (answer : MainHeader) → behind_header (q ++ t) s answer ≡ behind_header q s answer
+    behind_same : (s : List ℕ) (answer : Result MainHeaderInfo Refusal) → behind_header (q ++ t) s answer ≡ behind_header q s answer
     unfolding behind_header
-    behind_same s (main.Header h) =
+    behind_same s (Ok h) =
         let at = h.first_sot_offset.0 in
         ap (behind_table (q ++ t) s at) table_same ∙ after_table s at (table_end q)
-    behind_same s (main.Refused x) = refl
+    behind_same s (Err x) = refl
 
     pub check_prefix : (s : List ℕ) → length (q ++ t) ≤ 0xffff_ffff → behind_header (q ++ t) s (judged (q ++ t)) ≡ behind_header q s (judged q)
     check_prefix s short =

@@ -4,11 +4,12 @@ use Prim.Native.Nat.{ℕ, suc, ◌+◌, ◌≤◌}
 use native.Mathlib.Nat.{zero-add}
 use native.Mathlib.Omega.{arith}
 use mathlib.Core.Path.{◌≡◌, refl, sym, ap, ap₂, ◌∙◌}
-use mathlib.Core.Bool.{true, false}
+use mathlib.Core.Bool.{false}
 use mathlib.Core.List.{List, [], ◌∷◌}
 use lib.ListN.{length, take, length-take}
 use lib.Dec.{leb, eqb}
 use borrow.Author.Tests.{leb-true, leb-false}
+use Rattle.std.specs.Prelude.{Option, Some, None, Result, Ok, Err, is_some}
 use Rattle.numbers.specs.Bytes.{be}
 use Rattle.numbers.proofs.BytesLaws.{be_part}
 use Rattle.numbers.proofs.Choice.{by_bool}
@@ -20,48 +21,41 @@ use Rattle.header.specs.Tlm.{Entry, total}
 use Rattle.header.specs.Walk.{WalkEnd, at_first_sot, refused, walk_from}
 use Rattle.header.specs.Parse.{judged}
 use Rattle.header.specs.declared.parse.MainHeaderInfo.{MainHeaderInfo}
-use Rattle.header.specs.declared.parse.MainHeader.{MainHeader}
-use Rattle.header.specs.declared.parse.MainHeader.TheVariants as main
-use Rattle.header.proofs.WalkLaws.{walk_stops}
+use Rattle.header.proofs.WalkLaws.{walk_stops, not_true_false}
 use Rattle.header.proofs.WalkItems.{ends_there}
 use Rattle.header.proofs.ParseLaws.{judged_read}
 use Rattle.parts.specs.Sot.{lsot, psot}
 use Rattle.parts.specs.Scan.{ScanEnd, ended, sot_step_at, scan_step_at, scan_from}
 use Rattle.parts.specs.Scan as scan
-use Rattle.parts.specs.declared.step.ScanStep.{ScanStep}
-use Rattle.parts.specs.declared.step.ScanStep.TheVariants as step
 use Rattle.parts.proofs.ScanLaws.{step_short, step_sot, sot_no_eoc, scan_refused}
 use Rattle.lengths.specs.Segments.{table_end}
 use Rattle.lengths.specs.Check.{pair_of, listed, standing, same, said, differing, compared, behind_scan, behind_table, behind_header, checked, said_at, Compares, Refuses, by_header, by_table, by_scan, DiffersFirst}
 use Rattle.lengths.specs.declared.check.Said.{Said}
-use Rattle.lengths.specs.declared.check.Said.TheVariants.{Part, Nothing}
 use Rattle.lengths.specs.declared.check.Difference.{Difference}
-use Rattle.lengths.specs.declared.check.Check.{Check}
-use Rattle.lengths.specs.declared.check.Check.TheVariants.{Passes, DiffersAt, Refused}
 use Rattle.lengths.proofs.AgreeLaws.{same_both, same_is, same_self, standing_part}
 
 -- ---- two lists
 
-differs_passes : {d : Difference} → ◌≡◌ {A = Check} (DiffersAt d) Passes → ⊥
+differs_passes : {d : Difference} → ◌≡◌ {A = Result (Option Difference) Refusal} (Ok (Some d)) (Ok None) → ⊥
 differs_passes e = let z : ◌≡◌ {A = ℕ} 0 1 = cc in omega arith
 
-pub refused_passes : {r : Refusal} → ◌≡◌ {A = Check} (Refused r) Passes → ⊥
+pub refused_passes : {r : Refusal} → ◌≡◌ {A = Result (Option Difference) Refusal} (Err r) (Ok None) → ⊥
 refused_passes e = let z : ◌≡◌ {A = ℕ} 0 1 = cc in omega arith
 
-differs_same : {d e : Difference} → ◌≡◌ {A = Check} (DiffersAt d) (DiffersAt e) → d ≡ e
+differs_same : {d e : Difference} → ◌≡◌ {A = Result (Option Difference) Refusal} (Ok (Some d)) (Ok (Some e)) → d ≡ e
 differs_same e = cc
 
-part_nothing : {tile n : ℕ} → ◌≡◌ {A = Said} (Part tile n) Nothing → ⊥
-part_nothing e = let z : ◌≡◌ {A = ℕ} 0 1 = cc in omega arith
+said_none : {x : Said} → Some x ≡ None → ⊥
+said_none e = not_true_false (ap is_some e)
 
 -- equal lists pass
-pub equal_passes : (k at : ℕ) (es : List Entry) → compared k at es es ≡ Passes
+pub equal_passes : (k at : ℕ) (es : List Entry) → compared k at es es ≡ Ok None
 unfolding compared
 equal_passes k at [] = refl
 equal_passes k at (e ∷ es) = rw (same_self e) (equal_passes (k + 1) (at + e.bytes) es)
 
 -- and no others do
-pub passes_equal : (k at : ℕ) (xs ys : List Entry) → compared k at xs ys ≡ Passes → xs ≡ ys
+pub passes_equal : (k at : ℕ) (xs ys : List Entry) → compared k at xs ys ≡ Ok None → xs ≡ ys
 unfolding compared
 passes_equal k at [] [] e = refl
 passes_equal k at [] (y ∷ ys) e = absurd (differs_passes e)
@@ -72,7 +66,7 @@ passes_equal k at (x ∷ xs) (y ∷ ys) e =
     (λ t. absurd (differs_passes (rw t at e)))
 
 -- a comparison refuses nothing
-compared_refused : (k at : ℕ) (xs ys : List Entry) (r : Refusal) → compared k at xs ys ≡ Refused r → ⊥
+compared_refused : (k at : ℕ) (xs ys : List Entry) (r : Refusal) → compared k at xs ys ≡ Err r → ⊥
 unfolding compared
 compared_refused k at [] [] r e = let z : ◌≡◌ {A = ℕ} 0 1 = cc in omega arith
 compared_refused k at [] (y ∷ ys) r e = let z : ◌≡◌ {A = ℕ} 0 1 = cc in omega arith
@@ -80,17 +74,15 @@ compared_refused k at (x ∷ xs) [] r e = let z : ◌≡◌ {A = ℕ} 0 1 = cc i
 compared_refused k at (x ∷ xs) (y ∷ ys) r e =
     by_bool (same x y) (λ t. compared_refused (k + 1) (at + y.bytes) xs ys r (rw t at e)) (λ t. other (rw t at e))
   where
-    other : {d : Difference} → DiffersAt d ≡ Refused r → ⊥
+    other : {d : Difference} → Ok (Some d) ≡ Err r → ⊥
     other q = let z : ◌≡◌ {A = ℕ} 0 1 = cc in omega arith
 
-false_true : false ≡ true → ⊥
-false_true e = let z : ◌≡◌ {A = ℕ} 0 1 = cc in omega arith
-
-unlike_said : (x y : Entry) → same x y ≡ false → said x ≡ said y → ⊥
+unlike_said : (x y : Entry) → same x y ≡ false → Some (said x) ≡ Some (said y) → ⊥
 unlike_said x y t e =
-    let i : x.index ≡ y.index = cc in
-    let b : x.bytes ≡ y.bytes = cc in
-    false_true (sym t ∙ same_both x y i b)
+    let one : said x ≡ said y = cc in
+    let i : x.index ≡ y.index = ap (λ (s : Said). s.tile) one in
+    let b : x.bytes ≡ y.bytes = ap (λ (s : Said). s.length) one in
+    not_true_false (sym (same_both x y i b) ∙ t)
 
 -- where two lists differ: n entries behind the first
 record Differs (k at : ℕ) (xs ys : List Entry) (d : Difference) : Type 0 where
@@ -98,7 +90,7 @@ record Differs (k at : ℕ) (xs ys : List Entry) (d : Difference) : Type 0 where
   number : d.number ≡ k + n
   first : DiffersFirst n at xs ys d
 
-at_first : (k at : ℕ) (xs ys : List Entry) {x y : Said} (d : Difference) → said_at 0 xs ≡ x → said_at 0 ys ≡ y → (x ≡ y → ⊥) → differing k at x y ≡ DiffersAt d
+at_first : (k at : ℕ) (xs ys : List Entry) {x y : Option Said} (d : Difference) → said_at 0 xs ≡ x → said_at 0 ys ≡ y → (x ≡ y → ⊥) → differing k at x y ≡ Ok (Some d)
     → Differs k at xs ys d
 unfolding total
 at_first k at xs ys {x} {y} d isx isy other e =
@@ -118,11 +110,11 @@ at_first k at xs ys {x} {y} d isx isy other e =
     none : at ≡ at + total (take 0 xs)
     none = omega arith
 
-differs_at : (k at : ℕ) (xs ys : List Entry) (d : Difference) → compared k at xs ys ≡ DiffersAt d → Differs k at xs ys d
+differs_at : (k at : ℕ) (xs ys : List Entry) (d : Difference) → compared k at xs ys ≡ Ok (Some d) → Differs k at xs ys d
 unfolding compared said_at total
 differs_at k at [] [] d e = absurd (differs_passes (sym e))
-differs_at k at [] (y ∷ ys) d e = at_first k at [] (y ∷ ys) d refl refl (λ q. part_nothing (sym q)) e
-differs_at k at (x ∷ xs) [] d e = at_first k at (x ∷ xs) [] d refl refl part_nothing e
+differs_at k at [] (y ∷ ys) d e = at_first k at [] (y ∷ ys) d refl refl (λ q. said_none (sym q)) e
+differs_at k at (x ∷ xs) [] d e = at_first k at (x ∷ xs) [] d refl refl said_none e
 differs_at k at (x ∷ xs) (y ∷ ys) d e =
     by_bool (same x y)
     (λ t.
@@ -157,7 +149,7 @@ module _ (s : List ℕ) (region : ℕ) where
   checked_compares c = rw (c.header, c.table, c.first, c.scan)
 
   -- something is: so is the answer
-  pub checked_refuses : (r : Refusal) → Refuses s region r → checked s region ≡ Refused r
+  pub checked_refuses : (r : Refusal) → Refuses s region r → checked s region ≡ Err r
   unfolding checked behind_header behind_table behind_scan
   checked_refuses r (by_header e) = rw e
   checked_refuses r (by_table info e t) = rw (e, t)
@@ -168,29 +160,29 @@ module _ (s : List ℕ) (region : ℕ) where
     compares : (p : ℕ) → Compares s region p → Stage
     refuses : (r : Refusal) → Refuses s region r → Stage
 
-  by_scan_lem : (info : MainHeaderInfo) → judged head ≡ main.Header info → table_end head ≡ at_first_sot → (end : ScanEnd)
+  by_scan_lem : (info : MainHeaderInfo) → judged head ≡ Ok info → table_end head ≡ at_first_sot → (end : ScanEnd)
       → (scan_from s info.first_sot_offset.0).ended ≡ end → Stage
   by_scan_lem info e t ended c = compares info.first_sot_offset.0 (record { info = info; header = e; first = refl; table = t; scan = c })
   by_scan_lem info e t (scan.refused r) c = refuses r (by_scan info e t c)
 
-  by_table_lem : (info : MainHeaderInfo) → judged head ≡ main.Header info → (end : WalkEnd) → table_end head ≡ end → Stage
+  by_table_lem : (info : MainHeaderInfo) → judged head ≡ Ok info → (end : WalkEnd) → table_end head ≡ end → Stage
   by_table_lem info e at_first_sot t = by_scan_lem info e t (scan_from s info.first_sot_offset.0).ended refl
   by_table_lem info e (refused r) t = refuses r (by_table info e t)
 
-  by_header_lem : (answer : MainHeader) → judged head ≡ answer → Stage
-  by_header_lem (main.Header info) e = by_table_lem info e (table_end head) refl
-  by_header_lem (main.Refused r) e = refuses r (by_header e)
+  by_header_lem : (answer : Result MainHeaderInfo Refusal) → judged head ≡ answer → Stage
+  by_header_lem (Ok info) e = by_table_lem info e (table_end head) refl
+  by_header_lem (Err r) e = refuses r (by_header e)
 
   stage : Stage
   stage = by_header_lem (judged head) refl
 
   -- ---- in sentences
 
-  refused_differs : {r : Refusal} {d : Difference} → ◌≡◌ {A = Check} (Refused r) (DiffersAt d) → ⊥
+  refused_differs : {r : Refusal} {d : Difference} → ◌≡◌ {A = Result (Option Difference) Refusal} (Err r) (Ok (Some d)) → ⊥
   refused_differs e = let z : ◌≡◌ {A = ℕ} 0 1 = cc in omega arith
 
   -- it passes: nothing is refused, and the entries are the scan's
-  pub passes_only : checked s region ≡ Passes → (p : ℕ) × Compares s region p × (listed head ≡ standing s p)
+  pub passes_only : checked s region ≡ Ok None → (p : ℕ) × Compares s region p × (listed head ≡ standing s p)
   passes_only e = by stage
     where
       by : Stage → (p : ℕ) × Compares s region p × (listed head ≡ standing s p)
@@ -198,11 +190,11 @@ module _ (s : List ℕ) (region : ℕ) where
       by (refuses r q) = absurd (refused_passes (sym (checked_refuses r q) ∙ e))
 
   -- and passes wherever that is so
-  pub passes_where : {p : ℕ} → Compares s region p → listed head ≡ standing s p → checked s region ≡ Passes
+  pub passes_where : {p : ℕ} → Compares s region p → listed head ≡ standing s p → checked s region ≡ Ok None
   passes_where {p} c e = checked_compares c ∙ ap (λ (es : List Entry). compared 0 p es (standing s p)) e ∙ equal_passes 0 p (standing s p)
 
   -- it differs at a number: so many entries are the same, and the next are not
-  pub differs_first : (d : Difference) → checked s region ≡ DiffersAt d → (p : ℕ) × Compares s region p × DiffersFirst d.number p (listed head) (standing s p) d
+  pub differs_first : (d : Difference) → checked s region ≡ Ok (Some d) → (p : ℕ) × Compares s region p × DiffersFirst d.number p (listed head) (standing s p) d
   differs_first d e = by stage
     where
       by : Stage → (p : ℕ) × Compares s region p × DiffersFirst d.number p (listed head) (standing s p) d
@@ -213,7 +205,7 @@ module _ (s : List ℕ) (region : ℕ) where
       by (refuses r q) = absurd (refused_differs (sym (checked_refuses r q) ∙ e))
 
   -- it is refused: by the first stage that refuses
-  pub refused_only : (r : Refusal) → checked s region ≡ Refused r → Refuses s region r
+  pub refused_only : (r : Refusal) → checked s region ≡ Err r → Refuses s region r
   refused_only r e = by stage
     where
       by : Stage → Refuses s region r
@@ -222,7 +214,7 @@ module _ (s : List ℕ) (region : ℕ) where
 
 -- ---- a header without entries
 
-sot_not_ended : (s : List ℕ) (at : ℕ) → sot_step_at s at ≡ step.Ended → ⊥
+sot_not_ended : (s : List ℕ) (at : ℕ) → sot_step_at s at ≡ Ok None → ⊥
 unfolding sot_step_at
 sot_not_ended s at e =
     by_bool (eqb (lsot s at) 10)
@@ -231,17 +223,17 @@ sot_not_ended s at e =
     (λ b. by_bool (leb (at + psot s at) (length s)) (λ c. no_part (rw (a, b, c) at e)) (λ c. no_refusal (rw (a, b, c) at e))))
     (λ a. no_refusal (rw a at e))
   where
-    no_part : {p : TilePartEntry} → step.Part p ≡ step.Ended → ⊥
+    no_part : {p : TilePartEntry} → ◌≡◌ {A = Result (Option TilePartEntry) Refusal} (Ok (Some p)) (Ok None) → ⊥
     no_part q = let z : ◌≡◌ {A = ℕ} 0 1 = cc in omega arith
 
-    no_refusal : {r : Refusal} → step.Refused r ≡ step.Ended → ⊥
+    no_refusal : {r : Refusal} → ◌≡◌ {A = Result (Option TilePartEntry) Refusal} (Err r) (Ok None) → ⊥
     no_refusal q = let z : ◌≡◌ {A = ℕ} 0 1 = cc in omega arith
 
-short_not_ended : {r : Refusal} → step.Refused r ≡ step.Ended → ⊥
+short_not_ended : {r : Refusal} → ◌≡◌ {A = Result (Option TilePartEntry) Refusal} (Err r) (Ok None) → ⊥
 short_not_ended q = let z : ◌≡◌ {A = ℕ} 0 1 = cc in omega arith
 
 -- where SOT stands a scan does not end
-not_ended : (s : List ℕ) (at : ℕ) → at + 2 ≤ length s → be 2 s at ≡ SOT → scan_step_at s at ≡ step.Ended → ⊥
+not_ended : (s : List ℕ) (at : ℕ) → at + 2 ≤ length s → be 2 s at ≡ SOT → scan_step_at s at ≡ Ok None → ⊥
 not_ended s at inside marker e =
     by_bool (leb (at + 12) (length s))
     (λ t. sot_not_ended s at (sym (step_sot s at (omega arith) (sot_no_eoc s at marker) (leb-true (at + 12) (length s) t) marker) ∙ e))
@@ -263,15 +255,15 @@ module _ (s : List ℕ) (region p : ℕ) (c : Compares s region p) where
   pub some_standing : (y : Entry) × (ys : List Entry) × (standing s p ≡ y ∷ ys)
   some_standing = by (scan_step_at s p) refl
     where
-      by : (found : ScanStep) → scan_step_at s p ≡ found → (y : Entry) × (ys : List Entry) × (standing s p ≡ y ∷ ys)
-      by (step.Part e) f = (pair_of e, standing s (p + e.length), standing_part s p e f)
-      by step.Ended f = absurd (not_ended s p sot_there.0 sot_there.1 f)
-      by (step.Refused r) f =
+      by : (found : Result (Option TilePartEntry) Refusal) → scan_step_at s p ≡ found → (y : Entry) × (ys : List Entry) × (standing s p ≡ y ∷ ys)
+      by (Ok (Some e)) f = (pair_of e, standing s (p + e.length), standing_part s p e f)
+      by (Ok None) f = absurd (not_ended s p sot_there.0 sot_there.1 f)
+      by (Err r) f =
           let q : ◌≡◌ {A = ScanEnd} (scan.refused r) ended = sym (ap (λ (k : Chain ScanEnd). k.ended) (scan_refused s p r f)) ∙ c.scan in
           absurd (let z : ◌≡◌ {A = ℕ} 0 1 = cc in omega arith)
 
   -- so one without entries differs at 0, from the first tile-part
-  pub none_differs : listed (take region s) ≡ [] → (y : Entry) × (checked s region ≡ differing 0 p Nothing (said y))
+  pub none_differs : listed (take region s) ≡ [] → (y : Entry) × (checked s region ≡ differing 0 p None (Some (said y)))
   unfolding compared
   none_differs none =
       let t = some_standing in

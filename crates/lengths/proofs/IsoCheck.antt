@@ -8,6 +8,7 @@ use mathlib.Core.List.{List, [], ◌∷◌, ◌++◌, append_assoc, map}
 use lib.ListN.{length, take, drop, length-append}
 use lib.Seq.{take-length, take-append-add}
 use lib.Dec.{eqb}
+use Rattle.std.specs.Prelude.{None, Ok}
 use Rattle.numbers.specs.Bytes.{bytes_of}
 use Rattle.numbers.specs.Rows.{bytes_of_rows}
 use Rattle.numbers.proofs.BytesLaws.{length_bytes}
@@ -28,7 +29,6 @@ use Rattle.parts.proofs.Iso.{scan_standard}
 use Rattle.lengths.specs.Segments.{tlms_of, once, numbers_end}
 use Rattle.lengths.specs.Check.{pair_of, standing, compared, behind_scan, behind_table, behind_header, checked}
 use Rattle.lengths.specs.Iso.{Distinct, part_entries, codestream}
-use Rattle.lengths.specs.declared.check.Check.TheVariants.{Passes}
 use Rattle.lengths.proofs.CheckLaws.{behind_sound, repeat_refuses, order_accepts}
 use Rattle.lengths.proofs.CheckVerdict.{refused_passes, equal_passes, passes_equal}
 use Rattle.lengths.proofs.IsoListed.{listed_standard, once_standard, distinct_standard, numbers_standard, few_standard, count_ordered}
@@ -74,14 +74,14 @@ module _ (g : Segment) (ps : List Piece) (rest : List ℕ) (m : IsMain g ps) (re
       ∙ rw (numbers_standard g ps left m few, stopped_main g ps left m, listed_standard g ps left m)
 
   -- what passes is refused by neither 32 nor 26
-  passes_distinct : checked (up_to_sot g ps rest) region ≡ Passes → Distinct (tables ps)
+  passes_distinct : checked (up_to_sot g ps rest) region ≡ Ok None → Distinct (tables ps)
   passes_distinct e = by (once (up_to_sot g ps left) [] (tlms_of (up_to_sot g ps left))) refl
     where
       by : (end : WalkEnd) → once (up_to_sot g ps left) [] (tlms_of (up_to_sot g ps left)) ≡ end → Distinct (tables ps)
       by at_first_sot o = distinct_standard g ps left m o
       by (refused r) o = absurd (refused_passes (sym (read_sound ∙ repeat_refuses _ (up_to_sot g ps rest) r (ended_main g ps left m) o) ∙ e))
 
-  passes_few : checked (up_to_sot g ps rest) region ≡ Passes → without_index (tables ps) ≤ 65_535
+  passes_few : checked (up_to_sot g ps rest) region ≡ Ok None → without_index (tables ps) ≤ 65_535
   unfolding behind_table
   passes_few e = by (numbers_end (up_to_sot g ps left)) refl
     where
@@ -166,13 +166,13 @@ module _ (g : Segment) (ps : List Piece) (t : TilePart) (ts : List TilePart) (be
       whole ∙ rw (scan.stops, scan.entries, pairs_listed at (t ∷ ts))
 
   -- The check passes exactly where no two segments have the same Ztlm and the standard's table lists the tile-parts, each with its tile and its length.
-  pub pass_standard : Distinct (tables ps) → iso_table (tables ps) ≡ part_entries (t ∷ ts) → checked (codestream g ps (t ∷ ts) behind) region ≡ Passes
+  pub pass_standard : Distinct (tables ps) → iso_table (tables ps) ≡ part_entries (t ∷ ts) → checked (codestream g ps (t ∷ ts) behind) region ≡ Ok None
   unfolding iso_table
   pass_standard distinct e =
       let few = small_few 0 (iso.ordered (tables ps)) (omega arith) (rw e (small_parts (t ∷ ts) inside)) in
       check_parts distinct (omega (arith, count_ordered (tables ps))) ∙ rw e (equal_passes 0 (length (main_header g ps)) (part_entries (t ∷ ts)))
 
-  pub standard_passed : checked (codestream g ps (t ∷ ts) behind) region ≡ Passes → Distinct (tables ps) × (iso_table (tables ps) ≡ part_entries (t ∷ ts))
+  pub standard_passed : checked (codestream g ps (t ∷ ts) behind) region ≡ Ok None → Distinct (tables ps) × (iso_table (tables ps) ≡ part_entries (t ∷ ts))
   standard_passed e =
       let sot = from_sot g ps t ts behind in
       let reads = rw sot at short in

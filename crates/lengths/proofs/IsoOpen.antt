@@ -20,7 +20,7 @@ use Rattle.parts.specs.Iso.{TilePart, sot_rows, part_bytes, length_of, Ranges, A
 use Rattle.parts.proofs.Iso.{scan_standard_last}
 use Rattle.lengths.specs.Check.{pair_of, standing, said, differing, compared, behind_scan, checked}
 use Rattle.lengths.specs.Iso.{Distinct, part_entries, open_ended}
-use Rattle.lengths.specs.declared.check.Said.TheVariants.{Part}
+use Rattle.std.specs.Prelude.{Some}
 use Rattle.lengths.proofs.AgreeLaws.{same_self, other_bytes, compared_same, compared_other}
 use Rattle.lengths.proofs.IsoCheck.{check_region}
 
@@ -68,7 +68,7 @@ module _ (g : Segment) (ps : List Piece) (ts : List TilePart) (t : TilePart) (m 
     (reaches : length (main_header g ps) + 2 ≤ region) (short : length (take region (open_ended g ps ts t)) ≤ 0xffff_ffff) where
   pub open_differs : Distinct (tables ps) → without_index (tables ps) ≤ 65_535 → iso_table (tables ps) ≡ part_entries ts ++ (last_listed t ∷ [])
       → checked (open_ended g ps ts t) region
-      ≡ differing (length ts) (length (main_header g ps) + total (part_entries ts)) (Part t.Isot (length_of t)) (Part t.Isot (length_of t + 2))
+      ≡ differing (length ts) (length (main_header g ps) + total (part_entries ts)) (Some (record { tile = t.Isot; length = length_of t })) (Some (record { tile = t.Isot; length = length_of t + 2 }))
   unfolding behind_scan standing
   open_differs distinct few table =
       let s : List ℕ = open_ended g ps ts t in
@@ -81,4 +81,4 @@ module _ (g : Segment) (ps : List Piece) (ts : List TilePart) (t : TilePart) (m 
       ∙ rw (scan.stops, scan.entries, pairs_last at ts (listed (at + length (parts_bytes ts)) (length_of t + 2) t), table)
       (compared_front 0 at (part_entries ts) (last_listed t ∷ []) (last_standing t ∷ [])
       ∙ compared_other _ _ (last_listed t) (last_standing t) [] [] (other_bytes (last_listed t) (last_standing t) (λ e. omega arith))
-      ∙ ap (λ (n : ℕ). differing n (at + total (part_entries ts)) (said (last_listed t)) (said (last_standing t))) (zero-add (length (part_entries ts)) ∙ as_many ts))
+      ∙ ap (λ (n : ℕ). differing n (at + total (part_entries ts)) (Some (said (last_listed t))) (Some (said (last_standing t)))) (zero-add (length (part_entries ts)) ∙ as_many ts))

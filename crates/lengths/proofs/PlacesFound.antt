@@ -3,12 +3,13 @@
 use Prim.Native.Nat.{ℕ, ◌≤◌, ◌<◌}
 use native.Mathlib.Omega.{arith}
 use mathlib.Core.Path.{◌≡◌, refl, sym, ap, ◌∙◌}
-use mathlib.Core.Bool.{Bool, true, false, cond, not}
+use mathlib.Core.Bool.{true, false, not}
 use mathlib.Core.List.{List, [], ◌∷◌}
 use lib.ListN.{length, get_or, set, length-set, replicate, get_or-replicate}
 use lib.Seq.{get_or-set_same, get_or-set_other}
 use lib.Dec.{eqb}
 use borrow.Author.Tests.{eq-eqb, ne_eqb, eqb-true, eqb-false}
+use Rattle.std.specs.Prelude.{Option, Some, None, Ok, Err}
 use Rattle.numbers.specs.Bytes.{be}
 use Rattle.numbers.proofs.Choice.{by_bool}
 use Rattle.types.specs.Markers.{TLM}
@@ -19,29 +20,28 @@ use Rattle.header.specs.Tlm.{ztlm, Accepted}
 use Rattle.header.specs.Walk.{WalkEnd, at_first_sot, refused, walk_step_at, walk_from}
 use Rattle.header.specs.Strip.{is_tlm}
 use Rattle.header.specs.declared.walk.Passed.{Passed as Passing}
-use Rattle.header.specs.declared.walk.WalkStep.TheVariants as step
-use Rattle.header.proofs.WalkLaws.{passed_is, walk_found, walk_refused}
+use Rattle.header.proofs.WalkLaws.{passed_is, some_none, walk_found, walk_refused}
 use Rattle.header.proofs.WalkVisited.{visits_on, stopped_on, ended_on}
 use Rattle.lengths.specs.Segments.{tlms_in, is_in, once, before}
-use Rattle.lengths.specs.Places.{having, Notes, none, one, Blank, Noted, NotedIf, found_as, found}
-use Rattle.lengths.specs.declared.segments.Found.TheVariants.{FirstSot, Refused}
+use Rattle.lengths.specs.Places.{having, Notes, none, one, Blank, Noted, found_as, found}
 use Rattle.lengths.proofs.SegmentsOrder.{having_here, having_other}
+use Rattle.types.specs.declared.Reason.TheVariants.{TlmNumberRepeated}
 
 -- the segments from a position on
 abbrev pub ahead : List ℕ → ℕ → List Visit
 ahead h at = tlms_in h (walk_from h at).visits
 
-module _ (h : List ℕ) (at : ℕ) (p : Passing) (passed : walk_step_at h at ≡ step.Passed p) where
-  pub ahead_plain : p.is_tlm ≡ false → ahead h at ≡ ahead h p.next
+module _ (h : List ℕ) (at : ℕ) (p : Passing) (passed : walk_step_at h at ≡ Ok (Some p)) where
+  pub ahead_plain : p.tlm ≡ None → ahead h at ≡ ahead h p.next
   unfolding tlms_in
   ahead_plain plain = ap (tlms_in h) (visits_on h at p passed) ∙ rw (ne_eqb _ _ ((passed_is h at p passed).plain plain))
 
-  pub ahead_tlm : p.is_tlm ≡ true → ahead h at ≡ record { at = at; next = p.next } ∷ ahead h p.next
+  pub ahead_tlm : {count : ℕ} → p.tlm ≡ Some count → ahead h at ≡ record { at = at; next = p.next } ∷ ahead h p.next
   unfolding tlms_in
-  ahead_tlm is = ap (tlms_in h) (visits_on h at p passed) ∙ rw (eq-eqb _ _ ((passed_is h at p passed).tlm is).marker)
+  ahead_tlm is = ap (tlms_in h) (visits_on h at p passed) ∙ rw (eq-eqb _ _ ((passed_is h at p passed).tlm _ is).marker)
 
 module _ (h used : List ℕ) (v : Visit) (rest : List Visit) where
-  pub once_again : is_in (ztlm h v.at) used ≡ true → once h used (v ∷ rest) ≡ refused (refusal 32 v.at)
+  pub once_again : is_in (ztlm h v.at) used ≡ true → once h used (v ∷ rest) ≡ refused (refusal TlmNumberRepeated v.at)
   unfolding once
   once_again e = rw e
 
@@ -71,7 +71,7 @@ pub record Walking (h : List ℕ) (at : ℕ) : Type 0 where
   stops : (walk_from h 2).stopped ≡ (walk_from h at).stopped
   ends : (walk_from h 2).ended ≡ (walk_from h at).ended
 
-walking_on : (h : List ℕ) (at : ℕ) → Walking h at → (p : Passing) → walk_step_at h at ≡ step.Passed p → Walking h p.next
+walking_on : (h : List ℕ) (at : ℕ) → Walking h at → (p : Passing) → walk_step_at h at ≡ Ok (Some p) → Walking h p.next
 walking_on h at w p passed =
     let told = passed_is h at p passed in
     record {
@@ -81,18 +81,23 @@ walking_on h at w p passed =
       ends = w.ends ∙ ended_on h at p passed;
     }
 
-pub record Finding (h : List ℕ) (places : List ℕ) (at again : ℕ) : Type 0 where
+-- the segment that repeats a Ztlm, or what is told of those ahead
+abbrev told : Option ℕ → WalkEnd → WalkEnd
+told None ahead = ahead
+told (Some again) ahead = refused (refusal TlmNumberRepeated again)
+
+pub record Finding (h : List ℕ) (places : List ℕ) (at : ℕ) (again : Option ℕ) : Type 0 where
   pub walking : Walking h at
   sized : length places ≡ 256
   used : List ℕ
   marks : (z : ℕ) → z < 256 → is_in z used ≡ not (eqb (get_or places z 0) 0)
-  repeats : once h [] (ahead h 2) ≡ cond (eqb again 0) (once h used (ahead h at)) (refused (refusal 32 again))
-  notes : again ≡ 0 → (z : ℕ) → z < 256 → Ahead h (get_or places z 0) (having h z (ahead h 2)) (having h z (ahead h at))
+  repeats : once h [] (ahead h 2) ≡ told again (once h used (ahead h at))
+  notes : again ≡ None → (z : ℕ) → z < 256 → Ahead h (get_or places z 0) (having h z (ahead h 2)) (having h z (ahead h at))
 
 pub blank_256 : Blank (replicate 256 0)
 blank_256 = record { sized = refl; empty = λ z small. get_or-replicate 256 z 0 0 small }
 
-pub finding_start : (h places : List ℕ) → 2 ≤ length h → Blank places → Finding h places 2 0
+pub finding_start : (h : List ℕ) (places : List ℕ) → 2 ≤ length h → Blank places → Finding h places 2 None
 unfolding is_in
 finding_start h places inside blank =
     record {
@@ -113,9 +118,9 @@ with_rest : {h : List ℕ} {place : ℕ} {all rest other : List Visit} → rest 
 with_rest same (later z e) = later z (e ∙ same)
 with_rest same (met v is some e tlm accepted) = met v is some (e ∙ ap (λ (l : List Visit). v ∷ l) same) tlm accepted
 
-module _ (h places : List ℕ) (at again : ℕ) (f : Finding h places at again) (p : Passing) (passed : walk_step_at h at ≡ step.Passed p) where
+module _ (h : List ℕ) (places : List ℕ) (at : ℕ) (again : Option ℕ) (f : Finding h places at again) (p : Passing) (passed : walk_step_at h at ≡ Ok (Some p)) where
   -- another marker
-  pub finding_plain : p.is_tlm ≡ false → Finding h places p.next again
+  pub finding_plain : p.tlm ≡ None → Finding h places p.next again
   finding_plain plain =
       let same = ahead_plain h at p passed plain in
       record {
@@ -123,11 +128,11 @@ module _ (h places : List ℕ) (at again : ℕ) (f : Finding h places at again) 
         sized = f.sized;
         used = f.used;
         marks = f.marks;
-        repeats = f.repeats ∙ ap (λ (l : List Visit). cond (eqb again 0) (once h f.used l) (refused (refusal 32 again))) same;
-        notes = λ zero z small. with_rest (ap (having h z) same) (f.notes zero z small);
+        repeats = f.repeats ∙ ap (λ (l : List Visit). told again (once h f.used l)) same;
+        notes = λ first z small. with_rest (ap (having h z) same) (f.notes first z small);
       }
 
-  module _ (is : p.is_tlm ≡ true) (z₀ : ℕ) (number : z₀ ≡ ztlm h at) (small₀ : z₀ < 256) where
+  module _ {count : ℕ} (is : p.tlm ≡ Some count) (z₀ : ℕ) (number : z₀ ≡ ztlm h at) (small₀ : z₀ < 256) where
     here : Visit
     here = record { at = at; next = p.next }
 
@@ -139,7 +144,7 @@ module _ (h places : List ℕ) (at again : ℕ) (f : Finding h places at again) 
     pub finding_first : get_or places z₀ 0 ≡ 0 → Finding h (set places z₀ at) p.next again
     unfolding here
     finding_first empty =
-        let told = (passed_is h at p passed).tlm is in
+        let passed_tlm = (passed_is h at p passed).tlm count is in
         let long = f.sized in
         let unused : is_in z₀ f.used ≡ false = f.marks z₀ small₀ ∙ ap not (eq-eqb (get_or places z₀ 0) 0 empty) in
         let new : once h f.used (ahead h at) ≡ once h (z₀ ∷ f.used) (ahead h p.next) =
@@ -159,27 +164,25 @@ module _ (h places : List ℕ) (at again : ℕ) (f : Finding h places at again) 
               ∙ sym (ap (λ (y : ℕ). not (eqb (get_or (set places z₀ at) y 0) 0)) same ∙ ap not (ne_eqb (get_or (set places z₀ at) z₀ 0) 0 (λ e. omega arith))))
               (λ e. let other = eqb-false z z₀ e in
               is_in_later z z₀ f.used other ∙ f.marks z small ∙ ap (λ (n : ℕ). not (eqb n 0)) (sym (get_or-set_other places z₀ z at 0 other)));
-          repeats = f.repeats ∙ ap (λ (w : WalkEnd). cond (eqb again 0) w (refused (refusal 32 again))) new;
-          notes = λ zero z small.
+          repeats = f.repeats ∙ ap (told again) new;
+          notes = λ first z small.
               by_bool (eqb z z₀)
               (λ e. let same = eqb-true z z₀ e in
               let begun = f.walking.begun in
               met here (ap (λ (y : ℕ). get_or (set places z₀ at) y 0) same ∙ noted) (omega arith)
-              (all_ahead (ap (λ (y : ℕ). get_or places y 0) same ∙ empty) (f.notes zero z small) ∙ ap (having h z) more ∙ having_here h z here (ahead h p.next) (sym number ∙ sym same))
-              (eq-eqb (be 2 h at) TLM told.marker) told.accepted)
+              (all_ahead (ap (λ (y : ℕ). get_or places y 0) same ∙ empty) (f.notes first z small) ∙ ap (having h z) more ∙ having_here h z here (ahead h p.next) (sym number ∙ sym same))
+              (eq-eqb (be 2 h at) TLM passed_tlm.marker) passed_tlm.accepted)
               (λ e. let other = eqb-false z z₀ e in
               rw (get_or-set_other places z₀ z at 0 other)
-              (with_rest (ap (having h z) more ∙ having_other h z here (ahead h p.next) (λ e. other (sym e ∙ sym number))) (f.notes zero z small)));
+              (with_rest (ap (having h z) more ∙ having_other h z here (ahead h p.next) (λ e. other (sym e ∙ sym number))) (f.notes first z small)));
         }
 
     module _ (noted : get_or places z₀ 0 ≡ 0 → ⊥) where
       -- its Ztlm was used before, and none was before it
-      pub finding_again : again ≡ 0 → Finding h places p.next at
+      pub finding_again : again ≡ None → Finding h places p.next (Some at)
       unfolding here
-      finding_again zero =
-          let begun = f.walking.begun in
-          let old : is_in (ztlm h at) f.used ≡ true =
-          ap (λ (z : ℕ). is_in z f.used) (sym number) ∙ f.marks z₀ small₀ ∙ ap not (ne_eqb (get_or places z₀ 0) 0 noted) in
+      finding_again first =
+          let old : is_in (ztlm h at) f.used ≡ true = ap (λ (z : ℕ). is_in z f.used) (sym number) ∙ f.marks z₀ small₀ ∙ ap not (ne_eqb (get_or places z₀ 0) 0 noted) in
           record {
             walking = walking_on h at f.walking p passed;
             sized = f.sized;
@@ -187,14 +190,13 @@ module _ (h places : List ℕ) (at again : ℕ) (f : Finding h places at again) 
             marks = f.marks;
             repeats =
                 f.repeats
-                ∙ ap (λ (b : Bool). cond b (once h f.used (ahead h at)) (refused (refusal 32 again))) (eq-eqb again 0 zero)
-                ∙ ap (once h f.used) more ∙ once_again h f.used here (ahead h p.next) old
-                ∙ ap (λ (b : Bool). cond b (once h f.used (ahead h p.next)) (refused (refusal 32 at))) (sym (ne_eqb at 0 (λ e. omega arith)));
-            notes = λ z. absurd (omega arith);
+                ∙ ap (λ (o : Option ℕ). told o (once h f.used (ahead h at))) first
+                ∙ ap (once h f.used) more ∙ once_again h f.used here (ahead h p.next) old;
+            notes = λ none. absurd (some_none none);
           }
 
       -- one was before it too
-      pub finding_later : (again ≡ 0 → ⊥) → Finding h places p.next again
+      pub finding_later : {place : ℕ} → again ≡ Some place → Finding h places p.next again
       finding_later some =
           record {
             walking = walking_on h at f.walking p passed;
@@ -203,22 +205,19 @@ module _ (h places : List ℕ) (at again : ℕ) (f : Finding h places at again) 
             marks = f.marks;
             repeats =
                 f.repeats
-                ∙ ap (λ (b : Bool). cond b (once h f.used (ahead h at)) (refused (refusal 32 again))) (ne_eqb again 0 some)
-                ∙ ap (λ (b : Bool). cond b (once h f.used (ahead h p.next)) (refused (refusal 32 again))) (sym (ne_eqb again 0 some));
-            notes = λ zero. absurd (some zero);
+                ∙ ap (λ (o : Option ℕ). told o (once h f.used (ahead h at))) some
+                ∙ sym (ap (λ (o : Option ℕ). told o (once h f.used (ahead h p.next))) some);
+            notes = λ none. absurd (some_none (sym some ∙ none));
           }
 
 -- ---- the walk's end
 
-pub not_found : (h : List ℕ) (r : Refusal) (places : List ℕ) → NotedIf h (Refused r) places
-not_found h r places o e = let z : ◌≡◌ {A = ℕ} 0 1 = cc in absurd (omega arith)
-
-module _ (h places : List ℕ) (at again : ℕ) (f : Finding h places at again) where
-  pub end_refused : (r : Refusal) → walk_step_at h at ≡ step.Refused r → Refused r ≡ found h
+module _ (h : List ℕ) (places : List ℕ) (at : ℕ) (again : Option ℕ) (f : Finding h places at again) where
+  pub end_refused : (r : Refusal) → walk_step_at h at ≡ Err r → Err r ≡ found h
   unfolding found found_as before
   end_refused r e = sym (rw (f.walking.ends ∙ ap (λ (c : Chain WalkEnd). c.ended) (walk_refused h at r e)))
 
-  module _ (stood : walk_step_at h at ≡ step.FirstSot) where
+  module _ (stood : walk_step_at h at ≡ Ok None) where
     ended_there : (walk_from h 2).ended ≡ at_first_sot
     ended_there = f.walking.ends ∙ ap (λ (c : Chain WalkEnd). c.ended) (walk_found h at stood)
 
@@ -226,17 +225,16 @@ module _ (h places : List ℕ) (at again : ℕ) (f : Finding h places at again) 
     unfolding tlms_in
     none_ahead = ap (λ (c : Chain WalkEnd). tlms_in h c.visits) (walk_found h at stood)
 
-    pub end_32 : (again ≡ 0 → ⊥) → Refused (refusal 32 again) ≡ found h
+    pub end_32 : {place : ℕ} → again ≡ Some place → Err (refusal TlmNumberRepeated place) ≡ found h
     unfolding found found_as before
-    end_32 some =
-        sym (rw (ended_there, f.repeats ∙ ap (λ (b : Bool). cond b (once h f.used (ahead h at)) (refused (refusal 32 again))) (ne_eqb again 0 some)))
+    end_32 some = sym (rw (ended_there, f.repeats ∙ ap (λ (o : Option ℕ). told o (once h f.used (ahead h at))) some))
 
-    module _ (zero : again ≡ 0) where
-      pub end_found : FirstSot (record { 0 = at }) ≡ found h
+    module _ (first : again ≡ None) where
+      pub end_found : Ok (record { 0 = at }) ≡ found h
       unfolding found found_as before once
       end_found =
-          sym (rw (ended_there, f.repeats ∙ ap (λ (b : Bool). cond b (once h f.used (ahead h at)) (refused (refusal 32 again))) (eq-eqb again 0 zero) ∙ ap (once h f.used) none_ahead)
-          (ap (λ (n : ℕ). FirstSot (record { 0 = n })) (f.walking.stops ∙ ap (λ (c : Chain WalkEnd). c.stopped) (walk_found h at stood))))
+          sym (rw (ended_there, f.repeats ∙ ap (λ (o : Option ℕ). told o (once h f.used (ahead h at))) first ∙ ap (once h f.used) none_ahead)
+          (ap (λ (n : ℕ). Ok (record { 0 = n })) (f.walking.stops ∙ ap (λ (c : Chain WalkEnd). c.stopped) (walk_found h at stood))))
 
       noted_whole : (z : ℕ) {place : ℕ} {all : List Visit} → Ahead h place all (having h z (ahead h at)) → Notes h place all
       unfolding having
@@ -244,4 +242,4 @@ module _ (h places : List ℕ) (at again : ℕ) (f : Finding h places at again) 
       noted_whole z (met v e some all is accepted) = one v e some (all ∙ ap (λ (l : List Visit). v ∷ having h z l) none_ahead) is accepted
 
       pub end_noted : Noted h places
-      end_noted z small = noted_whole z (f.notes zero z small)
+      end_noted z small = noted_whole z (f.notes first z small)

@@ -15,6 +15,7 @@ use Rattle.header.proofs.NumberingLaws.{numbers_few}
 use Rattle.lengths.specs.Segments.{tlms_of, ordered, numbers_end}
 use Rattle.lengths.specs.Places.{having, Notes, none, one}
 use Rattle.lengths.proofs.SegmentsOrder.{grouped, grouped_next, grouped_end, ordered_grouped}
+use Rattle.types.specs.declared.Reason.TheVariants.{TlmTooManyEntries}
 
 -- the header's segments from a Ztlm on
 abbrev pub rest_from : List ℕ → ℕ → List Visit
@@ -76,11 +77,11 @@ module _ (h : List ℕ) (first z : ℕ) (small : z < 256) where
               ap (λ (vs : List Visit). ended_by CarriedOn h first vs at_first_sot) (rest_one v f)
               ∙ rw (is, ← e, le-leb _ _ fits)
 
-      pub end_past : 65_535 < next h place first → end_from h first z ≡ refused (refusal 26 place)
+      pub end_past : 65_535 < next h place first → end_from h first z ≡ refused (refusal TlmTooManyEntries place)
       unfolding ended_by
       end_past past = by noted
         where
-          by : Notes h place (having h z (tlms_of h)) → end_from h first z ≡ refused (refusal 26 place)
+          by : Notes h place (having h z (tlms_of h)) → end_from h first z ≡ refused (refusal TlmTooManyEntries place)
           by (none e f) = absurd (some e)
           by (one v e low f is accepted) =
               ap (λ (vs : List Visit). ended_by CarriedOn h first vs at_first_sot) (rest_one v f)
@@ -114,7 +115,7 @@ module _ (h : List ℕ) (first z : ℕ) (small : z < 256) (n : Numbering h first
     numbering_one fits =
         record { inside = omega arith; small = fits; same = n.same ∙ end_fits h first z small noted some (omega arith) ∙ ap (λ (k : ℕ). end_from h k (z + 1)) (sym is) }
 
-    pub numbering_26 : 65_535 < then → numbers_end h ≡ refused (refusal 26 place)
+    pub numbering_26 : 65_535 < then → numbers_end h ≡ refused (refusal TlmTooManyEntries place)
     numbering_26 past = n.same ∙ end_past h first z small noted some (omega arith)
 
 pub numbering_end : (h : List ℕ) (first z : ℕ) → 256 ≤ z → Numbering h first z → numbers_end h ≡ at_first_sot

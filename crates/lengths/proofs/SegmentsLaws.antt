@@ -19,6 +19,7 @@ use Rattle.header.specs.Numbering.{next_number, entries_by}
 use Rattle.header.specs.declared.numbering.Numbering.{Numbering}
 use Rattle.header.proofs.WalkLaws.{walk_run}
 use Rattle.lengths.specs.Segments.{tlms_in, tlms_of, is_in, once, insert, ordered, times, numbers_of, Rising, NotFalling}
+use Rattle.types.specs.declared.Reason.TheVariants.{TlmNumberRepeated}
 
 -- ---- a permutation
 
@@ -96,7 +97,7 @@ pub record Repeat (h used : List ℕ) (vs : List Visit) (r : Refusal) : Type 0 w
   pub here : Visit
   pub behind : List Visit
   pub split : vs ≡ front ++ (here ∷ behind)
-  pub told : r ≡ refusal 32 here.at
+  pub told : r ≡ refusal TlmNumberRepeated here.at
   pub repeats : is_in (ztlm h here.at) (numbers_of h front used) ≡ true
   pub none : once h used front ≡ at_first_sot
 
@@ -121,7 +122,7 @@ module _ (h : List ℕ) where
 
   -- the other way round: behind segments of which none repeats a Ztlm, one that does is refused
   pub first_repeated : (used : List ℕ) (front : List Visit) (v : Visit) (behind : List Visit) → once h used front ≡ at_first_sot
-      → is_in (ztlm h v.at) (numbers_of h front used) ≡ true → once h used (front ++ (v ∷ behind)) ≡ refused (refusal 32 v.at)
+      → is_in (ztlm h v.at) (numbers_of h front used) ≡ true → once h used (front ++ (v ∷ behind)) ≡ refused (refusal TlmNumberRepeated v.at)
   unfolding once numbers_of
   first_repeated used [] v behind none repeats = rw repeats
   first_repeated used (u ∷ front) v behind none repeats =

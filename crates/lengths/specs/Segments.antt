@@ -8,6 +8,7 @@ use Rattle.header.specs.Walk.{WalkEnd, at_first_sot, refused, walk_from}
 use Rattle.header.specs.Strip.{is_tlm}
 use Rattle.header.specs.Numbering.{ended_by}
 use Rattle.header.specs.declared.numbering.Numbering.TheVariants.{CarriedOn}
+use Rattle.types.specs.declared.Reason.TheVariants.{TlmNumberRepeated}
 
 -- the TLM segments among what was visited, in file order
 unfoldable pub tlms_in : List ℕ → List Visit → List Visit
@@ -26,7 +27,7 @@ is_in z (y ∷ more) = eqb z y || is_in z more
 unfoldable pub once : List ℕ → List ℕ → List Visit → WalkEnd
 unfolding is_in
 once h used [] = at_first_sot
-once h used (v ∷ rest) = cond (is_in (ztlm h v.at) used) (refused (refusal 32 v.at)) (once h (ztlm h v.at ∷ used) rest)
+once h used (v ∷ rest) = cond (is_in (ztlm h v.at) used) (refused (refusal TlmNumberRepeated v.at)) (once h (ztlm h v.at ∷ used) rest)
 
 -- in the order of Ztlm; those with the same in file order
 unfoldable pub insert : List ℕ → Visit → List Visit → List Visit

@@ -1,20 +1,21 @@
 -- Laws of big-endian bytes, each over the width: what a number's bytes are in two halves, what is read of what was written, what is read
 -- inside a part, and bounds. Callers cite these and do not look into the definitions.
-use Prim.Native.Nat.{ℕ, zero, suc, ◌+◌, ◌-◌, ◌*◌, ◌/◌, ◌%◌, ◌^◌, ◌≤◌, ◌<◌}
-use native.Mathlib.Nat.{add-zero, zero-add, add-suc, add_assoc, mul_assoc, add-mul, div-one, mod-one, div-div-eq-div-mul, pow-suc, pow-succ', one-le-pow, mul-pos, mod-lt, mod-eq_of_lt, div-add-mod', div-lt_iff_lt-mul, one-mul, suc-mul, mul-le-mul, le_refl, le_of_suc-le-suc}
-use native.Mathlib.Numerals.{add-one}
+use Prim.Native.Nat.{ℕ, zero, suc, ◌+◌, ◌-◌, ◌*◌, ◌/◌, ◌%◌, ◌^◌, ◌≤◌, ◌<◌, min}
+use native.Mathlib.Nat.{add-zero, zero-add, add-suc, add_assoc, mul_assoc, add-mul, div-one, mod-one, div-div-eq-div-mul, pow-suc, pow-succ', one-le-pow, mod-lt, mod-eq_of_lt, div-add-mod', div-lt_iff_lt-mul, one-mul, suc-mul, mul-le-mul, le_refl, le_of_suc-le-suc}
+use native.Mathlib.Numerals.{add-one, one-add}
 use native.Mathlib.Omega.{arith}
 use mathlib.Core.Path.{◌≡◌, refl, sym, ap, ap₂, ◌∙◌}
 use mathlib.Core.List.{List, [], ◌∷◌, ◌++◌, append_assoc, append-nil}
-use lib.ListN.{take-append-drop, length, get_or, set, take, drop, length-append, length-take, length-drop, get_or-append, drop_of_length-le}
-use lib.Seq.{take-length, take_all, length-take-le, get_or-append-add, get_or-append_seam, get_or-take, get_or-drop, set_split, sets, sets-eq, take_at, drop_at, drop-drop, take-append-le, drop-append-le, take-append-add, drop-append-add, take-suc, take-take, take-add}
+use lib.ListN.{take-append-drop, length, get_or, set, take, drop, length-append, length-take, length-drop, get_or-append}
+use lib.Seq.{length-take-le, get_or-append-add, get_or-append_seam, get_or-take, get_or-drop, set_split, sets, sets-eq, take_at, drop_at, drop-drop, take-append-le, drop-append-le, take-append-add, drop-append-add, take-suc, take-take, take-add}
 use lib.Arith.{mod-mul, digits_div, digits_mod, digits_lt}
 use lib.Dec.{lit<}
 use borrow.Rule.Slice.PartMut.{put_mid, Post-is}
-use Rattle.numbers.specs.Bytes.{be, bytes_of, bytes_of_four, span, turned, put}
+use Rattle.std.specs.Int.{byte_at, bytes_high_first, div_ceil}
+use Rattle.numbers.specs.Bytes.{be, bytes_of, put}
 use Rattle.numbers.specs.Ceiling.{ceil_div}
 
-256^-pos : (k : ℕ) → 0 < 256 ^ k
+pub 256^-pos : (k : ℕ) → 0 < 256 ^ k
 256^-pos k = one-le-pow k 256 (lit< tt)
 
 -- ---- a number in two halves
@@ -32,22 +33,22 @@ bytes_join j zero v = rw (add-zero, div-one, append-nil)
 bytes_join j (suc k) v =
     rw (add-suc j k, bytes_join j k (v / 256), pow-succ' 256 k, div-div-eq-div-mul v 256 (256 ^ k), append_assoc)
 
--- only the low bytes of a number stand in its k bytes
-pub bytes_mod : (k v : ℕ) → bytes_of k (v % 256 ^ k) ≡ bytes_of k v
-unfolding bytes_of
-bytes_mod zero v = refl
-bytes_mod (suc k) v =
-    let e : v % 256 ^ suc k ≡ (v / 256 % 256 ^ k) * 256 + v % 256 = rw pow-suc (mod-mul v (256^-pos k) (lit< tt)) in
-    rw (e, digits_div (v / 256 % 256 ^ k) (mod-lt v (lit< tt)), digits_mod (v / 256 % 256 ^ k) (mod-lt v (lit< tt)), bytes_mod k (v / 256))
-
 pub length_bytes : (k v : ℕ) → length (bytes_of k v) ≡ k
 unfolding bytes_of
 length_bytes zero v = refl
 length_bytes (suc k) v = rw (length-append, length_bytes k (v / 256)) (add-one k)
 
-pub length_four : (a b c d : ℕ) → length (bytes_of_four a b c d) ≡ 32
-unfolding bytes_of_four
-length_four a b c d = rw (length-append, length-append, length-append, length_bytes 8 a, length_bytes 8 b, length_bytes 8 c, length_bytes 8 d)
+top_byte : (k v : ℕ) → byte_at k v ≡ v / 256 ^ k % 256
+top_byte zero v = rw div-one
+top_byte (suc k) v = refl
+
+-- std's list of a number's bytes
+pub be_bytes_are : (k v : ℕ) → bytes_high_first k v ≡ bytes_of k v
+unfolding bytes_of
+be_bytes_are zero v = refl
+be_bytes_are (suc k) v =
+    let join : bytes_of (suc k) v ≡ v / 256 ^ k % 256 ∷ bytes_of k v = rw one-add at (bytes_join 1 k v) in
+    ap₂ ◌∷◌ (top_byte k v) (be_bytes_are k v) ∙ sym join
 
 -- ---- items replaced
 
@@ -127,48 +128,12 @@ pub put_copy : (s : List ℕ) (at : ℕ) (bs : List ℕ) → put_mid at (at + le
 unfolding put
 put_copy s at bs = rw (Post-is at (at + length bs) s (omega arith)) refl
 
--- a number written in two halves of k bytes
-pub put_halves : (k v : ℕ) (s : List ℕ) (at : ℕ) → at + (k + k) ≤ length s
-    → put (put s at (bytes_of k (v / 256 ^ k))) (at + k) (bytes_of k (v % 256 ^ k)) ≡ put s at (bytes_of (k + k) v)
-put_halves k v s at h =
-    let high : List ℕ = bytes_of k (v / 256 ^ k) in
-    rw (bytes_mod, bytes_join) (put_put s at high (bytes_of k v) k (length_bytes k (v / 256 ^ k)) (omega (arith, length_bytes k v)))
-
--- ---- a number with its bytes the other way round
-
-span_pos : (k : ℕ) → 0 < span k
-unfolding span
-span_pos zero = lit< tt
-span_pos (suc k) = mul-pos (span_pos k) (span_pos k)
-
-high_lt : (k v : ℕ) → v < span (suc k) → v / span k < span k
-unfolding span
-high_lt k v h = (div-lt_iff_lt-mul (span_pos k)).1 h
-
-turned_lt : (k v : ℕ) → v < span k → turned k v < span k
-unfolding turned
-turned_lt zero v h = h
-turned_lt (suc k) v h = digits_lt (turned_lt k (v % span k) (mod-lt v (span_pos k))) (turned_lt k (v / span k) (high_lt k v h))
-
--- turned twice it is itself
-pub turned_twice : (k v : ℕ) → v < span k → turned k (turned k v) ≡ v
-unfolding turned
-turned_twice zero v h = refl
-turned_twice (suc k) v h =
-    let b = span k in
-    let low = turned k (v / b) in
-    let high = turned k (v % b) in
-    let fits : low < b = turned_lt k (v / b) (high_lt k v h) in
-    rw (digits_mod high fits, digits_div high fits, turned_twice k (v / b) (high_lt k v h), turned_twice k (v % b) (mod-lt v (span_pos k)))
-    (div-add-mod' v b)
-
--- written in two halves of n bytes, the low one first
-pub turned_halves : (k n v : ℕ) (s : List ℕ) (at : ℕ) → span k ≡ 256 ^ n → v < span (suc k) → at + (n + n) ≤ length s
-    → put (put s at (bytes_of n (turned k (v % span k)))) (at + n) (bytes_of n (turned k (v / span k))) ≡ put s at (bytes_of (n + n) (turned (suc k) v))
-unfolding turned
-turned_halves k n v s at e h room =
-    let fits : turned k (v / span k) < span k = turned_lt k (v / span k) (high_lt k v h) in
-    rw (← e, digits_div (turned k (v % span k)) fits, digits_mod (turned k (v % span k)) fits) at (put_halves n (turned (suc k) v) s at room)
+-- a number's bytes, copied so
+pub put_be : (k v : ℕ) (s : List ℕ) (at : ℕ) → put_mid at (at + k - at) s (bytes_high_first k v) ≡ put s at (bytes_of k v)
+put_be k v s at =
+    ap (λ (n : ℕ). put_mid at (at + n - at) s (bytes_high_first k v)) (sym (ap length (be_bytes_are k v) ∙ length_bytes k v))
+    ∙ put_copy s at (bytes_high_first k v)
+    ∙ ap (put s at) (be_bytes_are k v)
 
 -- what stands before it stays
 pub take_put : {A : Type 0} (s : List A) (at : ℕ) (bs : List A) → at ≤ length s → take at (put s at bs) ≡ take at s
@@ -218,45 +183,6 @@ put_again s at bs room = put_over s at bs bs (le_refl (length bs)) room
 -- n items from at on, and those behind them
 take_behind : {A : Type 0} (n m at : ℕ) (s : List A) → take (n + m) (drop at s) ≡ take n (drop at s) ++ take m (drop (at + n) s)
 take_behind n m at s = rw (← drop-drop n at s) (take-add n m (drop at s))
-
--- four pieces of n items
-pub take_four : {A : Type 0} (n at : ℕ) (s : List A)
-    → take (n + n + n + n) (drop at s) ≡ take n (drop at s) ++ (take n (drop (at + n) s) ++ (take n (drop (at + (n + n)) s) ++ take n (drop (at + (n + n + n)) s)))
-take_four n at s = rw (take_behind (n + n + n) n at s, take_behind (n + n) n at s, take_behind n n at s) (simp append_assoc)
-
--- four adjoining replacements of n items, one after another
-pub put_four : {A : Type 0} (s : List A) (at n : ℕ) (a b c d : List A) {s₁ s₂ s₃ s₄ : List A}
-    → length a ≡ n → length b ≡ n → length c ≡ n → length d ≡ n → at + (n + n + n + n) ≤ length s
-    → s₁ ≡ put s at a → s₂ ≡ put s₁ (at + n) b → s₃ ≡ put s₂ (at + (n + n)) c → s₄ ≡ put s₃ (at + (n + n + n)) d
-    → s₄ ≡ put s at (a ++ (b ++ (c ++ d)))
-put_four s at n a b c d ea eb ec ed room e₁ e₂ e₃ e₄ =
-    let two : length (a ++ b) ≡ n + n = simp length-append (omega arith) in
-    let three : length ((a ++ b) ++ c) ≡ n + n + n = simp length-append (omega arith) in
-    rw (e₄, e₃, e₂, e₁, put_put s at a b n ea (omega arith), put_put s at (a ++ b) c (n + n) two (omega arith), put_put s at ((a ++ b) ++ c) d (n + n + n) three (omega arith))
-    (ap (put s at) (simp append_assoc))
-
--- one piece more of what is copied
-pub put_more : {A : Type 0} (s : List A) (at : ℕ) (bs : List A) (i n : ℕ) → i + n ≤ length bs → at + length bs ≤ length s
-    → put (put s at (take i bs)) (at + i) (take n (drop i bs)) ≡ put s at (take (i + n) bs)
-put_more s at bs i n h room =
-    put_put s at (take i bs) (take n (drop i bs)) i (length-take-le i bs (omega arith)) (simp (length-take, length-drop) (omega arith))
-    ∙ ap (put s at) (sym (take-add i n bs))
-
--- the last n items of what is copied, over what is there of them already
-pub put_last : {A : Type 0} (s : List A) (at : ℕ) (bs : List A) (i n : ℕ) → n ≤ length bs → i ≤ length bs → length bs ≤ i + n → at + length bs ≤ length s
-    → put (put s at (take i bs)) (at + length bs - n) (take n (drop (length bs - n) bs)) ≡ put s at bs
-put_last {A} s at bs i n within so_far rest room =
-    let k : ℕ = length bs - n in
-    let last : List A = drop k bs in
-    let there : at + length bs - n ≡ at + k = omega arith in
-    let upto : k + (i - k) ≡ i = omega arith in
-    let long : length last ≡ n = simp length-drop (omega arith) in
-    let first : length (take k bs) ≡ k = length-take-le k bs (omega arith) in
-    let some : List A = take (i - k) last in
-    rw (there, take_all n last (omega arith), ← upto, ← put_more s at bs k (i - k) (omega arith) room)
-    (put_over (put s at (take k bs)) (at + k) some last (simp length-take (omega arith)) (omega (arith, length_put s at (take k bs) (omega arith)))
-    ∙ put_put s at (take k bs) last k first (omega arith)
-    ∙ ap (put s at) (take-append-drop k bs))
 
 -- ---- what is read
 
@@ -337,29 +263,22 @@ pub bytes_next : (k n : ℕ) (s : List ℕ) (at : ℕ) → ((i : ℕ) → get_or
     → take (k + n) (drop at s) ≡ bytes_of k (be k s at) ++ take n (drop (at + k) s)
 bytes_next k n s at h room = rw (bytes_be k s at h room) (take_behind k n at s)
 
--- 32 bytes are those of the four numbers that they hold
-pub bytes_four : (s : List ℕ) (at : ℕ) → ((i : ℕ) → get_or s i 0 < 256) → at + 32 ≤ length s
-    → bytes_of_four (be 8 s at) (be 8 s (at + 8)) (be 8 s (at + 16)) (be 8 s (at + 24)) ≡ take 32 (drop at s)
-unfolding bytes_of_four
-bytes_four s at h room =
-    rw (bytes_be 8 s at h (omega arith), bytes_be 8 s (at + 8) h (omega arith), bytes_be 8 s (at + 16) h (omega arith), bytes_be 8 s (at + 24) h (omega arith))
-    (sym (take_four 8 at s))
-
 -- ---- division rounded up
 
--- a whole of full pieces
-pub ceil_exact : (n : ℕ) {d : ℕ} → 0 < d → n % d ≡ 0 → n / d ≡ ceil_div n d
+-- a remainder of 0 says that the pieces are full; any other, that one more is begun
+up : (n : ℕ) {d : ℕ} (r : ℕ) → 0 < d → n % d ≡ r → n / d + min 1 r ≡ ceil_div n d
 unfolding ceil_div
-ceil_exact n {d} h e =
+up n {d} zero h e =
     let whole : n + (d - 1) ≡ n / d * d + (d - 1) = omega (arith, div-add-mod' n d) in
-    rw whole (sym (digits_div (n / d) {m = d} {r = d - 1} (omega arith)))
+    rw whole (rw add-zero (sym (digits_div (n / d) {m = d} {r = d - 1} (omega arith))))
+up n {d} (suc r) h e =
+    let whole : n + (d - 1) ≡ (n / d + 1) * d + r = omega (arith, div-add-mod' n d, add-mul (n / d) 1 d, one-mul d) in
+    let more : min 1 (suc r) ≡ 1 = omega arith in
+    rw (more, whole) (sym (digits_div (n / d + 1) {m = d} {r = r} (omega (arith, mod-lt n h))))
 
--- a whole with a piece that is not full
-pub ceil_more : (n : ℕ) {d : ℕ} → 0 < d → (n % d ≡ 0 → ⊥) → n / d + 1 ≡ ceil_div n d
-unfolding ceil_div
-ceil_more n {d} h e =
-    let whole : n + (d - 1) ≡ (n / d + 1) * d + (n % d - 1) = omega (arith, div-add-mod' n d, add-mul (n / d) 1 d, one-mul d) in
-    rw whole (sym (digits_div (n / d + 1) {m = d} {r = n % d - 1} (omega (arith, mod-lt n h))))
+-- std's division rounded up
+pub ceil_std : (n : ℕ) {d : ℕ} → 0 < d → div_ceil n d ≡ ceil_div n d
+ceil_std n {d} h = up n (n % d) h refl
 
 -- the pieces cover the whole
 pub ceil_covers : (n : ℕ) {d : ℕ} → 0 < d → n ≤ ceil_div n d * d

@@ -1,4 +1,5 @@
 pub mod BitsLaws
 pub mod BytesLaws
 pub mod Rows
+pub mod Turned
 pub mod Choice

@@ -11,21 +11,6 @@ unfoldable pub bytes_of : ℕ → ℕ → List ℕ
 bytes_of zero v = []
 bytes_of (suc k) v = bytes_of k (v / 256) ++ (v % 256 ∷ [])
 
--- the 32 bytes that hold four numbers of 8
-unfoldable pub bytes_of_four : ℕ → ℕ → ℕ → ℕ → List ℕ
-bytes_of_four a b c d = bytes_of 8 a ++ (bytes_of 8 b ++ (bytes_of 8 c ++ bytes_of 8 d))
-
--- how many numbers 2^k bytes hold
-unfoldable pub span : ℕ → ℕ
-span zero = 256
-span (suc k) = span k * span k
-
--- the number whose 2^k bytes are those of v the other way round: its halves, each turned, have changed places
-unfoldable pub turned : ℕ → ℕ → ℕ
-unfolding span
-turned zero v = v
-turned (suc k) v = turned k (v % span k) * span k + turned k (v / span k)
-
 -- s with what stands from at on replaced by bs
 unfoldable pub put : {A : Type 0} → List A → ℕ → List A → List A
 put s at bs = take at s ++ (bs ++ drop (at + length bs) s)

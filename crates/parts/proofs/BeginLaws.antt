@@ -5,19 +5,19 @@ use native.Mathlib.Omega.{arith}
 use mathlib.Core.Path.{◌≡◌, refl, sym, ap, ap₂, ◌∙◌}
 use mathlib.Core.Bool.{true, false, ◌&&◌}
 use mathlib.Core.List.{List, [], ◌∷◌, ◌++◌, append-nil}
-use lib.ListN.{length, get_or, take, drop, set, replicate, length-drop, length-replicate, replicate-append-replicate}
+use lib.ListN.{length, get_or, take, drop, replicate, length-drop, replicate-append-replicate}
 use lib.Seq.{length-take-le, take-suc, take-take, drop-drop, take-add, get_or-drop}
 use lib.Dec.{leb, eqb}
 use borrow.Author.Tests.{lt-leb, eqb-true}
+use Rattle.std.specs.Prelude.{Some, Ok}
 use Rattle.numbers.specs.Bytes.{be, put}
-use Rattle.numbers.proofs.BytesLaws.{put_none, put_one, put_put, length_put, be_put_after}
+use Rattle.numbers.proofs.BytesLaws.{put_none, length_put, be_put_after}
 use Rattle.types.specs.declared.TilePartEntry.{TilePartEntry}
 use Rattle.types.specs.Row.{row_bytes, row_of, rows_of}
 use Rattle.types.proofs.RowLaws.{length_row}
 use Rattle.types.proofs.RowStanding.{rows, rows_none, rows_more, length_all}
 use Rattle.parts.specs.Scan.{scan_step_at, entries_from}
 use Rattle.parts.specs.Begin.{blank_at, free_at, BegunBy, Begins}
-use Rattle.parts.specs.declared.step.ScanStep.TheVariants.{Part}
 use Rattle.parts.specs.declared.walk.Passed.{Passed}
 use Rattle.parts.proofs.OrderAnswers.{both}
 use Rattle.parts.proofs.ScanLaws.{and-false, entries_part}
@@ -32,18 +32,6 @@ noughts n = replicate n 0
 
 one_more : (k : ℕ) → noughts k ++ noughts 1 ≡ noughts (k + 1)
 one_more k = replicate-append-replicate k 1 0
-
--- one more zero stored behind zeros
-pub cleared_more : (lent table : List ℕ) (i : ℕ) → i < length lent → table ≡ put lent 0 (noughts i) → set table i 0 ≡ put lent 0 (replicate (i + 1) 0)
-cleared_more lent table i room is =
-    let long : length (noughts i) ≡ i = length-replicate {A = ℕ} i 0 in
-    let same : length (put lent 0 (noughts i)) ≡ length lent = length_put lent 0 (noughts i) (omega (arith, long)) in
-    let there : 0 + i ≡ i = omega arith in
-    ap (λ (t : List ℕ). set t i 0) is
-    ∙ put_one (put lent 0 (noughts i)) i 0 (omega (arith, same))
-    ∙ ap (λ (n : ℕ). put (put lent 0 (noughts i)) n (noughts 1)) (sym there)
-    ∙ put_put lent 0 (noughts i) (noughts 1) i long (omega arith)
-    ∙ ap (put lent 0) (one_more i)
 
 -- k bytes whose number is 0
 zeros : (k : ℕ) (s : List ℕ) (at : ℕ) → be k s at ≡ 0 → at + k ≤ length s → take k (drop at s) ≡ replicate k 0
@@ -137,7 +125,7 @@ module _ {s : List ℕ} {start : ℕ} {lent : List ℕ} where
         room
 
     -- a record more
-    pub begun_more : {next : List ℕ} {to : ℕ} {e : TilePartEntry} → blank_at table row ≡ true → row + 21 ≤ length lent → scan_step_at s at ≡ Part e
+    pub begun_more : {next : List ℕ} {to : ℕ} {e : TilePartEntry} → blank_at table row ≡ true → row + 21 ≤ length lent → scan_step_at s at ≡ Ok (Some e)
         → next ≡ put table row (row_of e) → to ≡ e.offset.0 + e.length → Begun s start lent next to (count + 1) (row + 21)
     begun_more {next} {to} {e} is room found new there =
         let es : List TilePartEntry = entries_from s start in

@@ -7,7 +7,8 @@ use mathlib.Core.List.{List, [], ◌∷◌}
 use lib.ListN.{length}
 use Rattle.numbers.specs.Bytes.{put}
 use Rattle.types.specs.declared.TilePartEntry.{TilePartEntry}
-use Rattle.types.proofs.RowStanding.{Layout, length_more, put_last, stored}
+use Rattle.types.specs.Layout.{Layout}
+use Rattle.types.proofs.RowStanding.{length_more, put_last, stored}
 use Rattle.parts.specs.Sot.{psot}
 use Rattle.parts.specs.Scan.{part_at, entries_from}
 use Rattle.parts.proofs.ScanLaws.{Next, entries_next, leads_on}
@@ -16,7 +17,7 @@ no_entries : (es : List TilePartEntry) → length es ≡ 0 → es ≡ []
 no_entries [] h = refl
 no_entries (e ∷ es) h = absurd (omega arith)
 
-module _ {B : Type 0} (L : Layout B) where
+module _ {B : Type 0} {width : ℕ} (L : Layout B width) where
   -- i records were written up to here; after the last one the place here says nothing
   pub record Filled (s : List ℕ) (start count from : ℕ) (lent table : List B) (at place i : ℕ) : Type 0 where
     pub rest : List TilePartEntry
@@ -44,12 +45,12 @@ module _ {B : Type 0} (L : Layout B) where
       first h f = found h f ∙ (stands h f).entries
 
       -- and has room
-      pub one_room : i < count → Filled s start count from lent table at place i → place + L.width ≤ length table
+      pub one_room : i < count → Filled s start count from lent table at place i → place + width ≤ length table
       one_room h f =
           omega (arith, ap (λ (es : List TilePartEntry). length (L.all es)) (first h f), length_more L (part_at s at) (entries_from s (at + (part_at s at).length)), f.room)
 
       pub turn : {e : TilePartEntry} {next : List B} {to : ℕ} → i < count → e ≡ part_at s at → next ≡ put table place (L.one e) → to ≡ at + psot s at
-          → Filled s start count from lent table at place i → Filled s start count from lent next to (place + L.width) (i + 1)
+          → Filled s start count from lent table at place i → Filled s start count from lent next to (place + width) (i + 1)
       turn {e} {next} {to} h is new there f =
           let p : TilePartEntry = part_at s at in
           let rest : List TilePartEntry = entries_from s (at + p.length) in

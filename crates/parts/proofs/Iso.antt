@@ -6,6 +6,7 @@ use mathlib.Core.Path.{◌≡◌, refl, sym, ap, ap₂, ◌∙◌}
 use mathlib.Core.List.{List, [], ◌∷◌, ◌++◌, append_assoc, append-nil}
 use lib.ListN.{length, take, length-append}
 use borrow.Author.Tests.{le-leb, eq-eqb}
+use Rattle.std.specs.Prelude.{Some, None, Ok}
 use Rattle.numbers.specs.Bytes.{be, bytes_of}
 use Rattle.numbers.specs.Rows.{Row, bytes_of_rows, widths}
 use Rattle.numbers.proofs.BytesLaws.{length_bytes, be_rest, be_front, be_bytes_of}
@@ -16,8 +17,6 @@ use Rattle.types.specs.declared.TilePartEntry.{TilePartEntry}
 use Rattle.parts.specs.Sot.{lsot, isot, psot, tpsot, tnsot}
 use Rattle.parts.specs.Scan.{eoc_at, sot_step_at, scan_step_at, scanned}
 use Rattle.parts.specs.Iso.{TilePart, sot_rows, part_bytes, length_of, Ranges, AllRanges, parts_bytes, listed, listed_from}
-use Rattle.parts.specs.declared.step.ScanStep.TheVariants.{Part, Ended}
-use Rattle.parts.specs.declared.scan.Scanned.TheVariants.{Table}
 use Rattle.parts.proofs.ScanLaws.{sot_rest, sot_part, step_outside, step_eoc, step_sot, sot_no_eoc, same_part, Scans, scans_end, scans_part}
 use Rattle.parts.proofs.ScanAnswers.{scans_accepted}
 
@@ -55,7 +54,7 @@ part_read front Psot t rest g =
     })
 
 pub part_standard : (front : List ℕ) (t : TilePart) (rest : List ℕ) → Ranges (length_of t) t
-    → scan_step_at (front ++ (part_bytes (length_of t) t ++ rest)) (length front) ≡ Part (listed (length front) (length_of t) t)
+    → scan_step_at (front ++ (part_bytes (length_of t) t ++ rest)) (length front) ≡ Ok (Some (listed (length front) (length_of t) t))
 part_standard front t rest g =
     let s : List ℕ = front ++ (part_bytes (length_of t) t ++ rest) in
     let r = part_read front (length_of t) t rest g in
@@ -64,7 +63,7 @@ part_standard front t rest g =
 
 -- with Psot 0: to the codestream's end, EOC's two bytes included
 pub part_standard_last : (front : List ℕ) (t : TilePart) → Ranges 0 t
-    → scan_step_at (front ++ (part_bytes 0 t ++ bytes_of 2 EOC)) (length front) ≡ Part (listed (length front) (length_of t + 2) t)
+    → scan_step_at (front ++ (part_bytes 0 t ++ bytes_of 2 EOC)) (length front) ≡ Ok (Some (listed (length front) (length_of t + 2) t))
 part_standard_last front t g =
     let s : List ℕ = front ++ (part_bytes 0 t ++ bytes_of 2 EOC) in
     let r = part_read front 0 t (bytes_of 2 EOC) g in
@@ -92,7 +91,7 @@ unfolding listed_from
 length_listed at [] = refl
 length_listed at (t ∷ more) = ap suc (length_listed (at + length_of t) more)
 
-pub eoc_ends : (front behind : List ℕ) → scan_step_at (front ++ (bytes_of 2 EOC ++ behind)) (length front) ≡ Ended
+pub eoc_ends : (front behind : List ℕ) → scan_step_at (front ++ (bytes_of 2 EOC ++ behind)) (length front) ≡ Ok None
 unfolding eoc_at
 eoc_ends front behind =
     let s : List ℕ = front ++ (bytes_of 2 EOC ++ behind) in
@@ -109,7 +108,7 @@ module _ (front : List ℕ) (ts : List TilePart) (g : AllRanges ts) where
         rw append-nil at (parts_passed front ts (bytes_of 2 EOC ++ behind) [] g (scans_end _ _ (eoc_ends (front ++ parts_bytes ts) behind)))
 
     pub scan_standard_accepts : (rows : ℕ) → length ts ≤ rows
-        → scanned (front ++ (parts_bytes ts ++ (bytes_of 2 EOC ++ behind))) (length front) rows ≡ Table (length ts)
+        → scanned (front ++ (parts_bytes ts ++ (bytes_of 2 EOC ++ behind))) (length front) rows ≡ Ok (length ts)
     scan_standard_accepts rows room = scans_accepted (length ts) rows scan_standard (length_listed (length front) ts) room
 
   -- The same with one more, the last, whose Psot is 0.
@@ -126,6 +125,6 @@ module _ (front : List ℕ) (ts : List TilePart) (g : AllRanges ts) where
         (scans_part s (length before) e [] (part_standard_last before t last) (scans_end _ _ (step_outside _ _ (omega arith)))))
 
     pub scan_standard_last_accepts : (rows : ℕ) → length ts + 1 ≤ rows
-        → scanned (front ++ (parts_bytes ts ++ (part_bytes 0 t ++ bytes_of 2 EOC))) (length front) rows ≡ Table (length ts + 1)
+        → scanned (front ++ (parts_bytes ts ++ (part_bytes 0 t ++ bytes_of 2 EOC))) (length front) rows ≡ Ok (length ts + 1)
     scan_standard_last_accepts rows room =
         scans_accepted (length ts + 1) rows scan_standard_last (simp (length-append, length_listed)) room

@@ -8,6 +8,7 @@ use mathlib.Core.List.{List, [], ◌∷◌, ◌++◌, map, append_assoc, append-
 use lib.ListN.{length, take, drop, length-append, length-take, length-drop}
 use lib.Seq.{drop-append_seam, take_at}
 use lib.Dec.{eqb}
+use Rattle.std.specs.Prelude.{Some}
 use Rattle.numbers.specs.Bytes.{be}
 use Rattle.numbers.proofs.BytesLaws.{be_rest, be_front, be_part}
 use Rattle.types.specs.Markers.{SOT}
@@ -17,7 +18,6 @@ use Rattle.chain.proofs.ChainLaws.{chain_run}
 use Rattle.parts.specs.Sot.{psot}
 use Rattle.parts.specs.Scan.{ended, move_at, recorded, scan_from, entries_from}
 use Rattle.parts.specs.Split.{split_step_at, parts_from, parts_of}
-use Rattle.parts.specs.declared.split.SplitStep.TheVariants.{Part}
 use Rattle.parts.specs.Tiles.{of_tile, bytes_at, joined, AllLong}
 use Rattle.numbers.proofs.Choice.{by_test}
 use Rattle.parts.proofs.ScanLaws.{Stands, move_passed, rises}
@@ -86,13 +86,13 @@ module _ (s : List ℕ) (e : TilePartEntry) (stands : Stands s e.offset.0 e) (lo
       ∙ ap (be 2 s) (add-zero e.offset.0)
       ∙ stands.marker
 
-  found : (psot s e.offset.0 ≡ e.length) ⊎ ((psot s e.offset.0 ≡ 0) × (after ≡ [])) → split_step_at buffer (length before) ≡ Part (length before + e.length)
+  found : (psot s e.offset.0 ≡ e.length) ⊎ ((psot s e.offset.0 ≡ 0) × (after ≡ [])) → split_step_at buffer (length before) ≡ Some (length before + e.length)
   found ends =
       let p : psot buffer (length before) ≡ psot s e.offset.0 = read 4 _ (omega arith) in
       let some = stands.some in
       let n = length_buffer in
       step_part buffer (length before) (omega arith) marker
-      ∙ ap Part
+      ∙ ap Some
       (⊎_elim
       (λ l. end_psot buffer (length before) (λ z. omega arith) (omega arith) ∙ ap (λ (m : ℕ). length before + m) (p ∙ l))
       (λ z. end_rest buffer (length before) (p ∙ z.0) ∙ n ∙ omega (arith, ap lib.ListN.length z.1))

@@ -9,18 +9,14 @@ use mathlib.Core.List.{List}
 use lib.ListN.{length, get_or, drop, set, length-map, length-drop, get_or-eq_default}
 use borrow.Author.Tests.{lt-ltb, le-ltb}
 use lib.Seq.{drop-drop, drop-cons, get_or-set_same, get_or-set_other}
+use Rattle.std.specs.Prelude.{Some, None, Result, Ok, Err}
 use Rattle.chain.specs.Chain.{Visit, Chain, Run, stay, step, also}
 use Rattle.chain.proofs.ChainLaws.{chain_run}
 use Rattle.types.specs.declared.Refusal.{Refusal}
 use Rattle.types.specs.declared.TilePartEntry.{TilePartEntry}
 use Rattle.parts.specs.Scan.{part_at, scan_step_at, ScanEnd, ended, move_at, scan_from, recorded, entries_from, ended_as, judged}
 use Rattle.parts.specs.Walk.{Reached, Halved, quarters_by, Quartered, stride_up, stride_of, turns_of, place_of, quarters_of, walked_as}
-use Rattle.parts.specs.declared.scan.Scanned.{Scanned}
 use Rattle.parts.specs.declared.walk.Quarters.{Quarters}
-use Rattle.parts.specs.declared.walk.Walked.{Walked}
-use Rattle.parts.specs.declared.step.ScanStep.TheVariants as found
-use Rattle.parts.specs.declared.scan.Scanned.TheVariants as answer
-use Rattle.parts.specs.declared.walk.Walked.TheVariants as walked
 use Rattle.parts.proofs.ScanLaws.{part_offset, move_passed, rises, stop, scan_ended, scan_refused, scan_part, entries_ended, entries_part, entries_next}
 
 -- ---- a scan has no more records than the codestream has bytes
@@ -39,7 +35,7 @@ module _ {s : List ℕ} {start : ℕ} where
   pub reached_start : Reached s start start 0
   reached_start = record { counted = omega arith; rest = refl; ends = refl }
 
-  reached_part : {e : TilePartEntry} → scan_step_at s start ≡ found.Part e → Reached s start (start + e.length) 1
+  reached_part : {e : TilePartEntry} → scan_step_at s start ≡ Ok (Some e) → Reached s start (start + e.length) 1
   unfolding also
   reached_part {e} p =
       let all = entries_part s start e p in
@@ -61,7 +57,7 @@ module _ {s : List ℕ} {start : ℕ} where
   pub reached_few : {at count : ℕ} → Reached s start at count → count ≤ length s
   reached_few i = omega (arith, i.counted, entries_few s start)
 
-  pub reached_all : {at count : ℕ} → scan_step_at s at ≡ found.Ended → Reached s start at count → count ≡ length (entries_from s start)
+  pub reached_all : {at count : ℕ} → scan_step_at s at ≡ Ok None → Reached s start at count → count ≡ length (entries_from s start)
   reached_all {at} e i = omega (arith, i.counted, ap length (entries_ended s at e))
 
   -- where the scan stops, all were counted
@@ -73,17 +69,17 @@ module _ {s : List ℕ} {start : ℕ} where
       let all = length-map (scan_from s start).visits (recorded s) in
       ap₂ ended_as (sym (ap (λ (c : Chain ScanEnd). c.ended) e) ∙ i.ends) (omega (arith, i.counted))
 
-  pub reached_ended : {at count : ℕ} → scan_step_at s at ≡ found.Ended → Reached s start at count → answer.Table count ≡ judged (scan_from s start)
+  pub reached_ended : {at count : ℕ} → scan_step_at s at ≡ Ok None → Reached s start at count → Ok count ≡ judged (scan_from s start)
   unfolding ended_as
   reached_ended {at} e i = reached_last (scan_ended s at e) i
 
-  pub reached_refused : {at count : ℕ} {r : Refusal} → scan_step_at s at ≡ found.Refused r → Reached s start at count
-      → answer.Refused r ≡ judged (scan_from s start)
+  pub reached_refused : {at count : ℕ} {r : Refusal} → scan_step_at s at ≡ Err r → Reached s start at count
+      → Err r ≡ judged (scan_from s start)
   unfolding ended_as
   reached_refused {at} {count} {r} e i = reached_last (scan_refused s at r e) i
 
 -- a tile-part more
-pub reached_next : {s : List ℕ} {start at to count : ℕ} {e : TilePartEntry} → scan_step_at s at ≡ found.Part e → to ≡ e.offset.0 + e.length
+pub reached_next : {s : List ℕ} {start at to count : ℕ} {e : TilePartEntry} → scan_step_at s at ≡ Ok (Some e) → to ≡ e.offset.0 + e.length
     → Reached s start at count → Reached s start to (count + 1)
 reached_next {s} {start} {at} {to} {count} {e} p there i =
     let end : to ≡ at + e.length = there ∙ ap (λ (o : ℕ). o + e.length) (part_offset s at e p) in
@@ -213,11 +209,11 @@ module _ {s : List ℕ} {start used count : ℕ} (stride : ℕ) (marks : List �
 
 -- ---- what a walk answers of the scan
 
-unfoldable pub told : Walked → Scanned
-told (walked.Table q) = answer.Table q.parts
-told (walked.Refused r) = answer.Refused r
+unfoldable pub told : Result Quarters Refusal → Result ℕ Refusal
+told (Ok q) = Ok q.parts
+told (Err r) = Err r
 
-pub told_as : (s : List ℕ) (start : ℕ) (a : Scanned) → told (walked_as s start a) ≡ a
+pub told_as : (s : List ℕ) (start : ℕ) (a : Result ℕ Refusal) → told (walked_as s start a) ≡ a
 unfolding quarters_of walked_as told
-told_as s start (answer.Table n) = refl
-told_as s start (answer.Refused r) = refl
+told_as s start (Ok n) = refl
+told_as s start (Err r) = refl

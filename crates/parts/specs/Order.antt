@@ -1,12 +1,11 @@
 -- Whether the tile-parts of one tile stand in order (docs/RULES.md, "Tile-parts in order"): of a list of records, whether a table has them as rows or as
 -- themselves. And the same in one pass, a record at a time.
-use Rattle.std.specs.Prelude.{ℕ, ◌+◌, ◌≡◌, ◌⊎◌, Bool, true, false, cond, not, ◌&&◌, ◌||◌, List, [], ◌∷◌, map, length, eqb}
+use Rattle.std.specs.Prelude.{ℕ, ◌+◌, ◌≡◌, ◌⊎◌, Bool, true, false, cond, not, ◌&&◌, ◌||◌, List, [], ◌∷◌, map, length, eqb, Option, Some, None}
 use Rattle.types.specs.declared.PartNumbers.{PartNumbers}
 use Rattle.types.specs.declared.PartNumbers.TheVariants.{Known, NotKnown}
 use Rattle.types.specs.declared.TilePartEntry.{TilePartEntry}
 use Rattle.parts.specs.Tiles.{of_tile}
-use Rattle.parts.specs.declared.order.Order.{Order}
-use Rattle.parts.specs.declared.order.Order.TheVariants.{Due, Broken}
+use Rattle.parts.specs.declared.order.Due.{Due}
 
 -- the numbers of a tile's entries, in table order
 unfoldable pub numbers_of : ℕ → List TilePartEntry → List PartNumbers
@@ -46,18 +45,24 @@ order_number false = 0
 
 -- ---- in one pass
 
--- one more of the tile's, behind so many, which gave this TNsot, or 0
-unfoldable pub next_numbers : PartNumbers → ℕ → ℕ → Order
-next_numbers (Known t m) passed given =
-    cond (eqb t passed) (cond (eqb m 0) (Due (passed + 1) given) (cond (eqb given 0) (Due (passed + 1) m) (cond (eqb m given) (Due (passed + 1) given) Broken)))
-    Broken
-next_numbers NotKnown passed given = Broken
+-- so many of the tile's were passed, which gave this TNsot, or 0
+abbrev pub due_of : ℕ → ℕ → Due
+due_of passed given = record { passed = passed; given = given }
+
+-- one more of the tile's, behind those
+unfoldable pub next_numbers : PartNumbers → Due → Option Due
+next_numbers (Known t m) due =
+    cond (eqb t due.passed)
+    (cond (eqb m 0) (Some (due_of (due.passed + 1) due.given))
+    (cond (eqb due.given 0) (Some (due_of (due.passed + 1) m)) (cond (eqb m due.given) (Some (due_of (due.passed + 1) due.given)) None)))
+    None
+next_numbers NotKnown due = None
 
 -- one more record: another tile's is left out
-unfoldable pub order_step : TilePartEntry → ℕ → ℕ → ℕ → Order
+unfoldable pub order_step : TilePartEntry → ℕ → Due → Option Due
 unfolding next_numbers
-order_step e tile passed given = cond (eqb e.tile_index tile) (next_numbers e.numbers passed given) (Due passed given)
+order_step e tile due = cond (eqb e.tile_index tile) (next_numbers e.numbers due) (Some due)
 
 -- behind the last
-unfoldable pub order_end : ℕ → ℕ → Bool
-order_end passed given = not (eqb passed 0) && (eqb given 0 || eqb given passed)
+unfoldable pub order_end : Due → Bool
+order_end due = not (eqb due.passed 0) && (eqb due.given 0 || eqb due.given due.passed)

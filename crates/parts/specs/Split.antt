@@ -1,27 +1,25 @@
 -- One tile's buffer taken apart (docs/RULES.md, "Split"): the chain of its steps, and the parts.
-use Rattle.std.specs.Prelude.{ℕ, ◌+◌, ◌-◌, cond, List, [], map, length, take, drop, leb, eqb}
+use Rattle.std.specs.Prelude.{ℕ, ◌+◌, ◌-◌, cond, List, [], map, length, take, drop, leb, eqb, Option, Some, None}
 use Rattle.numbers.specs.Bytes.{be, put}
 use Rattle.types.specs.Markers.{SOT}
 use Rattle.chain.specs.Chain.{Move, end, on, visited, Chain, chain}
 use Rattle.parts.specs.Sot.{psot}
-use Rattle.parts.specs.declared.split.SplitStep.{SplitStep}
-use Rattle.parts.specs.declared.split.SplitStep.TheVariants.{Part, Ended}
 
 -- Psot 0 or past the end makes the rest one part; otherwise Psot bytes
 unfoldable pub part_end : List ℕ → ℕ → ℕ
 part_end s at = cond (eqb (psot s at) 0) (length s) (cond (leb (at + psot s at) (length s)) (at + psot s at) (length s))
 
 -- a part where 12 bytes remain and SOT stands there; Lsot is not tested
-unfoldable pub split_step_at : List ℕ → ℕ → SplitStep
+unfoldable pub split_step_at : List ℕ → ℕ → Option ℕ
 unfolding part_end
-split_step_at s at = cond (leb (at + 12) (length s)) (cond (eqb (be 2 s at) SOT) (Part (part_end s at)) Ended) Ended
+split_step_at s at = cond (leb (at + 12) (length s)) (cond (eqb (be 2 s at) SOT) (Some (part_end s at)) None) None
 
 pub data SplitEnd : Type 0 where
   ended : SplitEnd
 
-unfoldable pub move_of : SplitStep → Move SplitEnd
-move_of (Part next) = on next
-move_of Ended = end ended
+unfoldable pub move_of : Option ℕ → Move SplitEnd
+move_of (Some next) = on next
+move_of None = end ended
 
 unfoldable pub move_at : List ℕ → ℕ → Move SplitEnd
 move_at s at = move_of (split_step_at s at)
@@ -39,9 +37,9 @@ unfolding parts_from
 parts_of s = parts_from s 0
 
 -- the bytes of the part that a step at a position finds; none where it ends
-unfoldable pub found : List ℕ → ℕ → SplitStep → List ℕ
-found s at (Part next) = take (next - at) (drop at s)
-found s at Ended = []
+unfoldable pub found : List ℕ → ℕ → Option ℕ → List ℕ
+found s at (Some next) = take (next - at) (drop at s)
+found s at None = []
 
 unfoldable pub standing : List ℕ → ℕ → List ℕ
 unfolding found

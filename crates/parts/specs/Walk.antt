@@ -1,15 +1,11 @@
 -- The judging walk and its marks: what passing some tile-parts says of the scan, and the runs that the marks lead to.
-use Rattle.std.specs.Prelude.{ℕ, zero, suc, ◌+◌, ◌-◌, ◌*◌, ◌/◌, ◌≤◌, ◌<◌, cond, ◌≡◌, List, length, get_or, drop, ltb}
+use Rattle.std.specs.Prelude.{ℕ, zero, suc, ◌+◌, ◌-◌, ◌*◌, ◌/◌, ◌≤◌, ◌<◌, cond, ◌≡◌, List, length, get_or, drop, ltb, None, Result, Ok, Err}
 use Rattle.parts.specs.Scan.{part_at, scan_step_at, scan_from, entries_from}
-use Rattle.parts.specs.declared.scan.Scanned.{Scanned}
 use Rattle.parts.specs.declared.walk.Stop.{Stop}
 use Rattle.parts.specs.declared.walk.Passed.{Passed}
 use Rattle.parts.specs.declared.walk.Quarters.{Quarters}
-use Rattle.parts.specs.declared.walk.Walked.{Walked}
-use Rattle.parts.specs.declared.step.ScanStep.TheVariants as step
-use Rattle.parts.specs.declared.scan.Scanned.TheVariants as answer
 use Rattle.parts.specs.declared.walk.Stop.TheVariants as stop
-use Rattle.parts.specs.declared.walk.Walked.TheVariants as walked
+use Rattle.types.specs.declared.Refusal.{Refusal}
 
 -- ---- some tile-parts passed
 
@@ -22,8 +18,8 @@ pub record Reached (s : List ℕ) (start at count : ℕ) : Type 0 where
 -- why it went no further: as many were passed as were asked for, or the scan ends there, after fewer
 abbrev pub StoppedBy : Stop → List ℕ → Passed → ℕ → Type 0
 StoppedBy stop.Full s p most = p.count ≡ most
-StoppedBy stop.Ended s p most = (p.count < most) × (scan_step_at s p.at ≡ step.Ended)
-StoppedBy (stop.Refused r) s p most = scan_step_at s p.at ≡ step.Refused r
+StoppedBy stop.Ended s p most = (p.count < most) × (scan_step_at s p.at ≡ Ok None)
+StoppedBy (stop.Refused r) s p most = scan_step_at s p.at ≡ Err r
 
 -- at most so many were passed
 pub record Passes (s : List ℕ) (start most : ℕ) (p : Passed) : Type 0 where
@@ -58,9 +54,9 @@ pub record Quartered (s : List ℕ) (start : ℕ) (q : Quarters) : Type 0 where
   pub third : entries_from s q.third ≡ drop (2 * q.turns) (entries_from s start)
   pub fourth : entries_from s q.fourth ≡ drop (3 * q.turns) (entries_from s start)
 
-abbrev pub Runs : List ℕ → ℕ → Walked → Type 0
-Runs s start (walked.Table q) = Quartered s start q
-Runs s start (walked.Refused r) = Unit {0}
+abbrev pub Runs : List ℕ → ℕ → Result Quarters Refusal → Type 0
+Runs s start (Ok q) = Quartered s start q
+Runs s start (Err r) = Unit {0}
 
 -- ---- the answer
 
@@ -93,6 +89,6 @@ quarters_of s start n =
     }
 
 -- an answer of the scan, with the runs where there is a table
-unfoldable pub walked_as : List ℕ → ℕ → Scanned → Walked
-walked_as s start (answer.Table n) = walked.Table (quarters_of s start n)
-walked_as s start (answer.Refused r) = walked.Refused r
+unfoldable pub walked_as : List ℕ → ℕ → Result ℕ Refusal → Result Quarters Refusal
+walked_as s start (Ok n) = Ok (quarters_of s start n)
+walked_as s start (Err r) = Err r

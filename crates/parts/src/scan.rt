@@ -2,49 +2,29 @@
 ghost use Rattle.std.specs.Prelude.{◌≡◌, ◌+◌, ◌*◌, ◌/◌, ◌^◌, ◌≤◌, ◌<◌, length, take, replicate};
 ghost use Rattle.numbers.specs.Bytes.{put};
 ghost use Rattle.types.specs.Row.{row_bytes, rows_of};
-ghost use Rattle.parts.specs.Scan.{entries_from, scanned, scan_number, scan_value, scanned_table};
+ghost use Rattle.parts.specs.Scan.{entries_from, scanned, scanned_in, scanned_table};
 ghost use Rattle.parts.specs.Begin.{blank_at, Begins, refused_behind};
 
-use crate::step::ScanStep;
-use crate::walk::{Passed, Stop, Walked};
-use types::{CodestreamOffset, ROW, Refusal};
+use crate::walk::{Passed, Stop};
+use types::table::Element;
+use types::{CodestreamOffset, ROW, Reason, Refusal};
 
-#[derive(Clone, Copy)]
-pub enum Scanned {
-    // So many records.
-    Table(u64),
-    Refused(Refusal),
-}
-
-// An answer for C: its number, and in `value` the entries or the refusal's place.
-pub fn tell(answer: Scanned, value: &mut u64) -> u32
-    ensures value { result ≡ scan_number answer }
-    ensures value_after { value.new ≡ scan_value answer }
+// As scan_sot_markers, whatever the table is made of, and writes no record before all are judged.
+pub fn scan_judged<E: Element>(
+    codestream: &[u8],
+    first_sot_offset: CodestreamOffset,
+    table: &mut [E],
+) -> Result<u64, Refusal>
+    ensures value { result ≡ scanned codestream.now first_sot_offset.0 (length table.old / E.WIDTH) }
+    ensures table_after { table.new ≡ scanned_in E.layout codestream.now first_sot_offset.0 table.old }
 {
-    match answer {
-        Scanned::Table(entries) => {
-            *value = entries;
-            0
-        }
-        Scanned::Refused(refusal) => {
-            *value = refusal.place;
-            refusal.number
-        }
-    }
-}
-
-// As scan_sot_markers, and writes no row before all are judged.
-fn scan_judged(codestream: &[u8], first_sot_offset: CodestreamOffset, table: &mut [u8]) -> Scanned
-    ensures value { result ≡ scanned codestream.now first_sot_offset.0 (length table.old / row_bytes) }
-    ensures table_after { table.new ≡ scanned_table codestream.now first_sot_offset.0 table.old }
-{
-    match crate::walk::decide(codestream, first_sot_offset, (table.len() / ROW) as u64) {
-        Walked::Table(runs) => {
-            crate::fill::fill(codestream, first_sot_offset.position(), runs, table);
-            Scanned::Table(runs.parts)
-        }
-        Walked::Refused(refusal) => Scanned::Refused(refusal),
-    }
+    let runs = crate::walk::decide(
+        codestream,
+        first_sot_offset,
+        (table.len() / E::WIDTH) as u64,
+    )?;
+    crate::fill::fill(codestream, first_sot_offset.position(), runs, table);
+    Ok(runs.parts)
 }
 
 // Whether a row is zeros.
@@ -75,20 +55,20 @@ fn begin(codestream: &[u8], start: usize, table: &mut [u8]) -> Passed
         }
         let step = crate::step::scan_step(codestream, at);
         match step {
-            ScanStep::Part(entry) => {
+            Ok(Some(entry)) => {
                 types::write_row(table, row, entry);
                 row += ROW;
                 count += 1;
                 at = types::end_of(entry).position();
             }
-            ScanStep::Ended => {
+            Ok(None) => {
                 return Passed {
                     count,
                     at,
                     stop: Stop::Ended,
                 };
             }
-            ScanStep::Refused(refusal) => {
+            Err(refusal) => {
                 return Passed {
                     count,
                     at,
@@ -109,11 +89,7 @@ fn clear(table: &mut [u8], end: usize)
     requires { end ≤ length table.old }
     ensures { table.new ≡ put table.old 0 (replicate end 0) }
 {
-    let mut i: usize = 0;
-    while i < end {
-        table[i] = 0;
-        i += 1;
-    }
+    table[..end].fill(0);
 }
 
 // A refusal behind so many records: 18 counts these too.
@@ -121,13 +97,13 @@ fn behind(count: u64, refusal: Refusal) -> Refusal
     requires { count + refusal.place < 2 ^ 64 }
     ensures { result ≡ refused_behind count refusal }
 {
-    if refusal.number == 18 {
-        return Refusal {
-            number: 18,
+    match refusal.reason {
+        Reason::TableTooSmall => Refusal {
+            reason: refusal.reason,
             place: count + refusal.place,
-        };
+        },
+        _ => refusal,
     }
-    refusal
 }
 
 // The table has as many rows as it has room for. Where it is zeros, the codestream is read once: rows are written as they are judged,
@@ -136,7 +112,7 @@ pub fn scan_sot_markers(
     codestream: &[u8],
     first_sot_offset: CodestreamOffset,
     table: &mut [u8],
-) -> Scanned
+) -> Result<u64, Refusal>
     ensures value { result ≡ scanned codestream.now first_sot_offset.0 (length table.old / row_bytes) }
     ensures table_after { table.new ≡ scanned_table codestream.now first_sot_offset.0 table.old }
 {
@@ -144,10 +120,10 @@ pub fn scan_sot_markers(
     let done = begun.count as usize * ROW;
     let stop = begun.stop;
     match stop {
-        Stop::Ended => Scanned::Table(begun.count),
+        Stop::Ended => Ok(begun.count),
         Stop::Refused(refusal) => {
             clear(table, done);
-            Scanned::Refused(refusal)
+            Err(refusal)
         }
         Stop::Full => {
             let rest = scan_judged(
@@ -156,10 +132,10 @@ pub fn scan_sot_markers(
                 &mut table[done..],
             );
             match rest {
-                Scanned::Table(more) => Scanned::Table(begun.count + more),
-                Scanned::Refused(refusal) => {
+                Ok(more) => Ok(begun.count + more),
+                Err(refusal) => {
                     clear(table, done);
-                    Scanned::Refused(behind(begun.count, refusal))
+                    Err(behind(begun.count, refusal))
                 }
             }
         }

@@ -2,34 +2,25 @@
 ghost use Rattle.std.specs.Prelude.{◌≡◌, ◌≤◌, [], length, get_or};
 ghost use Rattle.parts.specs.Split.{split_step_at, parts_of, standing, part_number, part_out};
 
+use types::Reason;
 use types::markers::{PSOT, SOT, SOT_SEGMENT};
 
-#[derive(Clone, Copy)]
-pub enum SplitStep {
-    // A part, which ends there.
-    Part(usize),
-    Ended,
-}
-
-pub fn split_step(tile: &[u8], at: usize) -> SplitStep
+pub fn split_step(tile: &[u8], at: usize) -> Option<usize>
     requires { at ≤ length tile.now }
     ensures { result ≡ split_step_at tile.now at }
 {
     let rest = tile.len() - at;
     if rest < SOT_SEGMENT {
-        return SplitStep::Ended;
+        return None;
     }
     if numbers::read_u16(tile, at) != SOT {
-        return SplitStep::Ended;
+        return None;
     }
     let psot = numbers::read_u32(tile, at + PSOT) as usize;
-    if psot == 0 {
-        return SplitStep::Part(tile.len());
+    if psot == 0 || rest < psot {
+        return Some(tile.len());
     }
-    if rest < psot {
-        return SplitStep::Part(tile.len());
-    }
-    SplitStep::Part(at + psot)
+    Some(at + psot)
 }
 
 pub fn split_count(tile: &[u8]) -> usize
@@ -38,8 +29,7 @@ pub fn split_count(tile: &[u8]) -> usize
     let mut at: usize = 0;
     let mut count: usize = 0;
     loop {
-        let step = split_step(tile, at);
-        let SplitStep::Part(end) = step else {
+        let Some(end) = split_step(tile, at) else {
             return count;
         };
         count += 1;
@@ -54,8 +44,7 @@ pub fn split_part(tile: &[u8], k: usize) -> &[u8]
     let mut at: usize = 0;
     let mut skip = k;
     loop {
-        let step = split_step(tile, at);
-        let SplitStep::Part(end) = step else {
+        let Some(end) = split_step(tile, at) else {
             return &tile[..0];
         };
         if skip == 0 {
@@ -73,8 +62,7 @@ pub fn split_at(tile: &[u8], at: usize) -> &[u8]
     if tile.len() < at {
         return &tile[..0];
     }
-    let step = split_step(tile, at);
-    let SplitStep::Part(end) = step else {
+    let Some(end) = split_step(tile, at) else {
         return &tile[..0];
     };
     &tile[at..end]
@@ -88,7 +76,7 @@ pub fn tell(part: &[u8], out: &mut [u8], value: &mut u64) -> u32
 {
     *value = part.len() as u64;
     if out.len() < part.len() {
-        return 17;
+        return Reason::OutputTooSmall as u32;
     }
     numbers::copy_at(part, out, 0);
     0

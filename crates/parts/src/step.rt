@@ -4,16 +4,7 @@ ghost use Rattle.parts.specs.Sot.{psot};
 ghost use Rattle.parts.specs.Scan.{entry_of, eoc_at, part_at, sot_step_at, scan_step_at};
 
 use types::markers::{EOC, ISOT, LSOT, LSOT_VALUE, PSOT, SOT, SOT_SEGMENT, TNSOT, TPSOT};
-use types::{CodestreamOffset, PartNumbers, Refusal, TilePartEntry};
-
-// Places are codestream offsets.
-#[derive(Clone, Copy)]
-pub enum ScanStep {
-    // A tile-part; the next position is where it ends.
-    Part(TilePartEntry),
-    Ended,
-    Refused(Refusal),
-}
+use types::{CodestreamOffset, PartNumbers, Reason, Refusal, TilePartEntry};
 
 fn at_eoc(codestream: &[u8], at: usize) -> bool
     requires { at ≤ length codestream.now }
@@ -62,43 +53,40 @@ pub fn next_at(codestream: &[u8], at: usize) -> usize
 }
 
 // A record in each branch, and not the one of part_at: the walk waits for the length, and would for its choice.
-fn sot_step(codestream: &[u8], at: usize) -> ScanStep
+fn sot_step(codestream: &[u8], at: usize) -> Result<Option<TilePartEntry>, Refusal>
     requires { at + 12 ≤ length codestream.now }
     ensures { result ≡ sot_step_at codestream.now at }
 {
     let place = at as u64;
     if numbers::read_u16(codestream, at + LSOT) != LSOT_VALUE {
-        return ScanStep::Refused(Refusal { number: 8, place });
+        return types::refuse(Reason::SotLengthWrong, place);
     }
     let psot = numbers::read_u32(codestream, at + PSOT) as usize;
     let rest = codestream.len() - at;
     if psot == 0 {
-        return ScanStep::Part(entry_at(codestream, at, rest as u64));
+        return Ok(Some(entry_at(codestream, at, rest as u64)));
     }
     if rest < psot {
-        return ScanStep::Refused(Refusal { number: 9, place });
+        return types::refuse(Reason::TilePartPastEnd, place);
     }
-    ScanStep::Part(entry_at(codestream, at, psot as u64))
+    Ok(Some(entry_at(codestream, at, psot as u64)))
 }
 
 // EOC is asked for only where no tile-part fits, as any other marker ends the scan too: so a walk asks least where there are many.
-pub fn scan_step(codestream: &[u8], at: usize) -> ScanStep
+pub fn scan_step(codestream: &[u8], at: usize) -> Result<Option<TilePartEntry>, Refusal>
     ensures { result ≡ scan_step_at codestream.now at }
 {
     if codestream.len() <= at {
-        return ScanStep::Ended;
+        return Ok(None);
     }
     if codestream.len() - at < SOT_SEGMENT {
         if at_eoc(codestream, at) {
-            return ScanStep::Ended;
+            return Ok(None);
         }
-        return ScanStep::Refused(Refusal {
-            number: 7,
-            place: at as u64,
-        });
+        return types::refuse(Reason::TilePartCutShort, at as u64);
     }
     if numbers::read_u16(codestream, at) != SOT {
-        return ScanStep::Ended;
+        return Ok(None);
     }
     sot_step(codestream, at)
 }

@@ -4,10 +4,9 @@ ghost use Rattle.std.specs.Prelude.{◌≡◌, ◌^◌, ◌≤◌, ◌<◌, leng
 ghost use Rattle.parts.specs.Scan.{scan_from, judged, scanned};
 ghost use Rattle.parts.specs.Walk.{Passes, Halved, quarters_by, walked_as, Runs};
 
-use crate::scan::Scanned;
-use crate::step::ScanStep;
-use types::{CodestreamOffset, Refusal};
+use types::{CodestreamOffset, Reason, Refusal};
 
+// How a pass ends: three ways, and how far it came stands beside each (`Passed`), so that a `Result` has no place for it.
 #[derive(Clone, Copy)]
 pub enum Stop {
     // As many as were asked for.
@@ -35,12 +34,6 @@ pub struct Quarters {
     pub fourth: usize,
 }
 
-#[derive(Clone, Copy)]
-pub enum Walked {
-    Table(Quarters),
-    Refused(Refusal),
-}
-
 // Passes at most so many tile-parts.
 fn pass(codestream: &[u8], start: usize, most: u64) -> Passed
     ensures { Passes codestream.now start most result }
@@ -50,18 +43,18 @@ fn pass(codestream: &[u8], start: usize, most: u64) -> Passed
     while count < most {
         let step = crate::step::scan_step(codestream, at);
         match step {
-            ScanStep::Part(entry) => {
+            Ok(Some(entry)) => {
                 count += 1;
                 at = types::end_of(entry).position();
             }
-            ScanStep::Ended => {
+            Ok(None) => {
                 return Passed {
                     count,
                     at,
                     stop: Stop::Ended,
                 };
             }
-            ScanStep::Refused(refusal) => {
+            Err(refusal) => {
                 return Passed {
                     count,
                     at,
@@ -78,14 +71,14 @@ fn pass(codestream: &[u8], start: usize, most: u64) -> Passed
 }
 
 // Counts the records, and writes none.
-pub fn judge(codestream: &[u8], start: usize) -> Scanned
+pub fn judge(codestream: &[u8], start: usize) -> Result<u64, Refusal>
     ensures { result ≡ judged (scan_from codestream.now start) }
 {
-    let passed = pass(codestream, start, 0xffff_ffff_ffff_ffff);
+    let passed = pass(codestream, start, u64::MAX);
     let stop = passed.stop;
     match stop {
-        Stop::Full | Stop::Ended => Scanned::Table(passed.count),
-        Stop::Refused(refusal) => Scanned::Refused(refusal),
+        Stop::Full | Stop::Ended => Ok(passed.count),
+        Stop::Refused(refusal) => Err(refusal),
     }
 }
 
@@ -94,10 +87,8 @@ fn halve(marks: &mut [usize; 64])
     requires { length marks.old ≡ 64 }
     ensures { Halved marks.old marks.new }
 {
-    let mut i: usize = 0;
-    while i < 32 {
+    for i in 0..32 {
         marks[i] = marks[2 * i];
-        i += 1;
     }
 }
 
@@ -107,7 +98,7 @@ fn quarter(parts: u64, stride: usize, used: usize, marks: &[usize; 64]) -> Quart
     requires stride_bound { stride < 2 ^ 59 }
     ensures { result ≡ quarters_by parts stride used marks.now }
 {
-    let run = (numbers::clamped_sub(used as u64, 2) / 4) as usize;
+    let run = used.saturating_sub(2) / 4;
     let second = marks[run];
     let third = marks[2 * run];
     let fourth = marks[3 * run];
@@ -121,7 +112,7 @@ fn quarter(parts: u64, stride: usize, used: usize, marks: &[usize; 64]) -> Quart
 }
 
 // Judges the scan from a start on, and leaves marks.
-fn walk(codestream: &[u8], start: usize) -> Walked
+fn walk(codestream: &[u8], start: usize) -> Result<Quarters, Refusal>
     ensures value { result ≡ walked_as codestream.now start (judged (scan_from codestream.now start)) }
     ensures runs { Runs codestream.now start result }
 {
@@ -144,26 +135,24 @@ fn walk(codestream: &[u8], start: usize) -> Walked
         let stop = passed.stop;
         match stop {
             Stop::Full => {}
-            Stop::Ended => return Walked::Table(quarter(count, stride, used, &marks)),
-            Stop::Refused(refusal) => return Walked::Refused(refusal),
+            Stop::Ended => return Ok(quarter(count, stride, used, &marks)),
+            Stop::Refused(refusal) => return Err(refusal),
         }
     }
 }
 
 // What a scan into a table of so many rows answers, with the marks to fill it by; a start at or past the end gives no record.
-pub fn decide(codestream: &[u8], first_sot_offset: CodestreamOffset, rows: u64) -> Walked
+pub fn decide(
+    codestream: &[u8],
+    first_sot_offset: CodestreamOffset,
+    rows: u64,
+) -> Result<Quarters, Refusal>
     ensures value { result ≡ walked_as codestream.now first_sot_offset.0 (scanned codestream.now first_sot_offset.0 rows) }
     ensures runs { Runs codestream.now first_sot_offset.0 result }
 {
-    let walked = walk(codestream, first_sot_offset.position());
-    let Walked::Table(runs) = walked else {
-        return walked;
-    };
+    let runs = walk(codestream, first_sot_offset.position())?;
     if rows < runs.parts {
-        return Walked::Refused(Refusal {
-            number: 18,
-            place: runs.parts,
-        });
+        return types::refuse(Reason::TableTooSmall, runs.parts);
     }
-    walked
+    Ok(runs)
 }

@@ -12,7 +12,7 @@ use types::{ROW, TilePartEntry};
 pub fn count(table: &[u8]) -> usize
     ensures { result ≡ held table.now }
 {
-    numbers::minimum((table.len() / ROW) as u64, 2048) as usize
+    (table.len() / ROW).min(2048)
 }
 
 // The records of so many rows, and blank ones behind them.

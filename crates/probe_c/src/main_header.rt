@@ -1,9 +1,10 @@
 // The reading of the main header with a table of records.
 ghost use Rattle.std.specs.Prelude.{◌≡◌, length};
+ghost use Rattle.types.specs.Refusals.{answer_number};
 ghost use Rattle.numbers.specs.Bytes.{put};
 ghost use Rattle.types.specs.Row.{rows_of};
 ghost use Rattle.header.specs.Reading.{reading_of};
-ghost use Rattle.header.specs.Parse.{parsed, out_after, header_number, header_first, header_length, header_entries, header_fillers};
+ghost use Rattle.header.specs.Parse.{parsed, out_after, header_first, header_length, header_entries, header_fillers};
 ghost use Rattle.records.specs.MainHeader.{records_after};
 ghost use Rattle.probe.specs.Own.{held, own};
 
@@ -22,7 +23,7 @@ pub extern "C" fn winterhasp_header_records(
     entries: &mut u64,
     fillers: &mut u64,
 ) -> u32
-    ensures value { result ≡ header_number (parsed (reading_of reading) codestream.now (held table.old) (length out.old)) }
+    ensures value { result ≡ answer_number (parsed (reading_of reading) codestream.now (held table.old) (length out.old)) }
     ensures first_sot_after { first_sot.new ≡ header_first (parsed (reading_of reading) codestream.now (held table.old) (length out.old)) }
     ensures decode_length_after { decode_length.new ≡ header_length (parsed (reading_of reading) codestream.now (held table.old) (length out.old)) decode_length.old }
     ensures entries_after { entries.new ≡ header_entries (parsed (reading_of reading) codestream.now (held table.old) (length out.old)) entries.old }

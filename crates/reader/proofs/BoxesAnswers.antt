@@ -6,14 +6,15 @@ use mathlib.Core.List.{List, ◌++◌}
 use lib.ListN.{length, drop}
 use borrow.Author.Tests.{le-leb, lt-leb, leb-true}
 use lib.Dec.{leb}
+use Rattle.std.specs.Prelude.{Result, Ok, Err}
 use Rattle.numbers.specs.Bytes.{put}
 use Rattle.numbers.proofs.BytesLaws.{put_start}
 use Rattle.numbers.proofs.Choice.{by_test}
+use Rattle.types.specs.Refusals.{refusal}
 use Rattle.types.specs.declared.Refusal.{Refusal}
+use Rattle.types.specs.declared.Reason.TheVariants.{TableTooSmall}
 use Rattle.reader.specs.BoxRow.{rows_of}
 use Rattle.reader.specs.Boxes.{boxes_in, counted, entries_of, Accepted, with_room, listed, written, listed_table}
-use Rattle.reader.specs.declared.boxes.Counted.{Counted}
-use Rattle.reader.specs.declared.boxes.Counted.TheVariants.{Boxes, Refused}
 use Rattle.reader.proofs.BoxRowLaws.{length_rows}
 use Rattle.reader.proofs.BoxesCounting.{counted_boxes}
 
@@ -22,33 +23,33 @@ module _ (s : List ℕ) (rows : ℕ) where
   unfolding listed
   opened = refl
 
-  pub answer_refused : (r : Refusal) → counted (boxes_in s 1 0) ≡ Refused r → listed s rows ≡ Refused r
+  pub answer_refused : (r : Refusal) → counted (boxes_in s 1 0) ≡ Err r → listed s rows ≡ Err r
   unfolding with_room
   answer_refused r e = opened ∙ ap (with_room rows) e
 
-  pub answer_no_room : (n : ℕ) → counted (boxes_in s 1 0) ≡ Boxes n → rows < n → listed s rows ≡ Refused (record { number = 18; place = n })
+  pub answer_no_room : (n : ℕ) → counted (boxes_in s 1 0) ≡ Ok n → rows < n → listed s rows ≡ Err (refusal TableTooSmall n)
   unfolding with_room
   answer_no_room n e h = opened ∙ ap (with_room rows) e ∙ rw (lt-leb _ _ h)
 
-  pub answer_boxes : (n : ℕ) → counted (boxes_in s 1 0) ≡ Boxes n → n ≤ rows → listed s rows ≡ Boxes n
+  pub answer_boxes : (n : ℕ) → counted (boxes_in s 1 0) ≡ Ok n → n ≤ rows → listed s rows ≡ Ok n
   unfolding with_room
   answer_boxes n e h = opened ∙ ap (with_room rows) e ∙ rw (le-leb _ _ h)
 
 -- so many boxes were listed, and have room
-room_of : (rows n : ℕ) (a : Counted) → with_room rows a ≡ Boxes n → (a ≡ Boxes n) × (n ≤ rows)
+room_of : (rows n : ℕ) (a : Result ℕ Refusal) → with_room rows a ≡ Ok n → (a ≡ Ok n) × (n ≤ rows)
 unfolding with_room
-room_of rows n (Boxes m) =
-    by_test (λ (x : Counted). x ≡ Boxes n → (Boxes m ≡ Boxes n) × (n ≤ rows)) (leb m rows)
+room_of rows n (Ok m) =
+    by_test (λ (x : Result ℕ Refusal). x ≡ Ok n → (◌≡◌ {A = Result ℕ Refusal} (Ok m) (Ok n)) × (n ≤ rows)) (leb m rows)
     (λ h e. let same : m ≡ n = cc in (e, omega (arith, leb-true m rows h, same)))
-    (λ h e. let z : ◌≡◌ {A = ℕ} 0 1 = cc in absurd (omega arith))
-room_of rows n (Refused r) = λ e. let z : ◌≡◌ {A = ℕ} 0 1 = cc in absurd (omega arith)
+    (λ h e. absurd (cc))
+room_of rows n (Err r) = λ e. absurd (cc)
 
 pub record Answered (s : List ℕ) (rows n : ℕ) : Type 0 where
   pub accepted : Accepted (boxes_in s 1 0)
   pub counts : length (entries_of (boxes_in s 1 0)) ≡ n
   pub room : n ≤ rows
 
-pub answered : (s : List ℕ) (rows n : ℕ) → listed s rows ≡ Boxes n → Answered s rows n
+pub answered : (s : List ℕ) (rows n : ℕ) → listed s rows ≡ Ok n → Answered s rows n
 answered s rows n e =
     let r = room_of rows n (counted (boxes_in s 1 0)) (sym (opened s rows) ∙ e) in
     let c = counted_boxes (boxes_in s 1 0) n r.0 in
@@ -57,17 +58,17 @@ answered s rows n e =
 -- ---- the table
 
 module _ (s table : List ℕ) where
-  written_as : (a : Counted) → listed s (length table / 29) ≡ a → listed_table s table ≡ written a (entries_of (boxes_in s 1 0)) table
+  written_as : (a : Result ℕ Refusal) → listed s (length table / 29) ≡ a → listed_table s table ≡ written a (entries_of (boxes_in s 1 0)) table
   unfolding listed_table
-  written_as a e = ap (λ (x : Counted). written x (entries_of (boxes_in s 1 0)) table) e
+  written_as a e = ap (λ (x : Result ℕ Refusal). written x (entries_of (boxes_in s 1 0)) table) e
 
-  pub table_kept : (r : Refusal) → listed s (length table / 29) ≡ Refused r → listed_table s table ≡ table
+  pub table_kept : (r : Refusal) → listed s (length table / 29) ≡ Err r → listed_table s table ≡ table
   unfolding written
-  table_kept r e = written_as (Refused r) e
+  table_kept r e = written_as (Err r) e
 
-  pub table_filled : (n : ℕ) → listed s (length table / 29) ≡ Boxes n → listed_table s table ≡ put table 0 (rows_of (entries_of (boxes_in s 1 0)))
+  pub table_filled : (n : ℕ) → listed s (length table / 29) ≡ Ok n → listed_table s table ≡ put table 0 (rows_of (entries_of (boxes_in s 1 0)))
   unfolding written
   table_filled n e =
       let es = entries_of (boxes_in s 1 0) in
       let long : 29 * n ≡ length (rows_of es) = sym (length_rows es ∙ ap (λ (k : ℕ). 29 * k) (answered s (length table / 29) n e).counts) in
-      written_as (Boxes n) e ∙ ap (λ (k : ℕ). rows_of es ++ drop k table) long ∙ sym (put_start table (rows_of es))
+      written_as (Ok n) e ∙ ap (λ (k : ℕ). rows_of es ++ drop k table) long ∙ sym (put_start table (rows_of es))

@@ -2,16 +2,20 @@
 use Prim.Native.Nat.{ℕ, ◌+◌, ◌-◌, ◌*◌, ◌≤◌, ◌<◌}
 use native.Mathlib.Omega.{arith}
 use mathlib.Core.Path.{◌≡◌, refl, sym, ap, ap₂, ◌∙◌}
+use mathlib.Core.Bool.{false≢true}
 use mathlib.Core.List.{List, [], ◌∷◌, ◌++◌, append_assoc, append-nil}
 use lib.ListN.{length, length-append}
 use Rattle.numbers.specs.Bytes.{put}
 use Rattle.numbers.proofs.BytesLaws.{put_put, put_none, length_put}
 use Rattle.types.specs.declared.Refusal.{Refusal}
+use Rattle.std.specs.Prelude.{Option, Some, None, Result, Ok, Err, is_some}
+use Rattle.std.specs.Result.{result_unwrap_or}
 use Rattle.reader.specs.BoxRow.{end_of, row_of, rows_of}
 use Rattle.reader.specs.BoxStep.{step_at}
 use Rattle.reader.specs.Boxes.{Listing, boxes, refused, before, boxes_in, contents_of, entries_of, Accepted}
 use Rattle.reader.specs.declared.box_row.BoxEntry.{BoxEntry}
-use Rattle.reader.specs.declared.box_step.ListStep.TheVariants.{Plain, Superbox, End, Refused}
+use Rattle.reader.specs.declared.box_step.ListStep.{ListStep}
+use Rattle.reader.specs.declared.box_step.ListStep.TheVariants.{Plain, Superbox}
 use Rattle.reader.proofs.BoxesLaws.{Passed, none_passed, all_passed, stops, pass_plain, stops_inside, pass_superbox}
 use Rattle.reader.proofs.BoxRowLaws.{length_rows, rows_append, rows_one, rows_none}
 
@@ -73,6 +77,15 @@ pub record Filling (s : List ℕ) (depth start first : ℕ) (lent table : List �
 pub none_filled : (s : List ℕ) (depth start first : ℕ) (lent : List ℕ) → Filling s depth start first lent lent start first
 none_filled s depth start first lent = record { gone = []; passed = none_passed s depth start; written = none_written lent first }
 
+-- what the step gave, where the code asks for it in an accepted list
+step_some : (step : Result (Option ListStep) Refusal) (x : ListStep) → result_unwrap_or step None ≡ Some x → step ≡ Ok (Some x)
+step_some (Ok o) x e = ap Ok e
+step_some (Err r) x e = absurd (false≢true (ap is_some e))
+
+pub step_given : {found step : Result (Option ListStep) Refusal} {o : Option ListStep} {y x : ListStep} → step ≡ found
+    → o ≡ result_unwrap_or step None → o ≡ Some y → y ≡ x → found ≡ Ok (Some x)
+step_given {step = step} {x = x} e u f g = sym e ∙ step_some step x (sym u ∙ f ∙ ap Some g)
+
 module _ {s : List ℕ} {depth start first : ℕ} {lent : List ℕ} (accepted : Accepted (boxes_in s depth start))
     (room : first + 29 * length (entries_of (boxes_in s depth start)) ≤ length lent) {table : List ℕ} {at row : ℕ} (f : Filling s depth start first lent table at row) where
   abbrev Done : Type 0
@@ -82,7 +95,7 @@ module _ {s : List ℕ} {depth start first : ℕ} {lent : List ℕ} (accepted : 
   all_written all =
       (f.written.next ∙ ap (λ (es : List BoxEntry). first + 29 * length es) all, f.written.rows ∙ ap (λ (es : List BoxEntry). put lent first (rows_of es)) all)
 
-  pub fill_end : step_at s depth at ≡ End → Done
+  fill_end : step_at s depth at ≡ Ok None → Done
   fill_end h = all_written (ap entries_of (sym (all_passed f.passed h)))
 
   some_written : length f.gone ≤ length (entries_of (boxes_in s depth start))
@@ -95,15 +108,20 @@ module _ {s : List ℕ} {depth start first : ℕ} {lent : List ℕ} (accepted : 
   pub fill_full : length table - row < 29 → Done
   fill_full h = all_written (all_there (boxes_in s depth start) _ f.gone accepted f.passed.whole (omega (arith, h, f.written.next, f.written.same)))
 
-  pub not_refused : {X : Type 0} {r : Refusal} → step_at s depth at ≡ Refused r → X
+  not_refused : {X : Type 0} {r : Refusal} → step_at s depth at ≡ Err r → X
   not_refused {X} {r} h = absurd (never accepted (stops f.passed r h))
 
-  pub plain_room : {e : BoxEntry} → step_at s depth at ≡ Plain e → row + 29 ≤ length lent
+  -- it gave none
+  pub fill_none : (step : Result (Option ListStep) Refusal) → step ≡ step_at s depth at → result_unwrap_or step None ≡ None → Done
+  fill_none (Ok o) e n = fill_end (sym e ∙ ap Ok n)
+  fill_none (Err r) e n = not_refused (sym e)
+
+  pub plain_room : {e : BoxEntry} → step_at s depth at ≡ Ok (Some (Plain e)) → row + 29 ≤ length lent
   plain_room {e} h =
       let more = at_least (boxes_in s depth start) _ (f.gone ++ (e ∷ [])) accepted (pass_plain f.passed h).whole in
       omega (arith, more, f.written.next, length-append f.gone (e ∷ []))
 
-  pub fill_plain : {e : BoxEntry} {next : List ℕ} → step_at s depth at ≡ Plain e → next ≡ put table row (row_of e)
+  pub fill_plain : {e : BoxEntry} {next : List ℕ} → step_at s depth at ≡ Ok (Some (Plain e)) → next ≡ put table row (row_of e)
       → Filling s depth start first lent next (end_of e) (row + 29)
   fill_plain {e} h new =
       record {
@@ -112,20 +130,20 @@ module _ {s : List ℕ} {depth start first : ℕ} {lent : List ℕ} (accepted : 
         written = more_written f.written (e ∷ []) (new ∙ ap (put table row) (row_alone e)) (omega arith) (omega (arith, plain_room h));
       }
 
-  held_by : {e : BoxEntry} → step_at s depth at ≡ Superbox e → (l : Listing) → contents_of s e ≡ l → Accepted (contents_of s e)
+  held_by : {e : BoxEntry} → step_at s depth at ≡ Ok (Some (Superbox e)) → (l : Listing) → contents_of s e ≡ l → Accepted (contents_of s e)
   held_by {e} h (boxes es) i = i ∙ ap (λ (l : Listing). boxes (entries_of l)) (sym i)
   held_by {e} h (refused r) i = absurd (never accepted (stops_inside f.passed r h i))
 
-  pub held_accepted : {e : BoxEntry} → step_at s depth at ≡ Superbox e → Accepted (contents_of s e)
+  pub held_accepted : {e : BoxEntry} → step_at s depth at ≡ Ok (Some (Superbox e)) → Accepted (contents_of s e)
   held_accepted {e} h = held_by h (contents_of s e) refl
 
-  pub superbox_room : {e : BoxEntry} → step_at s depth at ≡ Superbox e → row + 29 + 29 * length (entries_of (contents_of s e)) ≤ length lent
+  pub superbox_room : {e : BoxEntry} → step_at s depth at ≡ Ok (Some (Superbox e)) → row + 29 + 29 * length (entries_of (contents_of s e)) ≤ length lent
   superbox_room {e} h =
       let es : List BoxEntry = entries_of (contents_of s e) in
       let more = at_least (boxes_in s depth start) _ (f.gone ++ (e ∷ es)) accepted (pass_superbox f.passed es h (held_accepted h)).whole in
       omega (arith, more, f.written.next, length-append f.gone (e ∷ es))
 
-  pub fill_superbox : {e : BoxEntry} {one next : List ℕ} {to : ℕ} → step_at s depth at ≡ Superbox e → one ≡ put table row (row_of e)
+  pub fill_superbox : {e : BoxEntry} {one next : List ℕ} {to : ℕ} → step_at s depth at ≡ Ok (Some (Superbox e)) → one ≡ put table row (row_of e)
       → next ≡ put one (row + 29) (rows_of (entries_of (contents_of s e))) → to ≡ row + 29 + 29 * length (entries_of (contents_of s e))
       → Filling s depth start first lent next (end_of e) to
   fill_superbox {e} {one} {next} {to} h new held there =

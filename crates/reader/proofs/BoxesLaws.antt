@@ -5,37 +5,38 @@ use mathlib.Core.Path.{◌≡◌, refl, sym, ap, ap₂, ◌∙◌}
 use mathlib.Core.List.{List, [], ◌∷◌, ◌++◌, append_assoc, append-nil}
 use lib.ListN.{length, take, length-take, length-append}
 use Rattle.types.specs.declared.Refusal.{Refusal}
+use Rattle.std.specs.Prelude.{Option, Some, None, Result, Ok, Err}
 use Rattle.reader.specs.BoxRow.{end_of}
 use Rattle.reader.specs.BoxStep.{step_at}
 use Rattle.reader.specs.Boxes.{Listing, boxes, refused, before, then, on_step, list_from, superbox, boxes_in, contents_of, entries_of}
 use Rattle.reader.specs.declared.box_row.BoxEntry.{BoxEntry}
 use Rattle.reader.specs.declared.box_step.ListStep.{ListStep}
-use Rattle.reader.specs.declared.box_step.ListStep.TheVariants.{Plain, Superbox, End, Refused}
+use Rattle.reader.specs.declared.box_step.ListStep.TheVariants.{Plain, Superbox}
 use Rattle.reader.proofs.BoxStepLaws.{plain_stands, superbox_stands}
 
 -- ---- one turn, by what the step finds
 
 module _ (n : ℕ) (s : List ℕ) (depth at : ℕ) where
-  turn : (x : ListStep) → step_at s depth at ≡ x → list_from (suc n) s depth at ≡ on_step x (λ e. superbox n s e) (λ to. list_from n s depth to)
+  turn : (x : Result (Option ListStep) Refusal) → step_at s depth at ≡ x → list_from (suc n) s depth at ≡ on_step x (λ e. superbox n s e) (λ to. list_from n s depth to)
   unfolding list_from
-  turn x e = ap (λ (y : ListStep). on_step y (λ e. superbox n s e) (λ to. list_from n s depth to)) e
+  turn x e = ap (λ (y : Result (Option ListStep) Refusal). on_step y (λ e. superbox n s e) (λ to. list_from n s depth to)) e
 
-  list_end : step_at s depth at ≡ End → list_from (suc n) s depth at ≡ boxes []
+  list_end : step_at s depth at ≡ Ok None → list_from (suc n) s depth at ≡ boxes []
   unfolding on_step
-  list_end e = turn End e
+  list_end e = turn (Ok None) e
 
-  list_refused : (r : Refusal) → step_at s depth at ≡ Refused r → list_from (suc n) s depth at ≡ refused r
+  list_refused : (r : Refusal) → step_at s depth at ≡ Err r → list_from (suc n) s depth at ≡ refused r
   unfolding on_step
-  list_refused r e = turn (Refused r) e
+  list_refused r e = turn (Err r) e
 
-  list_plain : (e : BoxEntry) → step_at s depth at ≡ Plain e → list_from (suc n) s depth at ≡ before (e ∷ []) (list_from n s depth (end_of e))
+  list_plain : (e : BoxEntry) → step_at s depth at ≡ Ok (Some (Plain e)) → list_from (suc n) s depth at ≡ before (e ∷ []) (list_from n s depth (end_of e))
   unfolding on_step
-  list_plain e h = turn (Plain e) h
+  list_plain e h = turn (Ok (Some (Plain e))) h
 
-  list_superbox : (e : BoxEntry) → step_at s depth at ≡ Superbox e
+  list_superbox : (e : BoxEntry) → step_at s depth at ≡ Ok (Some (Superbox e))
       → list_from (suc n) s depth at ≡ before (e ∷ []) (then (superbox n s e) (list_from n s depth (end_of e)))
   unfolding on_step
-  list_superbox e h = turn (Superbox e) h
+  list_superbox e h = turn (Ok (Some (Superbox e))) h
 
 -- ---- the count does not matter once it is large enough
 
@@ -59,15 +60,15 @@ same_held bound more (suc n) (suc m) s e i b hn hm =
     superbox_is n s e ∙ more n m (take (end_of e) s) (e.depth + 1) e.content.0 (omega arith) (omega arith) (omega arith) ∙ sym (superbox_is m s e)
 
 same_turn : (bound : ℕ) → Same bound → (n m : ℕ) (s : List ℕ) (depth at : ℕ) → length s - at < suc bound → length s - at < suc n → length s - at < suc m
-    → (x : ListStep) → step_at s depth at ≡ x → list_from (suc n) s depth at ≡ list_from (suc m) s depth at
-same_turn bound more n m s depth at b hn hm End e = list_end n s depth at e ∙ sym (list_end m s depth at e)
-same_turn bound more n m s depth at b hn hm (Refused r) e = list_refused n s depth at r e ∙ sym (list_refused m s depth at r e)
-same_turn bound more n m s depth at b hn hm (Plain x) e =
+    → (x : Result (Option ListStep) Refusal) → step_at s depth at ≡ x → list_from (suc n) s depth at ≡ list_from (suc m) s depth at
+same_turn bound more n m s depth at b hn hm (Ok None) e = list_end n s depth at e ∙ sym (list_end m s depth at e)
+same_turn bound more n m s depth at b hn hm (Err r) e = list_refused n s depth at r e ∙ sym (list_refused m s depth at r e)
+same_turn bound more n m s depth at b hn hm (Ok (Some (Plain x))) e =
     let h = plain_stands e in
     list_plain n s depth at x e
     ∙ ap (before (x ∷ [])) (more n m s depth (end_of x) (omega arith) (omega arith) (omega arith))
     ∙ sym (list_plain m s depth at x e)
-same_turn bound more n m s depth at b hn hm (Superbox x) e =
+same_turn bound more n m s depth at b hn hm (Ok (Some (Superbox x))) e =
     let h = (superbox_stands e).0 in
     list_superbox n s depth at x e
     ∙ ap (before (x ∷ []))
@@ -92,13 +93,13 @@ module _ (s : List ℕ) (depth at : ℕ) where
   unfolding boxes_in
   opened = refl
 
-  pub boxes_end : step_at s depth at ≡ End → boxes_in s depth at ≡ boxes []
+  pub boxes_end : step_at s depth at ≡ Ok None → boxes_in s depth at ≡ boxes []
   boxes_end e = opened ∙ list_end (length s - at) s depth at e
 
-  pub boxes_refused : (r : Refusal) → step_at s depth at ≡ Refused r → boxes_in s depth at ≡ refused r
+  pub boxes_refused : (r : Refusal) → step_at s depth at ≡ Err r → boxes_in s depth at ≡ refused r
   boxes_refused r e = opened ∙ list_refused (length s - at) s depth at r e
 
-  pub boxes_plain : (e : BoxEntry) → step_at s depth at ≡ Plain e → boxes_in s depth at ≡ before (e ∷ []) (boxes_in s depth (end_of e))
+  pub boxes_plain : (e : BoxEntry) → step_at s depth at ≡ Ok (Some (Plain e)) → boxes_in s depth at ≡ before (e ∷ []) (boxes_in s depth (end_of e))
   boxes_plain e h =
       let p = plain_stands h in
       opened ∙ list_plain (length s - at) s depth at e h ∙ ap (before (e ∷ [])) (enough (length s - at) s depth (end_of e) (omega arith))
@@ -107,7 +108,7 @@ module _ (s : List ℕ) (depth at : ℕ) where
   held zero e i h = absurd (omega arith)
   held (suc n) e i h = superbox_is n s e ∙ enough n _ _ _ (let left = part_left s e i in omega arith)
 
-  pub boxes_superbox : (e : BoxEntry) → step_at s depth at ≡ Superbox e
+  pub boxes_superbox : (e : BoxEntry) → step_at s depth at ≡ Ok (Some (Superbox e))
       → boxes_in s depth at ≡ before (e ∷ []) (then (contents_of s e) (boxes_in s depth (end_of e)))
   boxes_superbox e h =
       let p = (superbox_stands h).0 in
@@ -130,15 +131,15 @@ length_then (refused r) b = omega arith
 abbrev Few : ℕ → Type 0
 Few bound = (s : List ℕ) (depth at : ℕ) → length s - at < bound → length (entries_of (boxes_in s depth at)) ≤ length s - at
 
-few_turn : (bound : ℕ) → Few bound → (s : List ℕ) (depth at : ℕ) → length s - at < suc bound → (x : ListStep) → step_at s depth at ≡ x
+few_turn : (bound : ℕ) → Few bound → (s : List ℕ) (depth at : ℕ) → length s - at < suc bound → (x : Result (Option ListStep) Refusal) → step_at s depth at ≡ x
     → length (entries_of (boxes_in s depth at)) ≤ length s - at
-few_turn bound more s depth at b End e = rw (boxes_end s depth at e) (omega arith)
-few_turn bound more s depth at b (Refused r) e = rw (boxes_refused s depth at r e) (omega arith)
-few_turn bound more s depth at b (Plain x) e =
+few_turn bound more s depth at b (Ok None) e = rw (boxes_end s depth at e) (omega arith)
+few_turn bound more s depth at b (Err r) e = rw (boxes_refused s depth at r e) (omega arith)
+few_turn bound more s depth at b (Ok (Some (Plain x))) e =
     let p = plain_stands e in
     rw (boxes_plain s depth at x e)
     (omega (arith, length_before (x ∷ []) (boxes_in s depth (end_of x)), more s depth (end_of x) (omega arith)))
-few_turn bound more s depth at b (Superbox x) e =
+few_turn bound more s depth at b (Ok (Some (Superbox x))) e =
     let p = (superbox_stands e).0 in
     let left = part_left s x p.inside in
     rw (boxes_superbox s depth at x e)
@@ -187,15 +188,15 @@ pub none_passed : (s : List ℕ) (depth start : ℕ) → Passed s depth start st
 none_passed s depth start = record { few = omega arith; whole = before_none _ }
 
 module _ {s : List ℕ} {depth start at : ℕ} {gone : List BoxEntry} (p : Passed s depth start at gone) where
-  pub all_passed : step_at s depth at ≡ End → boxes_in s depth start ≡ boxes gone
+  pub all_passed : step_at s depth at ≡ Ok None → boxes_in s depth start ≡ boxes gone
   unfolding before
   all_passed h = p.whole ∙ ap (before gone) (boxes_end s depth at h) ∙ ap boxes (append-nil gone)
 
-  pub stops : (r : Refusal) → step_at s depth at ≡ Refused r → boxes_in s depth start ≡ refused r
+  pub stops : (r : Refusal) → step_at s depth at ≡ Err r → boxes_in s depth start ≡ refused r
   unfolding before
   stops r h = p.whole ∙ ap (before gone) (boxes_refused s depth at r h)
 
-  pub pass_plain : {e : BoxEntry} → step_at s depth at ≡ Plain e → Passed s depth start (end_of e) (gone ++ (e ∷ []))
+  pub pass_plain : {e : BoxEntry} → step_at s depth at ≡ Ok (Some (Plain e)) → Passed s depth start (end_of e) (gone ++ (e ∷ []))
   pass_plain {e} h =
       let b = plain_stands h in
       record {
@@ -203,12 +204,12 @@ module _ {s : List ℕ} {depth start at : ℕ} {gone : List BoxEntry} (p : Passe
         whole = p.whole ∙ ap (before gone) (boxes_plain s depth at e h) ∙ before_twice gone (e ∷ []) _;
       }
 
-  pub stops_inside : {e : BoxEntry} (r : Refusal) → step_at s depth at ≡ Superbox e → contents_of s e ≡ refused r → boxes_in s depth start ≡ refused r
+  pub stops_inside : {e : BoxEntry} (r : Refusal) → step_at s depth at ≡ Ok (Some (Superbox e)) → contents_of s e ≡ refused r → boxes_in s depth start ≡ refused r
   unfolding then before
   stops_inside {e} r h i =
       p.whole ∙ ap (before gone) (boxes_superbox s depth at e h) ∙ ap (λ (l : Listing). before gone (before (e ∷ []) (then l (boxes_in s depth (end_of e))))) i
 
-  pub pass_superbox : {e : BoxEntry} (es : List BoxEntry) → step_at s depth at ≡ Superbox e → contents_of s e ≡ boxes es
+  pub pass_superbox : {e : BoxEntry} (es : List BoxEntry) → step_at s depth at ≡ Ok (Some (Superbox e)) → contents_of s e ≡ boxes es
       → Passed s depth start (end_of e) (gone ++ (e ∷ es))
   pass_superbox {e} es h i =
       let b = (superbox_stands h).0 in

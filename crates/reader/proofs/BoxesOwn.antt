@@ -19,8 +19,9 @@ use Rattle.reader.specs.BoxStep.{entry_of}
 use Rattle.reader.specs.Boxes.{boxes, boxes_of}
 use Rattle.reader.specs.BoxTree.{Own}
 use Rattle.reader.specs.declared.box_row.BoxEntry.{BoxEntry}
-use Rattle.reader.specs.declared.search.BoxRead.{BoxRead}
-use Rattle.reader.specs.declared.search.BoxRead.TheVariants.{Box, End, CutShort}
+use Rattle.std.specs.Prelude.{Result, Ok, Err}
+use Rattle.reader.specs.declared.search.BoxHeader.{BoxHeader}
+use Rattle.reader.specs.declared.search.NoBox.{NoBox}
 use Rattle.reader.proofs.SearchLaws.{box_extended, box_to_end, box_plain}
 use Rattle.reader.proofs.BoxStepLaws.{Reads, Stands, plain_reads, superbox_reads, superbox_stands}
 use Rattle.reader.proofs.BoxesWalk.{Walk, done, past, into, walk}
@@ -67,10 +68,9 @@ record Front (w s : List ℕ) (depth : ℕ) : Type 0 where
 
 module _ {w s : List ℕ} {depth : ℕ} (f : Front w s depth) where
   -- a box that was read there, and passed the step's tests
-  abbrev ReadHeaded : ℕ → BoxRead → Type 0
-  ReadHeaded at (Box b) = b.header ≤ b.length → at + b.length ≤ length s → (1 < depth → be 4 s at ≡ 0 → ⊥) → Headed w (entry_of depth at b)
-  ReadHeaded at End = Unit {0}
-  ReadHeaded at CutShort = Unit {0}
+  abbrev ReadHeaded : ℕ → Result BoxHeader NoBox → Type 0
+  ReadHeaded at (Ok b) = b.header ≤ b.length → at + b.length ≤ length s → (1 < depth → be 4 s at ≡ 0 → ⊥) → Headed w (entry_of depth at b)
+  ReadHeaded at (Err why) = Unit {0}
 
   read_headed : (at : ℕ) → ReadHeaded at (box_at s at)
   unfolding box_at RowsAt box_rows header_size ToEnd
@@ -87,7 +87,7 @@ module _ {w s : List ℕ} {depth : ℕ} (f : Front w s depth) where
         to_end = tt;
       })
       (λ _. tt))
-      (λ _. by_test (λ (n : ℕ). ReadHeaded at (Box (record { kind = be 4 s (at + 4); header = 8; length = n }))) (eqb (be 4 s at) 0)
+      (λ _. by_test (λ (n : ℕ). ReadHeaded at (Ok (record { kind = be 4 s (at + 4); header = 8; length = n }))) (eqb (be 4 s at) 0)
       (λ z whole i sized. let below : 1 < depth → ⊥ = λ d. sized d (eqb-true _ _ z) in
       record {
         form = last;
@@ -138,22 +138,22 @@ module _ (s : List ℕ) (e : BoxEntry) (h : Headed s e) where
   at = e.start.0
 
   rows_box : (form : Form) → RowsAt s at (box_rows form e.kind e.length) → e.content.0 ≡ at + header_size form → ToEnd s e form
-      → box_at s at ≡ Box (record { kind = e.kind; header = header_size form; length = header_size form + e.length })
+      → box_at s at ≡ Ok (record { kind = e.kind; header = header_size form; length = header_size form + e.length })
   unfolding RowsAt box_rows header_size ToEnd
   rows_box plain r c t =
-      box_plain s at (omega arith) (λ o. omega arith) (λ z. omega arith) ∙ (λ i. Box (record { kind = r.1.0 i; header = 8; length = r.0 i }))
+      box_plain s at (omega arith) (λ o. omega arith) (λ z. omega arith) ∙ (λ i. Ok (record { kind = r.1.0 i; header = 8; length = r.0 i }))
   rows_box extended r c t =
       let long : be 8 s (at + 8) ≡ 16 + e.length = ap (be 8 s) (omega arith) ∙ r.1.1.0 in
-      box_extended s at (omega arith) r.0 (omega arith) ∙ (λ i. Box (record { kind = r.1.0 i; header = 16; length = long i }))
+      box_extended s at (omega arith) r.0 (omega arith) ∙ (λ i. Ok (record { kind = r.1.0 i; header = 16; length = long i }))
   rows_box last r c t =
       let left : length s - at ≡ 8 + e.length = omega arith in
-      box_to_end s at (omega arith) r.0 ∙ (λ i. Box (record { kind = r.1.0 i; header = 8; length = left i }))
+      box_to_end s at (omega arith) r.0 ∙ (λ i. Ok (record { kind = r.1.0 i; header = 8; length = left i }))
 
-  box_own : box_at s at ≡ Box (record { kind = e.kind; header = e.content.0 - at; length = end_of e - at })
+  box_own : box_at s at ≡ Ok (record { kind = e.kind; header = e.content.0 - at; length = end_of e - at })
   box_own =
       let header : header_size h.form ≡ e.content.0 - at = omega arith in
       let whole : header_size h.form + e.length ≡ end_of e - at = omega arith in
-      rows_box h.form h.rows h.content h.to_end ∙ (λ i. Box (record { kind = e.kind; header = header i; length = whole i }))
+      rows_box h.form h.rows h.content h.to_end ∙ (λ i. Ok (record { kind = e.kind; header = header i; length = whole i }))
 
 all_own : (s : List ℕ) (es : List BoxEntry) → AllHeaded s es → Own s es
 unfolding AllHeaded Own

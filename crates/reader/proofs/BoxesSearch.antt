@@ -11,17 +11,19 @@ use borrow.Author.Tests.{leb-true, eq-eqb, eqb-true, eqb-false}
 use Rattle.numbers.specs.Bytes.{be}
 use Rattle.numbers.proofs.Choice.{by_test, by_bool}
 use Rattle.types.specs.Refusals.{refusal}
-use Rattle.reader.specs.Search.{JP2C, SIGNATURE, found_from, is_jp2, found_in}
+use Rattle.reader.specs.Search.{JP2C, SIGNATURE, codestream, found_from, is_jp2, found_in}
 use Rattle.reader.specs.BoxRow.{end_of}
 use Rattle.reader.specs.BoxStep.{opens}
 use Rattle.reader.specs.Boxes.{boxes, boxes_of}
 use Rattle.reader.specs.BoxTree.{first_codestream, NoCodestream}
 use Rattle.reader.specs.declared.box_row.BoxEntry.{BoxEntry}
-use Rattle.reader.specs.declared.search.Found.{Found}
-use Rattle.reader.specs.declared.search.Found.TheVariants.{Codestream, Refused}
+use Rattle.std.specs.Prelude.{Result, Ok, Err}
+use Rattle.types.specs.declared.Refusal.{Refusal}
+use Rattle.reader.specs.declared.search.Codestream.{Codestream}
 use Rattle.reader.proofs.SearchLaws.{box_end, content_part, passed_on, move_end, move_jp2c, move_past, found_end, found_on, found_jp2}
 use Rattle.reader.proofs.BoxStepLaws.{Reads, plain_reads, plain_stands, superbox_reads, superbox_stands, end_reached}
 use Rattle.reader.proofs.BoxesWalk.{Walk, done, past, into, walk}
+use Rattle.types.specs.declared.Reason.TheVariants as reason
 
 -- ---- the first jp2c at the top of a list
 
@@ -32,14 +34,14 @@ none_in_both (e ∷ front) back f b = (f.0, none_in_both front back f.1 b)
 
 module _ (size : ℕ) where
   module _ (e : BoxEntry) (rest : List BoxEntry) where
-    first_here : e.depth ≡ 1 → e.kind ≡ JP2C → first_codestream size (e ∷ rest) ≡ Codestream e.content e.length
+    first_here : e.depth ≡ 1 → e.kind ≡ JP2C → first_codestream size (e ∷ rest) ≡ Ok (codestream e.content e.length)
     unfolding first_codestream
     first_here d k = rw (eq-eqb _ _ d, eq-eqb _ _ k)
 
     first_past : (e.depth ≡ 1 → e.kind ≡ JP2C → ⊥) → first_codestream size (e ∷ rest) ≡ first_codestream size rest
     unfolding first_codestream
     first_past other =
-        by_test (λ (f : Found). f ≡ first_codestream size rest) (eqb e.depth 1 && eqb e.kind JP2C)
+        by_test (λ (f : Result Codestream Refusal). f ≡ first_codestream size rest) (eqb e.depth 1 && eqb e.kind JP2C)
         (λ t. let both = (and-eq-true_iff (eqb e.depth 1) (eqb e.kind JP2C)).0 t in absurd (other (eqb-true _ _ both.0) (eqb-true _ _ both.1)))
         (λ _. refl)
 
@@ -51,18 +53,18 @@ module _ (size : ℕ) where
 -- ---- the search, at a box that is listed
 
 module _ {s : List ℕ} {depth at : ℕ} {e : BoxEntry} (r : Reads s depth at e) where
-  search_stops : e.kind ≡ JP2C → found_from s at ≡ Codestream e.content e.length
+  search_stops : e.kind ≡ JP2C → found_from s at ≡ Ok (codestream e.content e.length)
   search_stops k =
       found_end s at _ (move_jp2c s at r.box r.read (rw r.is at k))
       ∙ content_part at r.box (length s) r.whole r.fits
-      ∙ rw r.is (ap (Codestream (record { 0 = at + r.box.header })) (omega arith))
+      ∙ rw r.is (ap (λ (n : ℕ). Ok (codestream (record { 0 = at + r.box.header }) n)) (omega arith))
 
   search_passes : (e.kind ≡ JP2C → ⊥) → found_from s at ≡ found_from s (end_of e)
   search_passes other =
       let ends : end_of e ≡ at + r.box.length = rw r.is (omega arith) in
       rw ends (found_on s at _ (move_past s at r.box r.read (λ k. other (rw r.is k)) ∙ passed_on at r.box r.whole r.fits))
 
-search_ends : (s : List ℕ) → found_from s (length s) ≡ Refused (refusal 14 (length s))
+search_ends : (s : List ℕ) → found_from s (length s) ≡ Err (refusal reason.NoCodestreamBox (length s))
 search_ends s = found_end s (length s) _ (move_end s (length s) (box_end s (length s) (omega arith)))
 
 -- ---- the search, along the top list
@@ -111,11 +113,11 @@ module _ (s : List ℕ) (es : List BoxEntry) (jp2 : is_jp2 s ≡ true) (is : box
 
   -- the codestream that is found: the first jp2c at the top that is listed
   pub search_finds : (front : List BoxEntry) (e : BoxEntry) (rest : List BoxEntry) → es ≡ front ++ (e ∷ rest) → NoCodestream front → e.depth ≡ 1 → e.kind ≡ JP2C
-      → found_in s ≡ Codestream e.content e.length
+      → found_in s ≡ Ok (codestream e.content e.length)
   search_finds front e rest split free d k =
       tree_search ∙ ap (first_codestream (length s)) split ∙ first_behind (length s) front (e ∷ rest) free ∙ first_here (length s) e rest d k
 
   -- where none is listed, none is found: the search gets to the end of the file
-  pub search_none : NoCodestream es → found_in s ≡ Refused (refusal 14 (length s))
+  pub search_none : NoCodestream es → found_in s ≡ Err (refusal reason.NoCodestreamBox (length s))
   unfolding first_codestream
   search_none free = tree_search ∙ ap (first_codestream (length s)) (sym (append-nil es)) ∙ first_behind (length s) es [] free

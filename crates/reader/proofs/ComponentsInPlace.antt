@@ -7,6 +7,7 @@ use mathlib.Core.Bool.{true}
 use mathlib.Core.List.{List}
 use lib.ListN.{length, get_or}
 use borrow.Author.Tests.{le-leb}
+use Rattle.std.specs.Prelude.{Some, Result, Ok, Err}
 use Rattle.numbers.specs.Bytes.{be}
 use Rattle.numbers.proofs.Choice.{by_bool}
 use Rattle.numbers.proofs.Rows.{be_one}
@@ -19,16 +20,14 @@ use Rattle.tile.specs.Siz.{marker}
 use Rattle.tile.specs.Rules.{image_area}
 use Rattle.tile.specs.Rewrite.{tile_size, rewritten}
 use Rattle.tile.specs.declared.rules.Rule.TheVariants.{AnnexB, InPlace}
-use Rattle.tile.specs.declared.rules.Placed.TheVariants.{Tile}
-use Rattle.tile.specs.declared.rewrite.TileSize.TheVariants.{Cut}
 use Rattle.tile.proofs.RulesLaws.{tile_within}
 use Rattle.tile.proofs.RewriteHeader.{length_rewritten}
 use Rattle.tile.proofs.RewriteInPlace.{AllBytes, Kept, cut_kept, kept_front, kept_behind, kept_image, kept_told}
 use Rattle.reader.specs.Components.{siz_whole, count_held, apart, all_apart, ordered, components_read, at_tile, components_in_tile, component_at, is_there, component_in, chosen, component_of, component_in_tile}
-use Rattle.reader.specs.declared.components.ComponentsRead.{ComponentsRead}
-use Rattle.reader.specs.declared.components.ComponentsRead.TheVariants as read
+use Rattle.reader.specs.declared.components.Components.{Components}
+use Rattle.types.specs.declared.Refusal.{Refusal}
 
-module _ (h : List ℕ) (tile : ℕ) (a : Area) (bytes : AllBytes h) (cut : tile_size InPlace h tile ≡ Cut a) where
+module _ (h : List ℕ) (tile : ℕ) (a : Area) (bytes : AllBytes h) (cut : tile_size InPlace h tile ≡ Ok (Some a)) where
   -- the header for the tile
   abbrev new : List ℕ
   new = rewritten InPlace h tile
@@ -106,17 +105,17 @@ module _ (h : List ℕ) (tile : ℕ) (a : Area) (bytes : AllBytes h) (cut : tile
       (λ f. rw f)))
       (λ e. rw e))
 
-  in_tile_twice : (r : ComponentsRead) → at_tile (at_tile r (Tile a)) (Tile a) ≡ at_tile r (Tile a)
+  in_tile_twice : (r : Result Components Refusal) → at_tile (at_tile r (Ok a)) (Ok a) ≡ at_tile r (Ok a)
   unfolding at_tile
-  in_tile_twice (read.Components c) = refl
-  in_tile_twice (read.Refused r) = refl
+  in_tile_twice (Ok c) = refl
+  in_tile_twice (Err r) = refl
 
   -- So it is in its tile 0.
   pub tile_is_tile : components_in_tile AnnexB new 0 ≡ components_in_tile AnnexB h tile
   unfolding components_in_tile
   tile_is_tile =
-      let there : components_in_tile AnnexB h tile ≡ at_tile (components_read h) (Tile a) = ap (at_tile (components_read h)) kept.told in
-      ap₂ at_tile image_is_tile (kept_told h tile a bytes kept) ∙ ap (λ (r : ComponentsRead). at_tile r (Tile a)) there ∙ in_tile_twice (components_read h) ∙ sym there
+      let there : components_in_tile AnnexB h tile ≡ at_tile (components_read h) (Ok a) = ap (at_tile (components_read h)) kept.told in
+      ap₂ at_tile image_is_tile (kept_told h tile a bytes kept) ∙ ap (λ (r : Result Components Refusal). at_tile r (Ok a)) there ∙ in_tile_twice (components_read h) ∙ sym there
 
   -- ---- one component
 
@@ -125,16 +124,16 @@ module _ (h : List ℕ) (tile : ℕ) (a : Area) (bytes : AllBytes h) (cut : tile
   component_same b k =
       rw (behind 2 40 (omega arith), same_length, apart_same (component marker k) (omega arith), byte (component marker k) (omega arith), byte (component marker k + 1) (omega arith), byte (component marker k + 2) (omega arith))
 
-  chosen_same : (r : ComponentsRead) (k : ℕ) → chosen r new k ≡ chosen r h k
+  chosen_same : (r : Result Components Refusal) (k : ℕ) → chosen r new k ≡ chosen r h k
   unfolding chosen
-  chosen_same (read.Components c) k = component_same c.area k
-  chosen_same (read.Refused r) k = refl
+  chosen_same (Ok c) k = component_same c.area k
+  chosen_same (Err r) k = refl
 
   -- Each component of the new header's image, and of its tile 0, is what it was in the tile: its depth, sign and steps, and its extent.
   pub image_component : (k : ℕ) → component_of new k ≡ component_in_tile AnnexB h tile k
   unfolding component_of component_in_tile
-  image_component k = ap (λ (r : ComponentsRead). chosen r new k) image_is_tile ∙ chosen_same (components_in_tile AnnexB h tile) k
+  image_component k = ap (λ (r : Result Components Refusal). chosen r new k) image_is_tile ∙ chosen_same (components_in_tile AnnexB h tile) k
 
   pub tile_component : (k : ℕ) → component_in_tile AnnexB new 0 k ≡ component_in_tile AnnexB h tile k
   unfolding component_in_tile
-  tile_component k = ap (λ (r : ComponentsRead). chosen r new k) tile_is_tile ∙ chosen_same (components_in_tile AnnexB h tile) k
+  tile_component k = ap (λ (r : Result Components Refusal). chosen r new k) tile_is_tile ∙ chosen_same (components_in_tile AnnexB h tile) k

@@ -1,15 +1,17 @@
 -- The definitions of component sizes, opened once: a law for each case.
 use Prim.Native.Nat.{ℕ, zero, suc, ◌+◌, ◌*◌, ◌≤◌, ◌<◌}
+use native.Mathlib.Nat.{zero-add}
 use native.Mathlib.Omega.{arith}
-use mathlib.Core.Path.{◌≡◌, sym, ap, ap₂, ◌∙◌}
+use mathlib.Core.Path.{◌≡◌, refl, sym, ap, ap₂, ◌∙◌}
 use mathlib.Core.Bool.{Bool, true, false, ◌&&◌, and-eq-true_iff, and-false, false≢true}
-use mathlib.Core.List.{List, [], ◌∷◌}
-use mathlib.Core.Logic.{⊎_elim}
+use mathlib.Core.List.{List}
 use lib.ListN.{length}
 use lib.Dec.{leb, ltb, eqb}
 use borrow.Author.Tests.{le-leb, lt-leb, lt-ltb, le-ltb, eq-eqb, ne_eqb, leb-true, leb-false, ltb-true, ltb-false, eqb-true}
-use denote.Enum.Declared.{tag_of}
-use types.Run.{OneOf}
+use Rattle.std.specs.Prelude.{Some, None, Result, Ok, Err}
+use Rattle.std.specs.Bool.{MatchBool}
+use Rattle.std.specs.List.{range_with_len, AllWithin, HoldsAt}
+use Rattle.std.proofs.lemmas.List.FromFn.{length-range_with_len, get_or-range_with_len}
 use Rattle.numbers.specs.Bytes.{be}
 use Rattle.numbers.proofs.Choice.{by_test, by_bool}
 use Rattle.types.specs.Markers.{SOC, SIZ}
@@ -24,16 +26,12 @@ use Rattle.header.specs.declared.step.HeaderStep.{HeaderStep}
 use Rattle.header.specs.declared.step.HeaderStep.TheVariants.{Segment, CutShort}
 use Rattle.header.proofs.ParseLaws.{stands_inside}
 use Rattle.header.proofs.StepLaws.{step_no_length, step_no_end, step_segment}
-use Rattle.header.specs.contracts.step.HeaderStep.{the_type}
 use Rattle.tile.specs.Siz.{marker}
 use Rattle.tile.specs.Rules.{image_area, placed_by}
 use Rattle.tile.specs.declared.rules.Rule.{Rule}
-use Rattle.tile.specs.declared.rules.Placed.TheVariants.{Tile, Refused}
 use Rattle.reader.specs.Components.{siz_whole, count_held, apart, all_apart, ordered, components_read, at_tile, components_in_tile, component_at, is_there, component_in}
 use Rattle.reader.specs.declared.components.Components.{Components}
-use Rattle.reader.specs.declared.components.ComponentsRead.{ComponentsRead}
-use Rattle.reader.specs.declared.components.ComponentsRead.TheVariants as read
-use Rattle.reader.specs.declared.components.ComponentRead.TheVariants as one
+use Rattle.types.specs.declared.Reason.TheVariants.{NoSoc, NoSiz, SegmentPastEnd, ImageEndsBeforeItStarts, ComponentsNotHeld, SubsamplingOf0}
 
 module _ (s : List ℕ) where
   -- ---- SIZ's segment
@@ -74,12 +72,6 @@ module _ (s : List ℕ) where
     pub segment_whole : (m : Marker) → step_at s marker ≡ Segment m → siz_whole s ≡ true
     segment_whole m e = by_bool (siz_whole s) (λ t. t) (λ t. let p = cut_segment t in let z : ◌≡◌ {A = ℕ} 0 1 = cc in absurd (omega arith))
 
-    pub segment_cut : (found : HeaderStep) → found ≡ step_at s marker → OneOf (0 ∷ 1 ∷ 3 ∷ []) (tag_of the_type found) → siz_whole s ≡ false
-    segment_cut found e k = by_bool (siz_whole s) (λ t. absurd (no_other (rw (e ∙ whole_segment t) at k))) (λ t. t)
-      where
-        no_other : OneOf (0 ∷ 1 ∷ 3 ∷ []) 2 → ⊥
-        no_other k = ⊎_elim (λ z. omega arith) (λ k. ⊎_elim (λ z. omega arith) (λ z. omega arith) k) k
-
     pub segment_else : (found : HeaderStep) → found ≡ step_at s marker → ((m : Marker) → found ≡ Segment m → ⊥) → siz_whole s ≡ false
     segment_else found e none = by_bool (siz_whole s) (λ t. absurd (none _ (e ∙ whole_segment t))) (λ t. t)
 
@@ -119,66 +111,77 @@ module _ (s : List ℕ) where
   pub apart_fails : (k n : ℕ) → apart s (component marker k) ≡ false → k < n → all_apart s n ≡ false
   apart_fails k n e h = by_bool (all_apart s n) (λ t. absurd (false≢true (sym e ∙ one_apart k n t h))) (λ f. f)
 
-  pub apart_next : (n : ℕ) → all_apart s n ≡ true → apart s (component marker n) ≡ true → all_apart s (n + 1) ≡ true
+  each_apart : (n : ℕ) → ((k : ℕ) → k < n → apart s (component marker k) ≡ true) → all_apart s n ≡ true
   unfolding all_apart
-  apart_next n a b =
-      let next : n + 1 ≡ suc n = omega arith in
-      let both : all_apart s (suc n) ≡ true = rw (a, b) in
-      ap (all_apart s) next ∙ both
+  each_apart zero h = refl
+  each_apart (suc n) h = rw (each_apart n (λ k l. h k (omega arith)), h n (omega arith))
+
+  -- what a run over the numbers tells: each is apart, or one is not
+  pub apart_told : (n : ℕ) (told : Bool)
+      → MatchBool told (AllWithin (λ k. apart s (component marker k) ≡ true) (range_with_len 0 n) 0 (length (range_with_len 0 n)))
+      ((k : ℕ) × (k < length (range_with_len 0 n)) × HoldsAt (λ k. apart s (component marker k) ≡ false) (range_with_len 0 n) k)
+      → told ≡ all_apart s n
+  apart_told n true h =
+      let long = length-range_with_len 0 n in
+      sym (each_apart n (λ k l. rw (get_or-range_with_len 0 n k 0 l ∙ zero-add k) at (h k 0 (omega arith) (omega arith))))
+  apart_told n false h =
+      let long = length-range_with_len 0 n in
+      let inside : h.0 < n = omega (arith, h.1) in
+      sym (apart_fails h.0 n (rw (get_or-range_with_len 0 n h.0 0 inside ∙ zero-add h.0) at (h.2 0)) inside)
 
   -- ---- one component
 
   module _ (a : Area) (k : ℕ) where
-    pub none_counted : csiz s marker ≤ k → component_in s a k ≡ one.NoSuch
+    pub none_counted : csiz s marker ≤ k → component_in s a k ≡ Ok None
     unfolding component_in is_there
     none_counted h = rw (le-ltb _ _ h)
 
-    pub none_inside : length s < component marker k + 3 → component_in s a k ≡ one.NoSuch
+    pub none_inside : length s < component marker k + 3 → component_in s a k ≡ Ok None
     unfolding component_in is_there
     none_inside h = rw (lt-leb _ _ h, and-false)
 
-    pub none_apart : apart s (component marker k) ≡ false → component_in s a k ≡ one.NoSuch
+    pub none_apart : apart s (component marker k) ≡ false → component_in s a k ≡ Ok None
     unfolding component_in is_there
     none_apart e = rw (e, and-false, and-false)
 
     pub some_in : k < csiz s marker → component marker k + 3 ≤ length s → apart s (component marker k) ≡ true
-        → component_in s a k ≡ one.Component (component_at s a (component marker k))
+        → component_in s a k ≡ Ok (Some (component_at s a (component marker k)))
     unfolding component_in is_there
     some_in h l e = rw (lt-ltb _ _ h, le-leb _ _ l, e)
 
   -- ---- the check
 
-  pub read_no_soc : stands s 0 SOC ≡ false → components_read s ≡ read.Refused (refusal 1 0)
+  pub read_no_soc : stands s 0 SOC ≡ false → components_read s ≡ Err (refusal NoSoc 0)
   unfolding components_read
   read_no_soc e = rw e
 
   module _ (soc : stands s 0 SOC ≡ true) where
-    pub read_no_siz : stands s marker SIZ ≡ false → components_read s ≡ read.Refused (refusal 2 marker)
+    pub read_no_siz : stands s marker SIZ ≡ false → components_read s ≡ Err (refusal NoSiz marker)
     unfolding components_read
     read_no_siz e = rw (soc, e)
 
     module _ (siz : stands s marker SIZ ≡ true) where
-      pub read_cut : siz_whole s ≡ false → components_read s ≡ read.Refused (refusal 3 marker)
+      pub read_cut : siz_whole s ≡ false → components_read s ≡ Err (refusal SegmentPastEnd marker)
       unfolding components_read
       read_cut e = rw (soc, siz, e)
 
       module _ (whole : siz_whole s ≡ true) where
-        pub read_not_held : count_held s ≡ false → components_read s ≡ read.Refused (refusal 24 marker)
+        pub read_not_held : count_held s ≡ false → components_read s ≡ Err (refusal ComponentsNotHeld marker)
         unfolding components_read
         read_not_held e = rw (soc, siz, whole, e)
 
         module _ (held : count_held s ≡ true) where
-          pub read_not_apart : all_apart s (csiz s marker) ≡ false → components_read s ≡ read.Refused (refusal 25 marker)
+          pub read_not_apart : all_apart s (csiz s marker) ≡ false → components_read s ≡ Err (refusal SubsamplingOf0 marker)
           unfolding components_read
           read_not_apart e = rw (soc, siz, whole, held, e)
 
           module _ (all : all_apart s (csiz s marker) ≡ true) where
-            pub read_not_ordered : ordered (image_area s) ≡ false → components_read s ≡ read.Refused (refusal 22 marker)
+            pub read_not_ordered : ordered (image_area s) ≡ false → components_read s ≡ Err (refusal ImageEndsBeforeItStarts marker)
             unfolding components_read
             read_not_ordered e = rw (soc, siz, whole, held, all, e)
 
             pub read_all : ordered (image_area s) ≡ true
-                → components_read s ≡ read.Components (record { count = csiz s marker; area = image_area s })
+                → components_read s ≡ Ok (record { count = csiz s marker; area = image_area s })
             unfolding components_read
             read_all e = rw (soc, siz, whole, held, all, e)
 
@@ -194,13 +197,13 @@ pub record Accepted (s : List ℕ) (c : Components) : Type 0 where
   pub count : c.count ≡ csiz s marker
   pub area : c.area ≡ image_area s
 
-pub refused_accepts : {r : Refusal} {c : Components} → ◌≡◌ {A = ComponentsRead} (read.Refused r) (read.Components c) → ⊥
+pub refused_accepts : {r : Refusal} {c : Components} → ◌≡◌ {A = Result Components Refusal} (Err r) (Ok c) → ⊥
 refused_accepts e = let z : ◌≡◌ {A = ℕ} 0 1 = cc in omega arith
 
-pub accepted : (s : List ℕ) (c : Components) → components_read s ≡ read.Components c → Accepted s c
+pub accepted : (s : List ℕ) (c : Components) → components_read s ≡ Ok c → Accepted s c
 unfolding components_read
 accepted s c =
-    let P : ComponentsRead → Type 0 = λ r. r ≡ read.Components c → Accepted s c in
+    let P : Result Components Refusal → Type 0 = λ r. r ≡ Ok c → Accepted s c in
     by_test P (stands s 0 SOC)
     (λ soc. by_test P (stands s marker SIZ)
     (λ siz. by_test P (siz_whole s)
@@ -218,16 +221,16 @@ accepted s c =
 -- ---- in a tile
 
 module _ (rule : Rule) (s : List ℕ) (tile : ℕ) where
-  pub tile_refused : (r : Refusal) → components_read s ≡ read.Refused r → components_in_tile rule s tile ≡ read.Refused r
+  pub tile_refused : (r : Refusal) → components_read s ≡ Err r → components_in_tile rule s tile ≡ Err r
   unfolding components_in_tile at_tile
-  tile_refused r e = ap (λ (x : ComponentsRead). at_tile x (placed_by rule s tile)) e
+  tile_refused r e = ap (λ (x : Result Components Refusal). at_tile x (placed_by rule s tile)) e
 
-  module _ (c : Components) (e : components_read s ≡ read.Components c) where
-    pub tile_untold : (r : Refusal) → placed_by rule s tile ≡ Refused r → components_in_tile rule s tile ≡ read.Refused r
+  module _ (c : Components) (e : components_read s ≡ Ok c) where
+    pub tile_untold : (r : Refusal) → placed_by rule s tile ≡ Err r → components_in_tile rule s tile ≡ Err r
     unfolding components_in_tile at_tile
     tile_untold r f = ap₂ at_tile e f
 
-    pub tile_found : (a : Area) → placed_by rule s tile ≡ Tile a → components_in_tile rule s tile ≡ read.Components (record { count = c.count; area = a })
+    pub tile_found : (a : Area) → placed_by rule s tile ≡ Ok a → components_in_tile rule s tile ≡ Ok (record { count = c.count; area = a })
     unfolding components_in_tile at_tile
     tile_found a f = ap₂ at_tile e f
 

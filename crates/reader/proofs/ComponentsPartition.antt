@@ -5,6 +5,7 @@ use mathlib.Core.Path.{◌≡◌, refl, sym, ap, ◌∙◌}
 use mathlib.Core.Bool.{true}
 use mathlib.Core.List.{List}
 use lib.ListN.{get_or}
+use Rattle.std.specs.Prelude.{Some, Result, Ok, Err}
 use Rattle.numbers.specs.Ceiling.{ceil_div}
 use Rattle.types.specs.Siz.{component}
 use Rattle.types.specs.Area.{Has}
@@ -14,20 +15,16 @@ use Rattle.tile.specs.AnnexB.{across, down, cells_of, from_of, to_of, cell_area}
 use Rattle.tile.specs.Rules.{image_area, placed_by}
 use Rattle.tile.specs.declared.rules.Rule.{Rule}
 use Rattle.tile.specs.declared.rules.Rule.TheVariants.{AnnexB}
-use Rattle.tile.specs.declared.rules.Placed.{Placed}
-use Rattle.tile.specs.declared.rules.Placed.TheVariants.{Tile, Refused}
 use Rattle.tile.proofs.AnnexBLaws.{Laid, Found, column_inside, row_inside}
 use Rattle.tile.proofs.AnnexBCells.{HasSample, cells_start, cells_adjoin, cells_end}
 use Rattle.tile.proofs.RulesLaws.{annex_told}
 use Rattle.tile.proofs.RulesPartition.{OneTile, samples_partition}
 use Rattle.reader.specs.Components.{components_read, at_tile, components_in_tile, divided, component_at, is_there, chosen, component_of, component_in_tile}
 use Rattle.reader.specs.declared.components.Components.{Components}
-use Rattle.reader.specs.declared.components.ComponentsRead.{ComponentsRead}
-use Rattle.reader.specs.declared.components.ComponentsRead.TheVariants as read
 use Rattle.reader.specs.declared.components.ComponentInfo.{ComponentInfo}
-use Rattle.reader.specs.declared.components.ComponentRead.TheVariants as one
 use Rattle.reader.proofs.ComponentsLaws.{accepted, tile_found}
 use Rattle.reader.proofs.ComponentsAreas.{found, there_in, there_apart, refused_found}
+use Rattle.types.specs.declared.Refusal.{Refusal}
 
 -- how far a component's samples lie apart, across and down
 abbrev xrsiz : List ℕ → ℕ → ℕ
@@ -41,31 +38,31 @@ yrsiz s k = get_or s (component marker k + 2) 0
 -- a component of the image: the check accepts, and it is counted
 record OfImage (s : List ℕ) (k : ℕ) (whole : ComponentInfo) : Type 0 where
   components : Components
-  read : components_read s ≡ read.Components components
+  read : components_read s ≡ Ok components
   there : is_there s k ≡ true
   info : whole ≡ component_at s (image_area s) (component marker k)
 
-of_image : (s : List ℕ) (k : ℕ) (whole : ComponentInfo) (r : ComponentsRead) → components_read s ≡ r → chosen r s k ≡ one.Component whole → OfImage s k whole
+of_image : (s : List ℕ) (k : ℕ) (whole : ComponentInfo) (r : Result Components Refusal) → components_read s ≡ r → chosen r s k ≡ Ok (Some whole) → OfImage s k whole
 unfolding chosen
-of_image s k whole (read.Components c) e g =
+of_image s k whole (Ok c) e g =
     let f = found s c.area k whole g in
     record { components = c; read = e; there = f.there; info = f.info ∙ ap (λ (a : Area). component_at s a (component marker k)) (accepted s c e).area }
-of_image s k whole (read.Refused r) e g = absurd (refused_found g)
+of_image s k whole (Err r) e g = absurd (refused_found g)
 
 -- a component of a tile: where the tile lies
 record OfTile (rule : Rule) (s : List ℕ) (tile k : ℕ) (c : ComponentInfo) : Type 0 where
   area : Area
-  told : placed_by rule s tile ≡ Tile area
+  told : placed_by rule s tile ≡ Ok area
   info : c ≡ component_at s area (component marker k)
 
-of_tile_lem : (rule : Rule) (s : List ℕ) (tile k : ℕ) (c : ComponentInfo) (r : ComponentsRead) (p : Placed) → placed_by rule s tile ≡ p → chosen (at_tile r p) s k ≡ one.Component c
+of_tile_lem : (rule : Rule) (s : List ℕ) (tile k : ℕ) (c : ComponentInfo) (r : Result Components Refusal) (p : Result Area Refusal) → placed_by rule s tile ≡ p → chosen (at_tile r p) s k ≡ Ok (Some c)
     → OfTile rule s tile k c
 unfolding chosen at_tile
-of_tile_lem rule s tile k c (read.Components i) (Tile a) e g = record { area = a; told = e; info = (found s a k c g).info }
-of_tile_lem rule s tile k c (read.Components i) (Refused r) e g = absurd (refused_found g)
-of_tile_lem rule s tile k c (read.Refused r) p e g = absurd (refused_found g)
+of_tile_lem rule s tile k c (Ok i) (Ok a) e g = record { area = a; told = e; info = (found s a k c g).info }
+of_tile_lem rule s tile k c (Ok i) (Err r) e g = absurd (refused_found g)
+of_tile_lem rule s tile k c (Err r) p e g = absurd (refused_found g)
 
-in_tile : (rule : Rule) (s : List ℕ) (tile k : ℕ) (c : ComponentInfo) → component_in_tile rule s tile k ≡ one.Component c → OfTile rule s tile k c
+in_tile : (rule : Rule) (s : List ℕ) (tile k : ℕ) (c : ComponentInfo) → component_in_tile rule s tile k ≡ Ok (Some c) → OfTile rule s tile k c
 unfolding component_in_tile components_in_tile
 in_tile rule s tile k c = of_tile_lem rule s tile k c (components_read s) (placed_by rule s tile) refl
 
@@ -75,19 +72,19 @@ in_tile rule s tile k c = of_tile_lem rule s tile k c (components_read s) (place
 pub record OneTileOf (s : List ℕ) (k px py : ℕ) : Type 0 where
   pub tile : ℕ
   pub component : ComponentInfo
-  pub found : component_in_tile AnnexB s tile k ≡ one.Component component
+  pub found : component_in_tile AnnexB s tile k ≡ Ok (Some component)
   pub has : Has component.area px py
-  pub only : (u : ℕ) (c : ComponentInfo) → component_in_tile AnnexB s u k ≡ one.Component c → Has c.area px py → u ≡ tile
+  pub only : (u : ℕ) (c : ComponentInfo) → component_in_tile AnnexB s u k ≡ Ok (Some c) → Has c.area px py → u ≡ tile
 
-module _ (s : List ℕ) (k : ℕ) (whole : ComponentInfo) (given : component_of s k ≡ one.Component whole) where
+module _ (s : List ℕ) (k : ℕ) (whole : ComponentInfo) (given : component_of s k ≡ Ok (Some whole)) where
   image : OfImage s k whole
   unfolding component_of
   image = of_image s k whole (components_read s) refl given
 
-  tell : (rule : Rule) (tile : ℕ) (a : Area) → placed_by rule s tile ≡ Tile a → component_in_tile rule s tile k ≡ one.Component (component_at s a (component marker k))
+  tell : (rule : Rule) (tile : ℕ) (a : Area) → placed_by rule s tile ≡ Ok a → component_in_tile rule s tile k ≡ Ok (Some (component_at s a (component marker k)))
   unfolding component_in_tile chosen
   tell rule tile a e =
-      ap (λ (r : ComponentsRead). chosen r s k) (tile_found rule s tile image.components image.read a e) ∙ there_in s a k image.there
+      ap (λ (r : Result Components Refusal). chosen r s k) (tile_found rule s tile image.components image.read a e) ∙ there_in s a k image.there
 
   -- Where there is a grid, each sample of a component lies in one of its tiles.
   pub component_partition : Laid (across s) → Laid (down s) → (px py : ℕ) → Has whole.area px py → OneTileOf s k px py
@@ -119,7 +116,7 @@ columns s = cells_of (across s)
 abbrev pub rows : List ℕ → ℕ
 rows s = cells_of (down s)
 
-module _ (s : List ℕ) (tile k : ℕ) (c : ComponentInfo) (here : component_in_tile AnnexB s tile k ≡ one.Component c) where
+module _ (s : List ℕ) (tile k : ℕ) (c : ComponentInfo) (here : component_in_tile AnnexB s tile k ≡ Ok (Some c)) where
   own : OfTile AnnexB s tile k c
   own = in_tile AnnexB s tile k c here
 
@@ -142,9 +139,9 @@ module _ (s : List ℕ) (tile k : ℕ) (c : ComponentInfo) (here : component_in_
   unfolding component_at divided cell_area
   bottom_is = ap (λ (i : ComponentInfo). i.area.y1) own.info ∙ ap (λ (a : Area). ceil_div a.y1 (yrsiz s k)) lies.area
 
-module _ (s : List ℕ) (tile k : ℕ) (c : ComponentInfo) (here : component_in_tile AnnexB s tile k ≡ one.Component c) where
+module _ (s : List ℕ) (tile k : ℕ) (c : ComponentInfo) (here : component_in_tile AnnexB s tile k ≡ Ok (Some c)) where
   -- In the next column a component starts where it ends in this, and in the next row likewise.
-  module _ (next : ℕ) (d : ComponentInfo) (there : component_in_tile AnnexB s next k ≡ one.Component d) where
+  module _ (next : ℕ) (d : ComponentInfo) (there : component_in_tile AnnexB s next k ≡ Ok (Some d)) where
     pub columns_adjoin : next % columns s ≡ tile % columns s + 1 → c.area.x1 ≡ d.area.x0
     columns_adjoin e =
         let inside : tile % columns s + 1 < columns s = rw (← e) (column_inside _ _ next (lies s next k d there).inside) in
@@ -160,7 +157,7 @@ module _ (s : List ℕ) (tile k : ℕ) (c : ComponentInfo) (here : component_in_
         ∙ sym (top_is s next k d there)
 
   -- In the first column it starts where it does in the image, and in the last it ends there; in the first and the last row likewise.
-  module _ (whole : ComponentInfo) (given : component_of s k ≡ one.Component whole) where
+  module _ (whole : ComponentInfo) (given : component_of s k ≡ Ok (Some whole)) where
     whole_is : whole ≡ component_at s (image_area s) (component marker k)
     whole_is = (image s k whole given).info
 

@@ -7,6 +7,7 @@ use mathlib.Core.List.{List, [], ◌∷◌, ◌++◌}
 use lib.ListN.{length, replicate, length-append, get_or-append}
 use lib.Dec.{leb, ltb}
 use borrow.Author.Tests.{le-leb, leb-true, ltb-true, ltb-false}
+use Rattle.std.specs.Prelude.{Some, None, Result, Ok, Err}
 use Rattle.numbers.specs.Bytes.{be}
 use Rattle.numbers.proofs.BytesLaws.{be_front}
 use Rattle.numbers.proofs.Choice.{by_bool}
@@ -25,12 +26,11 @@ use Rattle.tile.specs.declared.rules.Rule.{Rule}
 use Rattle.tile.specs.declared.rules.Rule.TheVariants.{AnnexB, Original, InPlace}
 use Rattle.reader.specs.Components.{siz_whole, count_held, apart, all_apart, ordered, components_read, at_tile, components_in_tile, component_at, is_there, component_in, chosen, component_of, component_in_tile}
 use Rattle.reader.specs.declared.components.Components.{Components}
-use Rattle.reader.specs.declared.components.ComponentsRead.{ComponentsRead}
-use Rattle.reader.specs.declared.components.ComponentsRead.TheVariants as read
-use Rattle.reader.specs.declared.components.ComponentRead.TheVariants as one
 use Rattle.reader.proofs.ComponentsLaws.{whole_fits, all_inside, Accepted, accepted}
 use Rattle.reader.proofs.ComponentsAreas.{InImage, tile_inside}
 use Rattle.reader.proofs.ComponentsSiz.{listed, unlisted}
+use Rattle.types.specs.declared.Refusal.{Refusal}
+use Rattle.types.specs.declared.Reason.TheVariants.{NoSoc, NoSiz}
 
 -- ---- what is read of the front
 
@@ -98,53 +98,53 @@ module _ (p t : List ℕ) (whole : siz_whole p ≡ true) where
       (λ fails. rw (soc, siz, whole_front, whole, held_front, fails))
 
 -- After a check that accepts, so is one component by itself, in any area.
-pub prefix_enough_within : (p t : List ℕ) (c : Components) → components_read p ≡ read.Components c → (a : Area) (k : ℕ) → component_in (p ++ t) a k ≡ component_in p a k
+pub prefix_enough_within : (p t : List ℕ) (c : Components) → components_read p ≡ Ok c → (a : Area) (k : ℕ) → component_in (p ++ t) a k ≡ component_in p a k
 prefix_enough_within p t c e a k =
     let y : Accepted p c = accepted p c e in
     let inside = all_inside p y.whole y.held in
-    let both : components_read (p ++ t) ≡ read.Components c = prefix_enough p t y.whole ∙ e in
+    let both : components_read (p ++ t) ≡ Ok c = prefix_enough p t y.whole ∙ e in
     by_bool (ltb k c.count)
     (λ l. let h : k < c.count = ltb-true k c.count l in
-    listed (p ++ t) c both a k h ∙ ap one.Component (at_front p t a (component marker k) (omega (arith, y.count))) ∙ sym (listed p c e a k h))
+    listed (p ++ t) c both a k h ∙ ap (λ p. Ok (Some p)) (at_front p t a (component marker k) (omega (arith, y.count))) ∙ sym (listed p c e a k h))
     (λ l. let h : c.count ≤ k = ltb-false k c.count l in unlisted (p ++ t) c both a k h ∙ sym (unlisted p c e a k h))
 
 -- ---- a tile, and a component
 
 module _ (p t : List ℕ) where
-  tile_read : (rule : Rule) (tile : ℕ) (r : ComponentsRead) → components_read p ≡ r → at_tile r (placed_by rule (p ++ t) tile) ≡ at_tile r (placed_by rule p tile)
+  tile_read : (rule : Rule) (tile : ℕ) (r : Result Components Refusal) → components_read p ≡ r → at_tile r (placed_by rule (p ++ t) tile) ≡ at_tile r (placed_by rule p tile)
   unfolding at_tile
-  tile_read rule tile (read.Components c) e =
+  tile_read rule tile (Ok c) e =
       let y : Accepted p c = accepted p c e in
       let inside = all_inside p y.whole y.held in
-      ap (at_tile (read.Components c)) (tile_front rule p t tile (omega arith))
-  tile_read rule tile (read.Refused r) e = refl
+      ap (at_tile (Ok c)) (tile_front rule p t tile (omega arith))
+  tile_read rule tile (Err r) e = refl
 
-  chosen_front : (r : ComponentsRead) → ((c : Components) → r ≡ read.Components c → (i : Components) × (components_read p ≡ read.Components i)) → (k : ℕ)
+  chosen_front : (r : Result Components Refusal) → ((c : Components) → r ≡ Ok c → (i : Components) × (components_read p ≡ Ok i)) → (k : ℕ)
       → chosen r (p ++ t) k ≡ chosen r p k
   unfolding chosen
-  chosen_front (read.Components c) f k = let i = f c refl in prefix_enough_within p t i.0 i.1 c.area k
-  chosen_front (read.Refused r) f k = refl
+  chosen_front (Ok c) f k = let i = f c refl in prefix_enough_within p t i.0 i.1 c.area k
+  chosen_front (Err r) f k = refl
 
   module _ (whole : siz_whole p ≡ true) where
     pub prefix_enough_tile : (rule : Rule) (tile : ℕ) → components_in_tile rule (p ++ t) tile ≡ components_in_tile rule p tile
     unfolding components_in_tile
     prefix_enough_tile rule tile =
-        ap (λ (r : ComponentsRead). at_tile r (placed_by rule (p ++ t) tile)) (prefix_enough p t whole) ∙ tile_read rule tile (components_read p) refl
+        ap (λ (r : Result Components Refusal). at_tile r (placed_by rule (p ++ t) tile)) (prefix_enough p t whole) ∙ tile_read rule tile (components_read p) refl
 
     pub prefix_enough_component : (k : ℕ) → component_of (p ++ t) k ≡ component_of p k
     unfolding component_of
-    prefix_enough_component k = ap (λ (r : ComponentsRead). chosen r (p ++ t) k) (prefix_enough p t whole) ∙ chosen_front (components_read p) (λ c e. (c, e)) k
+    prefix_enough_component k = ap (λ (r : Result Components Refusal). chosen r (p ++ t) k) (prefix_enough p t whole) ∙ chosen_front (components_read p) (λ c e. (c, e)) k
 
     pub prefix_enough_component_tile : (rule : Rule) (tile k : ℕ) → component_in_tile rule (p ++ t) tile k ≡ component_in_tile rule p tile k
     unfolding component_in_tile
     prefix_enough_component_tile rule tile k =
-        ap (λ (r : ComponentsRead). chosen r (p ++ t) k) (prefix_enough_tile rule tile)
+        ap (λ (r : Result Components Refusal). chosen r (p ++ t) k) (prefix_enough_tile rule tile)
         ∙ chosen_front (components_in_tile rule p tile) (λ c e. let i : InImage p c = tile_inside rule p tile c e in (i.image, i.read)) k
 
 -- ---- the premises are needed
 
 -- no bytes at all are refused otherwise than SOC alone
-pub prefix_needs_siz : (components_read [] ≡ read.Refused (refusal 1 0)) × (components_read (0xff ∷ 0x4f ∷ []) ≡ read.Refused (refusal 2 2))
+pub prefix_needs_siz : (components_read [] ≡ Err (refusal NoSoc 0)) × (components_read (0xff ∷ 0x4f ∷ []) ≡ Err (refusal NoSiz 2))
 unfolding components_read stands be
 prefix_needs_siz = (refl, refl)
 
@@ -160,6 +160,6 @@ unfolding siz_whole segment_end be
 short_whole = refl
 
 pub within_needs_check : (a : Area)
-    → (component_in short a 0 ≡ one.NoSuch) × (component_in (short ++ more) a 0 ≡ one.Component (component_at (short ++ more) a (component marker 0)))
+    → (component_in short a 0 ≡ Ok None) × (component_in (short ++ more) a 0 ≡ Ok (Some (component_at (short ++ more) a (component marker 0))))
 unfolding component_in is_there apart be
 within_needs_check a = (refl, refl)

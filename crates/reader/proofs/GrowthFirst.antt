@@ -8,31 +8,31 @@ use mathlib.Core.List.{List}
 use lib.ListN.{length}
 use lib.Dec.{leb, eqb}
 use borrow.Author.Tests.{ne_eqb, le-leb, lt-leb, leb-true, leb-false, eqb-true, eqb-false}
+use Rattle.std.specs.Prelude.{Option, Some, None}
 use Rattle.numbers.proofs.Choice.{by_bool}
 use Rattle.header.specs.Extent.{extent_of, told_by, enough_of, enough}
-use Rattle.header.specs.declared.extent.MainHeaderExtent.{MainHeaderExtent}
-use Rattle.header.specs.declared.extent.MainHeaderExtent.TheVariants.{Complete, Truncated}
 use Rattle.header.proofs.ExtentPrefix.{complete_reached, extent_prefix}
 use Rattle.reader.specs.Growth.{region_at, is_complete, suffices, grown, FirstWith}
 use Rattle.reader.proofs.GrowthLaws.{region_within, grown_region, grown_suffices, grown_least}
+use Rattle.types.specs.declared.CodestreamOffset.{CodestreamOffset}
 
 -- a region suffices just where it is enough
-by_extent : (s : List ℕ) (n : ℕ) → n ≤ length s → (extent : MainHeaderExtent) → extent_of s ≡ extent
+by_extent : (s : List ℕ) (n : ℕ) → n ≤ length s → (extent : Option CodestreamOffset) → extent_of s ≡ extent
     → (eqb n (length s) || is_complete (told_by n extent)) ≡ leb (enough_of (length s) extent) n
 unfolding is_complete told_by enough_of
-by_extent s n within (Complete at) e =
+by_extent s n within (Some at) e =
     let inside = (complete_reached s at e).inside in
     by_bool (leb (at.0 + 2) n)
     (λ h. rw h (by_bool (eqb n (length s)) (λ w. rw w) (λ w. rw w)))
     (λ h. rw (h, ne_eqb n (length s) (λ w. omega (arith, leb-false (at.0 + 2) n h))))
-by_extent s n within Truncated e =
+by_extent s n within None e =
     by_bool (eqb n (length s))
     (λ w. rw (w, le-leb (length s) n (omega (arith, eqb-true n (length s) w))))
     (λ w. rw (w, lt-leb (length s) n (omega (arith, eqb-false n (length s) w))))
 
 pub suffices_enough : (s : List ℕ) (n : ℕ) → n ≤ length s → suffices s n ≡ leb (enough s) n
 unfolding suffices enough
-suffices_enough s n within = ap (λ (e : MainHeaderExtent). eqb n (length s) || is_complete e) (extent_prefix s n) ∙ by_extent s n within (extent_of s) refl
+suffices_enough s n within = ap (λ (e : Option CodestreamOffset). eqb n (length s) || is_complete e) (extent_prefix s n) ∙ by_extent s n within (extent_of s) refl
 
 -- there is no more than one first region
 pub first_one : {size bytes j k : ℕ} → FirstWith size bytes j → FirstWith size bytes k → j ≡ k

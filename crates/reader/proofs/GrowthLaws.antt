@@ -11,10 +11,10 @@ use mathlib.Core.List.{List}
 use lib.ListN.{length, take, length-append, length-map}
 use lib.Dec.{leb, lit<}
 use borrow.Author.Tests.{eq-eqb, ne_eqb, leb-true, leb-false}
+use Rattle.std.specs.Prelude.{Option, Some, None, is_some}
 use Rattle.chain.specs.Chain.{end, on, Visit, Rises, Run, stay, step, also}
 use Rattle.chain.proofs.ChainLaws.{chain_end, chain_on, chain_run, chain_stops}
 use Rattle.header.specs.Extent.{extent_of}
-use Rattle.header.specs.declared.extent.MainHeaderExtent.TheVariants.{Complete, Truncated}
 use Rattle.types.specs.declared.CodestreamOffset.{CodestreamOffset}
 use Rattle.numbers.proofs.Choice.{by_test}
 use Rattle.reader.proofs.Moves.{Told, told_on, told_end}
@@ -52,17 +52,22 @@ region_48 size k small h =
 
 -- ---- what suffices
 
+complete_told : (extent : Option CodestreamOffset) → is_complete extent ≡ is_some extent
+unfolding is_complete
+complete_told (Some at) = refl
+complete_told None = refl
+
 module _ (s : List ℕ) (region : ℕ) where
   pub whole_suffices : region ≡ length s → suffices s region ≡ true
   unfolding suffices
   whole_suffices e = rw (eq-eqb _ _ e)
 
   module _ (part : region ≡ length s → ⊥) where
-    pub complete_suffices : (at : CodestreamOffset) → extent_of (take region s) ≡ Complete at → suffices s region ≡ true
-    unfolding suffices is_complete
-    complete_suffices at e = rw (ne_eqb _ _ part, e)
+    pub extent_suffices : (told : Bool) → is_some (extent_of (take region s)) ≡ told → suffices s region ≡ told
+    unfolding suffices
+    extent_suffices told e = rw (ne_eqb _ _ part) (complete_told (extent_of (take region s)) ∙ e)
 
-    pub truncated_not : extent_of (take region s) ≡ Truncated → suffices s region ≡ false
+    pub truncated_not : extent_of (take region s) ≡ None → suffices s region ≡ false
     unfolding suffices is_complete
     truncated_not e = rw (ne_eqb _ _ part, e)
 

@@ -8,6 +8,7 @@ use lib.ListN.{length, length-append}
 use lib.Seq.{take_at, drop_at}
 use lib.Dec.{leb}
 use borrow.Author.Tests.{le-leb, lt-leb}
+use Rattle.std.specs.Prelude.{Ok}
 use Rattle.numbers.specs.Bytes.{be, bytes_of}
 use Rattle.numbers.specs.Rows.{row, bytes_of_rows, widths}
 use Rattle.numbers.proofs.BytesLaws.{be_rest}
@@ -19,12 +20,9 @@ use Rattle.chain.specs.Chain.{on}
 use Rattle.reader.proofs.SizLaws.{siz_info, move_siz, read_end_lem}
 use Rattle.reader.proofs.SearchLaws.{box_extended, box_to_end, box_plain, content_part, passed_on, move_jp2c, move_past, found_end, found_on, found_jp2, content_found}
 use Rattle.reader.specs.Siz.{info_at, siz_read}
-use Rattle.reader.specs.Search.{JP2C, box_at, move_at, is_jp2, found_from, found_in, content_of}
+use Rattle.reader.specs.Search.{JP2C, box_at, codestream, move_at, is_jp2, found_from, found_in, content_of}
 use Rattle.reader.specs.Iso.{Form, plain, extended, last, IsoBox, box_rows, header_size, box_bytes, Stands, boxes_bytes, signature, jp2_file, Others}
 use Rattle.reader.specs.declared.search.BoxHeader.{BoxHeader}
-use Rattle.reader.specs.declared.search.Found.TheVariants.{Codestream}
-use Rattle.reader.specs.declared.search.BoxRead.TheVariants.{Box}
-use Rattle.reader.specs.declared.siz.SizRead.TheVariants.{Siz}
 
 -- ---- a box
 
@@ -63,28 +61,28 @@ rows_LBox front last T n tail h = be_behind 4 front _ ∙ be_row [] 4 0 (row 4 T
 
 rows_read : (front : List ℕ) (form : Form) (T n : ℕ) (tail : List ℕ) → T < 2 ^ 32 → Behind form n (length tail)
     → box_at (front ++ (bytes_of_rows (box_rows form T n) ++ tail)) (length front)
-    ≡ Box (record { kind = T; header = header_size form; length = header_size form + n })
+    ≡ Ok (record { kind = T; header = header_size form; length = header_size form + n })
 unfolding box_rows header_size Behind widths LBox
 rows_read front plain T n tail t h =
     let s : List ℕ = front ++ (bytes_of_rows (box_rows plain T n) ++ tail) in
     let l : be 4 s (length front) ≡ 8 + n = rows_LBox front plain T n tail h in
     let k : be 4 s (length front + 4) ≡ T = be_rest 4 front _ 4 ∙ be_row (row 4 (8 + n) ∷ []) 4 T [] tail t in
     let long : length s ≡ length front + (8 + length tail) = rows_long front plain T n tail in
-    box_plain s (length front) (omega arith) (λ e. omega arith) (λ e. omega arith) ∙ (λ i. Box (record { kind = k i; header = 8; length = l i }))
+    box_plain s (length front) (omega arith) (λ e. omega arith) (λ e. omega arith) ∙ (λ i. Ok (record { kind = k i; header = 8; length = l i }))
 rows_read front extended T n tail t h =
     let s : List ℕ = front ++ (bytes_of_rows (box_rows extended T n) ++ tail) in
     let l : be 4 s (length front) ≡ 1 = rows_LBox front extended T n tail h in
     let k : be 4 s (length front + 4) ≡ T = be_rest 4 front _ 4 ∙ be_row (row 4 1 ∷ []) 4 T (row 8 (16 + n) ∷ []) tail t in
     let x : be 8 s (length front + 8) ≡ 16 + n = be_rest 8 front _ 8 ∙ be_row (row 4 1 ∷ row 4 T ∷ []) 8 (16 + n) [] tail h.1 in
     let long : length s ≡ length front + (16 + length tail) = rows_long front extended T n tail in
-    box_extended s (length front) (omega arith) l (omega arith) ∙ (λ i. Box (record { kind = k i; header = 16; length = x i }))
+    box_extended s (length front) (omega arith) l (omega arith) ∙ (λ i. Ok (record { kind = k i; header = 16; length = x i }))
 rows_read front last T n tail t h =
     let s : List ℕ = front ++ (bytes_of_rows (box_rows last T n) ++ tail) in
     let l : be 4 s (length front) ≡ 0 = rows_LBox front last T n tail h in
     let k : be 4 s (length front + 4) ≡ T = be_rest 4 front _ 4 ∙ be_row (row 4 0 ∷ []) 4 T [] tail t in
     let long : length s ≡ length front + (8 + length tail) = rows_long front last T n tail in
     let left : length s - length front ≡ 8 + n = omega arith in
-    box_to_end s (length front) (omega arith) l ∙ (λ i. Box (record { kind = k i; header = 8; length = left i }))
+    box_to_end s (length front) (omega arith) l ∙ (λ i. Ok (record { kind = k i; header = 8; length = left i }))
 
 behind : (form : Form) (d rest : List ℕ) → Stands form (length d) rest → Behind form (length d) (length (d ++ rest))
 unfolding Stands Behind
@@ -95,7 +93,7 @@ behind last d rest h = rw length-append (omega arith)
 -- A box by the standard, anywhere in a file, is read as one of its type, header and length.
 pub box_iso : (front : List ℕ) (b : IsoBox) (rest : List ℕ) → b.TBox < 2 ^ 32 → Stands b.form (length b.DBox) rest
     → box_at (front ++ (box_bytes b ++ rest)) (length front)
-    ≡ Box (record { kind = b.TBox; header = header_size b.form; length = length (box_bytes b) })
+    ≡ Ok (record { kind = b.TBox; header = header_size b.form; length = length (box_bytes b) })
 unfolding box_bytes
 box_iso front b rest t h =
     let n : ℕ = length b.DBox in
@@ -118,7 +116,7 @@ chain_iso : (front : List ℕ) (boxes : List IsoBox) (c : IsoBox) (rest : List �
     → c.TBox ≡ JP2C → Stands c.form (length c.DBox) rest
     → length (front ++ (boxes_bytes boxes ++ (box_bytes c ++ rest))) < 2 ^ 64
     → found_from (front ++ (boxes_bytes boxes ++ (box_bytes c ++ rest))) (length front)
-    ≡ Codestream (record { 0 = length front + (length (boxes_bytes boxes) + header_size c.form) }) (length c.DBox)
+    ≡ Ok (codestream (record { 0 = length front + (length (boxes_bytes boxes) + header_size c.form) }) (length c.DBox))
 unfolding Others boxes_bytes
 chain_iso front [] c rest o k h small =
     let s : List ℕ = front ++ (box_bytes c ++ rest) in
@@ -129,7 +127,7 @@ chain_iso front [] c rest o k h small =
     let size : min (length front + length (box_bytes c)) (length s) - (length front + header_size c.form) ≡ length c.DBox = omega arith in
     found_end s (length front) _ (move_jp2c s (length front) b (box_iso front c rest (omega arith) h) k)
     ∙ content_part (length front) b (length s) (omega arith) (omega arith)
-    ∙ (λ i. Codestream (record { 0 = from i }) (size i))
+    ∙ (λ i. Ok (codestream (record { 0 = from i }) (size i)))
 chain_iso front (b ∷ more) c rest o k h small =
     let after : List ℕ = boxes_bytes more ++ (box_bytes c ++ rest) in
     let s : List ℕ = front ++ (box_bytes b ++ after) in
@@ -147,7 +145,7 @@ chain_iso front (b ∷ more) c rest o k h small =
     ∙ found_on s (length front) (length front + length (box_bytes b)) pass
     ∙ ap₂ found_from next (sym (length-append front (box_bytes b)))
     ∙ chain_iso (front ++ box_bytes b) more c rest o.1.1.1 k h (rw next at fits)
-    ∙ (λ i. Codestream (record { 0 = from i }) (length c.DBox))
+    ∙ (λ i. Ok (codestream (record { 0 = from i }) (length c.DBox)))
 
 signed : (boxes : List IsoBox) (c : IsoBox) (rest : List ℕ) → 12 ≤ length (jp2_file boxes c rest) → is_jp2 (jp2_file boxes c rest) ≡ true
 unfolding is_jp2 jp2_file boxes_bytes box_bytes signature bytes_of_rows box_rows be bytes_of
@@ -169,7 +167,7 @@ module _ (boxes : List IsoBox) (c : IsoBox) (rest : List ℕ) (others : Others b
   all_others = (omega arith, (λ e. omega arith, (omega arith, others)))
 
   pub jp2_found : found_in (jp2_file boxes c rest)
-      ≡ Codestream (record { 0 = 12 + (length (boxes_bytes boxes) + header_size c.form) }) (length c.DBox)
+      ≡ Ok (codestream (record { 0 = 12 + (length (boxes_bytes boxes) + header_size c.form) }) (length c.DBox))
   unfolding jp2_file
   jp2_found =
       let s : List ℕ = boxes_bytes (signature ∷ boxes) ++ (box_bytes c ++ rest) in
@@ -178,7 +176,7 @@ module _ (boxes : List IsoBox) (c : IsoBox) (rest : List ℕ) (others : Others b
       let from : 0 + (length (boxes_bytes (signature ∷ boxes)) + header_size c.form) ≡ 12 + (length (boxes_bytes boxes) + header_size c.form) = omega arith in
       found_jp2 s (omega arith) (signed boxes c rest long)
       ∙ chain_iso [] (signature ∷ boxes) c rest all_others jp2c stands small
-      ∙ (λ i. Codestream (record { 0 = from i }) (length c.DBox))
+      ∙ (λ i. Ok (codestream (record { 0 = from i }) (length c.DBox)))
 
   pub jp2_content : content_of (jp2_file boxes c rest) ≡ c.DBox
   unfolding jp2_file box_bytes
@@ -189,7 +187,7 @@ module _ (boxes : List IsoBox) (c : IsoBox) (rest : List ℕ) (others : Others b
       ap (λ (l : List ℕ). front ++ l) (append_assoc rows c.DBox rest) ∙ sym (append_assoc front rows (c.DBox ++ rest)) in
       let at : length (front ++ rows) ≡ 12 + (length (boxes_bytes boxes) + header_size c.form) =
       length-append front rows ∙ omega (arith, length_signature boxes, length_rows (box_rows c.form c.TBox (length c.DBox)), header_size_lem c.form c.TBox (length c.DBox)) in
-      content_found _ _ _ jp2_found
+      content_found _ _ jp2_found
       ∙ rw (split, drop_at (front ++ rows) (c.DBox ++ rest) _ at) (take_at c.DBox rest (length c.DBox) refl)
 
 -- ---- SIZ
@@ -206,7 +204,7 @@ ssiz_sign false depth h = lt-leb 128 (0 + (depth - 1)) (omega arith)
 -- A SIZ directly after SOC gives the image's width and height, the number of components, and bit depth and sign of the first.
 pub siz_iso : (z : Size) (rest : List ℕ) → Ranges z
     → siz_read (bytes_of_rows (siz_rows z) ++ rest)
-    ≡ Siz
+    ≡ Ok
     (record {
       width = z.Xsiz - z.XOsiz;
       height = z.Ysiz - z.YOsiz;
@@ -222,7 +220,7 @@ siz_iso z rest g =
     let sign : leb 128 (ssiz s 2) ≡ z.first.signed = ap (leb 128) f.Ssiz ∙ ssiz_sign z.first.signed z.first.depth g.depth in
     read_end_lem s 2 _ (move_siz s 2 (omega (arith, f.long)) f.marker)
     ∙ siz_info s 2 f.long (omega (arith, f.Xsiz, f.XOsiz)) (omega (arith, f.Ysiz, f.YOsiz))
-    ∙ (λ i. Siz (record {
+    ∙ (λ i. Ok (record {
       width = f.Xsiz i - f.XOsiz i;
       height = f.Ysiz i - f.YOsiz i;
       num_components = f.Csiz i;

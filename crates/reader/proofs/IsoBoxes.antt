@@ -17,8 +17,8 @@ use Rattle.reader.specs.BoxStep.{opens, entry_of, judged_box, step_at}
 use Rattle.reader.specs.Boxes.{Listing, boxes, before, then, boxes_in, contents_of, boxes_of}
 use Rattle.reader.specs.IsoBoxes.{Tree, none, leaf, node, holding, tree_bytes, entry_for, tree_entries, StandsIn, IsoTree, IsoFile, TopEnds, Listable}
 use Rattle.reader.specs.declared.search.BoxHeader.{BoxHeader}
-use Rattle.reader.specs.declared.search.BoxRead.TheVariants.{Box}
 use Rattle.reader.specs.declared.box_row.BoxEntry.{BoxEntry}
+use Rattle.std.specs.Prelude.{Some, Ok}
 use Rattle.reader.specs.declared.box_step.ListStep.{ListStep}
 use Rattle.reader.specs.declared.box_step.ListStep.TheVariants.{Plain, Superbox}
 use Rattle.reader.proofs.SearchLaws.{box_told}
@@ -78,7 +78,7 @@ module _ (front : List ℕ) (depth : ℕ) (b : IsoBox) (rest : List ℕ) where
       ap₂ (λ (l : List ℕ) (n : ℕ). boxes_in l depth n) (sym (append_assoc front (box_bytes b) rest)) to
 
   module _ (type : b.TBox < 2 ^ 32) (stands : Stands b.form (length b.DBox) rest) (top : TopEnds depth b.form) (small : length s < 2 ^ 64) where
-    read : box_at s start ≡ Box head
+    read : box_at s start ≡ Ok head
     read = rw (length_box b) at (box_iso front b rest type stands)
 
     inside : start < length s
@@ -91,7 +91,7 @@ module _ (front : List ℕ) (depth : ℕ) (b : IsoBox) (rest : List ℕ) where
     judged extended t l = step_sized s depth start inside head read (λ z. omega arith)
     judged last t l = step_top s depth start inside head read (omega arith)
 
-    step_is : (x : BoxEntry → ListStep) → judged_box (length s) depth start head ≡ x (entry_of depth start head) → step_at s depth start ≡ x e
+    step_is : (x : BoxEntry → ListStep) → judged_box (length s) depth start head ≡ Ok (Some (x (entry_of depth start head))) → step_at s depth start ≡ Ok (Some (x e))
     step_is x h =
         let size : header_size b.form + length b.DBox - header_size b.form ≡ length b.DBox = omega arith in
         judged b.form top (LBox-iso front b rest stands) ∙ h ∙ rw size

@@ -9,6 +9,7 @@ use lib.ListN.{length, get_or, take, drop, length-append}
 use lib.Seq.{split_at, length-take-le}
 use lib.Dec.{leb}
 use borrow.Author.Tests.{le-leb, lt-leb, eq-eqb}
+use Rattle.std.specs.Prelude.{Some, Result, Ok, Err}
 use Rattle.numbers.specs.Rows.{Row, row, bytes_of_rows, widths}
 use Rattle.numbers.proofs.Rows.{length_rows, be_row, be_one}
 use Rattle.types.specs.Markers.{SOC, SIZ}
@@ -25,15 +26,14 @@ use Rattle.tile.specs.Rules.{image_area, placed_by}
 use Rattle.tile.specs.Iso.{num_xtiles, num_ytiles, area_of, header_of}
 use Rattle.tile.specs.declared.rules.Rule.{Rule}
 use Rattle.tile.specs.declared.rules.Rule.TheVariants.{AnnexB}
-use Rattle.tile.specs.declared.rules.Placed.TheVariants.{Tile}
 use Rattle.tile.proofs.Iso.{area_standard}
 use Rattle.reader.specs.Components.{siz_whole, count_held, apart, all_apart, ordered, components_read, at_tile, components_in_tile, divided, component_at, component_in, chosen, component_of, component_in_tile}
 use Rattle.reader.specs.Iso.{ComponentRanges, EachRanges, AllRanges, image_of, info_of}
-use Rattle.reader.specs.declared.components.ComponentsRead.{ComponentsRead}
-use Rattle.reader.specs.declared.components.ComponentsRead.TheVariants as read
-use Rattle.reader.specs.declared.components.ComponentRead.TheVariants as one
 use Rattle.reader.proofs.Iso.{ssiz_bits, ssiz_sign}
 use Rattle.reader.proofs.ComponentsSiz.{listed}
+use Rattle.reader.specs.declared.components.Components.{Components}
+use Rattle.types.specs.declared.Refusal.{Refusal}
+use Rattle.types.specs.declared.Reason.TheVariants.{ComponentsNotHeld}
 
 -- ---- rows
 
@@ -149,7 +149,7 @@ module _ (z : Size) (rest : List ℕ) (fits : 38 + 3 * Csiz z < 2 ^ 16) where
       rw (lsiz_standard, csiz_standard, le-leb 41 (38 + 3 * Csiz z) (omega arith), eq-eqb (38 + 3 * Csiz z) (38 + 3 * Csiz z) refl, le-leb 1 (Csiz z) (omega arith))
 
   -- More components than 16,384 are refused.
-  pub too_many : 16384 < Csiz z → components_read (header_of z rest) ≡ read.Refused (refusal 24 marker)
+  pub too_many : 16384 < Csiz z → components_read (header_of z rest) ≡ Err (refusal ComponentsNotHeld marker)
   unfolding components_read
   too_many many = rw (soc_stands z rest, siz_stands z rest, siz_whole_lem, count_standard, lt-leb (Csiz z) 16384 many)
 
@@ -183,46 +183,46 @@ module _ (z : Size) (rest : List ℕ) (g : AllRanges z) where
   forward = rw (le-leb z.XOsiz z.Xsiz (omega arith), le-leb z.YOsiz z.Ysiz (omega arith))
 
   -- A SIZ by the standard is accepted, with its count and its area.
-  pub components_standard : components_read (header_of z rest) ≡ read.Components (record { count = Csiz z; area = image_of z })
+  pub components_standard : components_read (header_of z rest) ≡ Ok (record { count = Csiz z; area = image_of z })
   unfolding components_read
   components_standard =
       rw (soc_stands z rest, siz_stands z rest, siz_whole_lem z rest fits, count_standard z rest fits, le-leb (Csiz z) 16384 g.image.Csiz, csiz_standard z rest fits, all_apart_lem (Csiz z) (omega arith), ap ordered image_standard, forward, image_standard)
 
   -- the same in a tile, where a rule tells it at the standard's place: Annex B's for every tile of the grid, the original's as tile, proofs/Iso.antt, says
-  pub components_tile_standard : (rule : Rule) (tile : ℕ) → placed_by rule (header_of z rest) tile ≡ Tile (area_of z tile)
-      → components_in_tile rule (header_of z rest) tile ≡ read.Components (record { count = Csiz z; area = area_of z tile })
+  pub components_tile_standard : (rule : Rule) (tile : ℕ) → placed_by rule (header_of z rest) tile ≡ Ok (area_of z tile)
+      → components_in_tile rule (header_of z rest) tile ≡ Ok (record { count = Csiz z; area = area_of z tile })
   unfolding components_in_tile at_tile
   components_tile_standard rule tile told = ap₂ at_tile components_standard told
 
   -- ---- the k-th component, where so many stand before it
 
   module _ (front : List Component) (c : Component) (back : List Component) (split : z.first ∷ z.others ≡ front ++ (c ∷ back)) where
-    within_standard : (a : Area) → component_in (header_of z rest) a (length front) ≡ one.Component (info_of c a)
+    within_standard : (a : Area) → component_in (header_of z rest) a (length front) ≡ Ok (Some (info_of c a))
     within_standard a =
         listed (header_of z rest) _ components_standard a (length front) (counted z front c back split)
-        ∙ ap one.Component (at_standard z rest front c back split (one_ranges front c back (subst EachRanges split g.each)) a)
+        ∙ ap (λ p. Ok (Some p)) (at_standard z rest front c back split (one_ranges front c back (subst EachRanges split g.each)) a)
 
     -- It has its depth, sign and steps, and its part of the image.
-    pub component_standard : component_of (header_of z rest) (length front) ≡ one.Component (info_of c (image_of z))
+    pub component_standard : component_of (header_of z rest) (length front) ≡ Ok (Some (info_of c (image_of z)))
     unfolding component_of chosen
-    component_standard = ap (λ (r : ComponentsRead). chosen r (header_of z rest) (length front)) components_standard ∙ within_standard (image_of z)
+    component_standard = ap (λ (r : Result Components Refusal). chosen r (header_of z rest) (length front)) components_standard ∙ within_standard (image_of z)
 
     -- And its part of a tile.
-    pub component_tile_standard : (rule : Rule) (tile : ℕ) → placed_by rule (header_of z rest) tile ≡ Tile (area_of z tile)
-        → component_in_tile rule (header_of z rest) tile (length front) ≡ one.Component (info_of c (area_of z tile))
+    pub component_tile_standard : (rule : Rule) (tile : ℕ) → placed_by rule (header_of z rest) tile ≡ Ok (area_of z tile)
+        → component_in_tile rule (header_of z rest) tile (length front) ≡ Ok (Some (info_of c (area_of z tile)))
     unfolding component_in_tile chosen
     component_tile_standard rule tile told =
-        ap (λ (r : ComponentsRead). chosen r (header_of z rest) (length front)) (components_tile_standard rule tile told) ∙ within_standard (area_of z tile)
+        ap (λ (r : Result Components Refusal). chosen r (header_of z rest) (length front)) (components_tile_standard rule tile told) ∙ within_standard (area_of z tile)
 
     -- By Annex B so for every tile of the grid.
     pub component_annex_standard : (tile : ℕ) → TileRanges z → tile < num_xtiles z * num_ytiles z
-        → component_in_tile AnnexB (header_of z rest) tile (length front) ≡ one.Component (info_of c (area_of z tile))
+        → component_in_tile AnnexB (header_of z rest) tile (length front) ≡ Ok (Some (info_of c (area_of z tile)))
     component_annex_standard tile t inside = component_tile_standard AnnexB tile (area_standard z rest tile g.image t inside)
 
 -- ---- the most components
 
-pub most_components : (z : Size) (rest : List ℕ) → AllRanges z → Csiz z ≡ 16384 → components_read (header_of z rest) ≡ read.Components (record { count = 16384; area = image_of z })
-most_components z rest g e = components_standard z rest g ∙ ap (λ (n : ℕ). read.Components (record { count = n; area = image_of z })) e
+pub most_components : (z : Size) (rest : List ℕ) → AllRanges z → Csiz z ≡ 16384 → components_read (header_of z rest) ≡ Ok (record { count = 16384; area = image_of z })
+most_components z rest g e = components_standard z rest g ∙ ap (λ (n : ℕ). Ok (record { count = n; area = image_of z })) e
 
-pub one_too_many : (z : Size) (rest : List ℕ) → Csiz z ≡ 16385 → components_read (header_of z rest) ≡ read.Refused (refusal 24 marker)
+pub one_too_many : (z : Size) (rest : List ℕ) → Csiz z ≡ 16385 → components_read (header_of z rest) ≡ Err (refusal ComponentsNotHeld marker)
 one_too_many z rest e = too_many z rest (omega arith) (omega arith)

@@ -8,6 +8,7 @@ use mathlib.Core.List.{List}
 use lib.ListN.{length, get_or}
 use lib.Dec.{leb, eqb}
 use borrow.Author.Tests.{le-leb, lt-leb, eq-eqb, ne_eqb, leb-true}
+use Rattle.std.specs.Prelude.{Result, Ok, Err}
 use Rattle.numbers.specs.Bytes.{be}
 use Rattle.types.specs.Markers.{SIZ}
 use Rattle.types.specs.Siz.{xsiz, ysiz, xosiz, yosiz, csiz, ssiz}
@@ -17,34 +18,35 @@ use Rattle.numbers.proofs.Choice.{by_test}
 use Rattle.reader.proofs.Moves.{Told, told_on, ended_end, ended_on}
 use Rattle.reader.specs.Siz.{info_at, siz_at, move_at, siz_from, between, sample_type}
 use Rattle.reader.specs.declared.siz.SampleType.TheVariants.{UInt8, Int8, UInt16, Int16, UInt32, Int32}
-use Rattle.reader.specs.declared.siz.SizRead.{SizRead}
-use Rattle.reader.specs.declared.siz.SizRead.TheVariants.{Siz, Refused}
+use Rattle.reader.specs.declared.siz.SizInfo.{SizInfo}
+use Rattle.types.specs.declared.Refusal.{Refusal}
+use Rattle.types.specs.declared.Reason.TheVariants.{SizCutShort, SizNotFound, ImageEndsBeforeItStarts}
 
 module _ (s : List ℕ) (at : ℕ) where
   -- ---- the SIZ at a position
 
-  pub siz_short : length s < at + 41 → siz_at s at ≡ Refused (refusal 20 at)
+  pub siz_short : length s < at + 41 → siz_at s at ≡ Err (refusal SizCutShort at)
   unfolding siz_at
   siz_short h = rw (lt-leb _ _ h)
 
   module _ (whole : at + 41 ≤ length s) where
-    pub siz_left : xsiz s at < xosiz s at → siz_at s at ≡ Refused (refusal 22 at)
+    pub siz_left : xsiz s at < xosiz s at → siz_at s at ≡ Err (refusal ImageEndsBeforeItStarts at)
     unfolding siz_at
     siz_left x = rw (le-leb _ _ whole, lt-leb _ _ x)
 
     module _ (x : xosiz s at ≤ xsiz s at) where
-      pub siz_above : ysiz s at < yosiz s at → siz_at s at ≡ Refused (refusal 22 at)
+      pub siz_above : ysiz s at < yosiz s at → siz_at s at ≡ Err (refusal ImageEndsBeforeItStarts at)
       unfolding siz_at
       siz_above y = rw (le-leb _ _ whole, le-leb _ _ x, lt-leb _ _ y)
 
-      pub siz_info : yosiz s at ≤ ysiz s at → siz_at s at ≡ Siz (info_at s at)
+      pub siz_info : yosiz s at ≤ ysiz s at → siz_at s at ≡ Ok (info_at s at)
       unfolding siz_at
       siz_info y = rw (le-leb _ _ whole, le-leb _ _ x, le-leb _ _ y)
 
   -- the fields, each read by itself
   pub info_of_lem : {x y xo yo n : ℕ} → x ≡ xsiz s at → y ≡ ysiz s at → xo ≡ xosiz s at → yo ≡ yosiz s at → n ≡ csiz s at
-      → ◌≡◌ {A = SizRead}
-      (Siz
+      → ◌≡◌ {A = Result SizInfo Refusal}
+      (Ok
       (record {
         width = x - xo;
         height = y - yo;
@@ -52,9 +54,9 @@ module _ (s : List ℕ) (at : ℕ) where
         bits_per_component = ssiz s at % 128 + 1;
         is_signed = leb 128 (ssiz s at);
       }))
-      (Siz (info_at s at))
+      (Ok (info_at s at))
   unfolding info_at
-  info_of_lem x y xo yo n = λ i. Siz (record { width = x i - xo i; height = y i - yo i; num_components = n i; bits_per_component = ssiz s at % 128 + 1; is_signed = leb 128 (ssiz s at) })
+  info_of_lem x y xo yo n = λ i. Ok (record { width = x i - xo i; height = y i - yo i; num_components = n i; bits_per_component = ssiz s at % 128 + 1; is_signed = leb 128 (ssiz s at) })
 
   -- ---- a step
 
@@ -66,7 +68,7 @@ module _ (s : List ℕ) (at : ℕ) where
       let first : get_or s (at + 0) 0 ≡ get_or s at 0 = ap (λ (n : ℕ). get_or s n 0) (add-zero at) in
       b (omega (arith, both, first, bytes (at + 1)))
 
-  pub move_few : length s < at + 2 → move_at s at ≡ end (Refused (refusal 21 at))
+  pub move_few : length s < at + 2 → move_at s at ≡ end (Err (refusal SizNotFound at))
   unfolding move_at
   move_few h = rw (lt-leb _ _ h)
 
@@ -80,7 +82,7 @@ module _ (s : List ℕ) (at : ℕ) where
       unfolding move_at
       move_byte b = rw (le-leb _ _ two, ne_eqb _ _ other, ne_eqb _ _ b)
 
-      pub move_no_length : get_or s at 0 ≡ 0xff → length s < at + 4 → move_at s at ≡ end (Refused (refusal 21 at))
+      pub move_no_length : get_or s at 0 ≡ 0xff → length s < at + 4 → move_at s at ≡ end (Err (refusal SizNotFound at))
       unfolding move_at
       move_no_length b h = rw (le-leb _ _ two, ne_eqb _ _ other, eq-eqb _ _ b, lt-leb _ _ h)
 
@@ -93,7 +95,7 @@ module _ (s : List ℕ) (at : ℕ) where
 move_told : (s : List ℕ) (at : ℕ) → Told (λ _. Unit {0}) (λ next. (at < next) × (at < length s)) (move_at s at)
 unfolding move_at Told
 move_told s at =
-    let P : Move SizRead → Type 0 = Told (λ _. Unit {0}) (λ next. (at < next) × (at < length s)) in
+    let P : Move (Result SizInfo Refusal) → Type 0 = Told (λ _. Unit {0}) (λ next. (at < next) × (at < length s)) in
     by_test P (leb (at + 2) (length s))
     (λ m. let h : at + 2 ≤ length s = leb-true _ _ m in
     by_test P (eqb (be 2 s at) SIZ) (λ _. tt)
@@ -107,7 +109,7 @@ rises s at next e = told_on _ _ (move_at s at) (move_told s at) next e
 
 -- ---- the answer from a position on, by what the step finds
 
-pub read_end_lem : (s : List ℕ) (at : ℕ) (read : SizRead) → move_at s at ≡ end read → siz_from s at ≡ read
+pub read_end_lem : (s : List ℕ) (at : ℕ) (read : Result SizInfo Refusal) → move_at s at ≡ end read → siz_from s at ≡ read
 unfolding siz_from
 read_end_lem s = ended_end _ (move_at s) (length s) (rises s)
 

@@ -1,14 +1,13 @@
 -- Every box of a file (docs/RULES.md, "Boxes"). A list of boxes opens a superbox, and a superbox holds a list of boxes.
-use Rattle.std.specs.Prelude.{ℕ, zero, suc, ◌+◌, ◌-◌, ◌*◌, ◌/◌, cond, ◌≡◌, List, [], ◌∷◌, ◌++◌, length, take, drop, leb}
+use Rattle.std.specs.Prelude.{ℕ, zero, suc, ◌+◌, ◌-◌, ◌*◌, ◌/◌, cond, ◌≡◌, List, [], ◌∷◌, ◌++◌, length, take, drop, leb, Option, Some, None, Result, Ok, Err}
 use Rattle.types.specs.Refusals.{refusal}
 use Rattle.types.specs.declared.Refusal.{Refusal}
 use Rattle.reader.specs.BoxRow.{box_row_bytes, end_of, rows_of}
 use Rattle.reader.specs.BoxStep.{step_at}
 use Rattle.reader.specs.declared.box_row.BoxEntry.{BoxEntry}
 use Rattle.reader.specs.declared.box_step.ListStep.{ListStep}
-use Rattle.reader.specs.declared.box_step.ListStep.TheVariants as step
-use Rattle.reader.specs.declared.boxes.Counted.{Counted}
-use Rattle.reader.specs.declared.boxes.Counted.TheVariants as answer
+use Rattle.reader.specs.declared.box_step.ListStep.TheVariants.{Plain, Superbox}
+use Rattle.types.specs.declared.Reason.TheVariants.{TableTooSmall}
 
 -- ---- lists of boxes
 
@@ -27,12 +26,12 @@ then (boxes es) rest = before es rest
 then (refused r) rest = refused r
 
 -- the box here, what it holds, and the rest of the list, from where it ends
-unfoldable pub on_step : ListStep → (BoxEntry → Listing) → (ℕ → Listing) → Listing
+unfoldable pub on_step : Result (Option ListStep) Refusal → (BoxEntry → Listing) → (ℕ → Listing) → Listing
 unfolding then before
-on_step step.End held rest = boxes []
-on_step (step.Refused r) held rest = refused r
-on_step (step.Plain e) held rest = before (e ∷ []) (rest (end_of e))
-on_step (step.Superbox e) held rest = before (e ∷ []) (then (held e) (rest (end_of e)))
+on_step (Ok None) held rest = boxes []
+on_step (Err r) held rest = refused r
+on_step (Ok (Some (Plain e))) held rest = before (e ∷ []) (rest (end_of e))
+on_step (Ok (Some (Superbox e))) held rest = before (e ∷ []) (then (held e) (rest (end_of e)))
 
 unfoldable mutual
   unfolding on_step step_at
@@ -60,9 +59,9 @@ boxes_of s = boxes_in s 1 0
 
 -- ---- answers
 
-unfoldable pub counted : Listing → Counted
-counted (boxes es) = answer.Boxes (length es)
-counted (refused r) = answer.Refused r
+unfoldable pub counted : Listing → Result ℕ Refusal
+counted (boxes es) = Ok (length es)
+counted (refused r) = Err r
 
 -- the boxes that were listed; where the listing refuses, none
 abbrev pub entries_of : Listing → List BoxEntry
@@ -73,19 +72,19 @@ abbrev pub Accepted : Listing → Type 0
 Accepted l = l ≡ boxes (entries_of l)
 
 -- 18 comes last, only where all else accepts; its place is the boxes needed
-unfoldable pub with_room : ℕ → Counted → Counted
-with_room rows (answer.Boxes n) = cond (leb n rows) (answer.Boxes n) (answer.Refused (refusal 18 n))
-with_room rows (answer.Refused r) = answer.Refused r
+unfoldable pub with_room : ℕ → Result ℕ Refusal → Result ℕ Refusal
+with_room rows (Ok n) = cond (leb n rows) (Ok n) (Err (refusal TableTooSmall n))
+with_room rows (Err r) = Err r
 
 -- the answer for a file, and a table of so many rows
-unfoldable pub listed : List ℕ → ℕ → Counted
+unfoldable pub listed : List ℕ → ℕ → Result ℕ Refusal
 unfolding boxes_in counted with_room
 listed s rows = with_room rows (counted (boxes_of s))
 
 -- the table after an answer: the boxes' rows and the rest as it was, or all as it was
-unfoldable pub written : Counted → List BoxEntry → List ℕ → List ℕ
-written (answer.Boxes n) es table = rows_of es ++ drop (box_row_bytes * n) table
-written (answer.Refused r) es table = table
+unfoldable pub written : Result ℕ Refusal → List BoxEntry → List ℕ → List ℕ
+written (Ok n) es table = rows_of es ++ drop (box_row_bytes * n) table
+written (Err r) es table = table
 
 unfoldable pub listed_table : List ℕ → List ℕ → List ℕ
 unfolding boxes_in listed written

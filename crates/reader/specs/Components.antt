@@ -1,5 +1,5 @@
 -- The components' sizes (docs/RULES.md, "Components"). SIZ stands directly behind SOC, and the rest of the header is not walked.
-use Rattle.std.specs.Prelude.{ℕ, zero, suc, ◌+◌, ◌*◌, ◌%◌, Bool, true, cond, ◌&&◌, List, length, get_or, leb, ltb, eqb}
+use Rattle.std.specs.Prelude.{ℕ, zero, suc, ◌+◌, ◌*◌, ◌%◌, Bool, true, cond, ◌&&◌, List, length, get_or, leb, ltb, eqb, Option, Some, None, Result, Ok, Err}
 use Rattle.numbers.specs.Ceiling.{ceil_div}
 use Rattle.types.specs.Markers.{SOC, SIZ}
 use Rattle.types.specs.Siz.{lsiz, csiz, component}
@@ -10,13 +10,10 @@ use Rattle.header.specs.Parse.{stands}
 use Rattle.tile.specs.Siz.{marker}
 use Rattle.tile.specs.Rules.{image_area, placed_by}
 use Rattle.tile.specs.declared.rules.Rule.{Rule}
-use Rattle.tile.specs.declared.rules.Placed.{Placed}
-use Rattle.tile.specs.declared.rules.Placed.TheVariants.{Tile, Refused}
-use Rattle.reader.specs.declared.components.ComponentsRead.{ComponentsRead}
-use Rattle.reader.specs.declared.components.ComponentsRead.TheVariants as read
 use Rattle.reader.specs.declared.components.ComponentInfo.{ComponentInfo}
-use Rattle.reader.specs.declared.components.ComponentRead.{ComponentRead}
-use Rattle.reader.specs.declared.components.ComponentRead.TheVariants as one
+use Rattle.reader.specs.declared.components.Components.{Components}
+use Rattle.types.specs.declared.Refusal.{Refusal}
+use Rattle.types.specs.declared.Reason.TheVariants.{NoSoc, NoSiz, SegmentPastEnd, ImageEndsBeforeItStarts, ComponentsNotHeld, SubsamplingOf0}
 
 -- ---- the tests
 
@@ -48,7 +45,7 @@ ordered a = leb a.x0 a.x1 && leb a.y0 a.y1
 -- ---- the check
 
 -- how many components there are, and where the image lies
-unfoldable pub components_read : List ℕ → ComponentsRead
+unfoldable pub components_read : List ℕ → Result Components Refusal
 unfolding siz_whole count_held all_apart ordered
 components_read s =
     cond (stands s 0 SOC)
@@ -56,21 +53,21 @@ components_read s =
     (cond (siz_whole s)
     (cond (count_held s)
     (cond (all_apart s (csiz s marker))
-    (cond (ordered (image_area s)) (read.Components (record { count = csiz s marker; area = image_area s }))
-    (read.Refused (refusal 22 marker)))
-    (read.Refused (refusal 25 marker)))
-    (read.Refused (refusal 24 marker)))
-    (read.Refused (refusal 3 marker)))
-    (read.Refused (refusal 2 marker)))
-    (read.Refused (refusal 1 0))
+    (cond (ordered (image_area s)) (Ok (record { count = csiz s marker; area = image_area s }))
+    (Err (refusal ImageEndsBeforeItStarts marker)))
+    (Err (refusal SubsamplingOf0 marker)))
+    (Err (refusal ComponentsNotHeld marker)))
+    (Err (refusal SegmentPastEnd marker)))
+    (Err (refusal NoSiz marker)))
+    (Err (refusal NoSoc 0))
 
 -- the same, and where a tile lies: the rule's refusal comes last
-unfoldable pub at_tile : ComponentsRead → Placed → ComponentsRead
-at_tile (read.Components c) (Tile a) = read.Components (record { count = c.count; area = a })
-at_tile (read.Components c) (Refused r) = read.Refused r
-at_tile (read.Refused r) p = read.Refused r
+unfoldable pub at_tile : Result Components Refusal → Result Area Refusal → Result Components Refusal
+at_tile (Ok c) (Ok a) = Ok (record { count = c.count; area = a })
+at_tile (Ok c) (Err r) = Err r
+at_tile (Err r) p = Err r
 
-unfoldable pub components_in_tile : Rule → List ℕ → ℕ → ComponentsRead
+unfoldable pub components_in_tile : Rule → List ℕ → ℕ → Result Components Refusal
 unfolding at_tile
 components_in_tile rule s tile = at_tile (components_read s) (placed_by rule s tile)
 
@@ -96,20 +93,20 @@ component_at s a at =
 unfoldable pub is_there : List ℕ → ℕ → Bool
 is_there s k = ltb k (csiz s marker) && (leb (component marker k + 3) (length s) && apart s (component marker k))
 
-unfoldable pub component_in : List ℕ → Area → ℕ → ComponentRead
+unfoldable pub component_in : List ℕ → Area → ℕ → Result (Option ComponentInfo) Refusal
 unfolding is_there component_at
-component_in s a k = cond (is_there s k) (one.Component (component_at s a (component marker k))) one.NoSuch
+component_in s a k = cond (is_there s k) (Ok (Some (component_at s a (component marker k)))) (Ok None)
 
 -- after a check: its refusal, or the component in the area that it gave
-unfoldable pub chosen : ComponentsRead → List ℕ → ℕ → ComponentRead
+unfoldable pub chosen : Result Components Refusal → List ℕ → ℕ → Result (Option ComponentInfo) Refusal
 unfolding component_in
-chosen (read.Components c) s k = component_in s c.area k
-chosen (read.Refused r) s k = one.Refused r
+chosen (Ok c) s k = component_in s c.area k
+chosen (Err r) s k = Err r
 
-unfoldable pub component_of : List ℕ → ℕ → ComponentRead
+unfoldable pub component_of : List ℕ → ℕ → Result (Option ComponentInfo) Refusal
 unfolding chosen
 component_of s k = chosen (components_read s) s k
 
-unfoldable pub component_in_tile : Rule → List ℕ → ℕ → ℕ → ComponentRead
+unfoldable pub component_in_tile : Rule → List ℕ → ℕ → ℕ → Result (Option ComponentInfo) Refusal
 unfolding chosen
 component_in_tile rule s tile k = chosen (components_in_tile rule s tile) s k

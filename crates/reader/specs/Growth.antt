@@ -1,10 +1,9 @@
 -- How much of a codestream is fetched for its main header (docs/RULES.md, "Growth").
-use Rattle.std.specs.Prelude.{ℕ, zero, suc, ◌+◌, ◌*◌, ◌≤◌, ◌<◌, min, Bool, true, false, cond, ◌||◌, List, [], ◌∷◌, ◌++◌, map, length, take, eqb}
+use Rattle.std.specs.Prelude.{ℕ, zero, suc, ◌+◌, ◌*◌, ◌≤◌, ◌<◌, min, Bool, true, false, cond, ◌||◌, List, [], ◌∷◌, ◌++◌, map, length, take, eqb, Option, Some, None}
 use Rattle.chain.specs.Chain.{Move, end, on, Visit, Chain, chain}
 use Rattle.header.specs.Extent.{extent_of}
-use Rattle.header.specs.declared.extent.MainHeaderExtent.{MainHeaderExtent}
-use Rattle.header.specs.declared.extent.MainHeaderExtent.TheVariants.{Complete, Truncated}
 use Rattle.reader.specs.declared.growth.Grown.{Grown}
+use Rattle.types.specs.declared.CodestreamOffset.{CodestreamOffset}
 
 -- a region, doubled and capped at the length
 unfoldable pub next_region : ℕ → ℕ → ℕ
@@ -16,9 +15,9 @@ unfolding next_region
 region_at size zero = min 65536 size
 region_at size (suc k) = next_region (region_at size k) size
 
-unfoldable pub is_complete : MainHeaderExtent → Bool
-is_complete (Complete at) = true
-is_complete Truncated = false
+unfoldable pub is_complete : Option CodestreamOffset → Bool
+is_complete (Some at) = true
+is_complete None = false
 
 -- A region suffices where it is the whole, or its extent is Complete. Either may be asked first: the Rust asks for the whole, which
 -- spares it the extent of the last region.

@@ -1,17 +1,15 @@
 -- The image's size and its samples, from the first SIZ that is met (docs/RULES.md, "SIZ reading").
-use Rattle.std.specs.Prelude.{ℕ, ◌+◌, ◌-◌, ◌%◌, Bool, cond, ◌&&◌, List, length, get_or, leb, eqb}
+use Rattle.std.specs.Prelude.{ℕ, ◌+◌, ◌-◌, ◌%◌, Bool, cond, ◌&&◌, List, length, get_or, leb, eqb, Option, Some, None, Result, Ok, Err}
 use Rattle.numbers.specs.Bytes.{be}
 use Rattle.types.specs.Markers.{SIZ}
 use Rattle.types.specs.Siz.{xsiz, ysiz, xosiz, yosiz, csiz, ssiz}
 use Rattle.types.specs.Refusals.{refusal}
 use Rattle.chain.specs.Chain.{Move, end, on, chain}
 use Rattle.reader.specs.declared.siz.SizInfo.{SizInfo}
-use Rattle.reader.specs.declared.siz.SizRead.{SizRead}
-use Rattle.reader.specs.declared.siz.SizRead.TheVariants.{Siz, Refused}
-use Rattle.reader.specs.declared.siz.SizStep.{SizStep}
-use Rattle.reader.specs.declared.siz.SizStep.TheVariants.{Ended, Next}
 use Rattle.reader.specs.declared.siz.SampleType.{SampleType}
 use Rattle.reader.specs.declared.siz.SampleType.TheVariants.{UInt8, Int8, UInt16, Int16, UInt32, Int32}
+use Rattle.types.specs.declared.Refusal.{Refusal}
+use Rattle.types.specs.declared.Reason.TheVariants.{SizCutShort, SizNotFound, ImageEndsBeforeItStarts}
 
 -- the fields of SIZ that are asked for
 unfoldable pub info_at : List ℕ → ℕ → SizInfo
@@ -25,39 +23,40 @@ info_at s at =
     }
 
 -- the SIZ at a position: 41 bytes, and neither origin past the image's far side
-unfoldable pub siz_at : List ℕ → ℕ → SizRead
+unfoldable pub siz_at : List ℕ → ℕ → Result SizInfo Refusal
 unfolding info_at
 siz_at s at =
     cond (leb (at + 41) (length s))
     (cond (leb (xosiz s at) (xsiz s at))
-    (cond (leb (yosiz s at) (ysiz s at)) (Siz (info_at s at)) (Refused (refusal 22 at)))
-    (Refused (refusal 22 at)))
-    (Refused (refusal 20 at))
+    (cond (leb (yosiz s at) (ysiz s at)) (Ok (info_at s at)) (Err (refusal ImageEndsBeforeItStarts at)))
+    (Err (refusal ImageEndsBeforeItStarts at)))
+    (Err (refusal SizCutShort at))
 
 -- a step: FF51 is read; any other FF skips its marker and its length; any other byte is skipped; too few bytes end it
-unfoldable pub move_at : List ℕ → ℕ → Move SizRead
+unfoldable pub move_at : List ℕ → ℕ → Move (Result SizInfo Refusal)
 unfolding siz_at
 move_at s at =
     cond (leb (at + 2) (length s))
     (cond (eqb (be 2 s at) SIZ) (end (siz_at s at))
     (cond (eqb (get_or s at 0) 0xff)
-    (cond (leb (at + 4) (length s)) (on (at + (2 + be 2 s (at + 2)))) (end (Refused (refusal 21 at))))
+    (cond (leb (at + 4) (length s)) (on (at + (2 + be 2 s (at + 2)))) (end (Err (refusal SizNotFound at))))
     (on (at + 1))))
-    (end (Refused (refusal 21 at)))
+    (end (Err (refusal SizNotFound at)))
 
 -- where the search from a position on ends (the first argument of a chain is never its answer)
-unfoldable pub siz_from : List ℕ → ℕ → SizRead
-siz_from s at = (chain (Refused (refusal 21 2)) (move_at s) (length s) at).ended
+unfoldable pub siz_from : List ℕ → ℕ → Result SizInfo Refusal
+siz_from s at = (chain (Err (refusal SizNotFound 2)) (move_at s) (length s) at).ended
 
 -- the search from 2 on, past SOC, which is not looked at
-unfoldable pub siz_read : List ℕ → SizRead
+unfoldable pub siz_read : List ℕ → Result SizInfo Refusal
 unfolding siz_from
 siz_read s = siz_from s 2
 
--- what the code's step says
-abbrev pub move_of : SizStep → Move SizRead
-move_of (Ended read) = end read
-move_of (Next next) = on next
+-- what the code's step says: none, where SIZ stands
+abbrev pub move_of : List ℕ → ℕ → Result (Option ℕ) Refusal → Move (Result SizInfo Refusal)
+move_of s at (Ok (Some next)) = on next
+move_of s at (Ok None) = end (siz_at s at)
+move_of s at (Err why) = end (Err why)
 
 -- ---- how samples are held
 

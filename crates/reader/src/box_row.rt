@@ -20,8 +20,7 @@ pub fn end_of(entry: BoxEntry) -> usize
     requires { end_of entry < 2 ^ 64 }
     ensures { result ≡ end_of entry }
 {
-    let from = entry.content;
-    FileOffset(from.0 + entry.length).position()
+    FileOffset(entry.content.0 + entry.length).position()
 }
 
 // The bytes of a box in a lent table: depth 1, type 4, start 8, content 8, length 8.

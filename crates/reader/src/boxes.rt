@@ -8,70 +8,49 @@ ghost use Rattle.reader.specs.Boxes.{boxes_in, contents_of, counted, Accepted, e
 
 use crate::box_row::{BoxEntry, ROW};
 use crate::box_step::ListStep;
-use types::Refusal;
-
-#[derive(Clone, Copy)]
-pub enum Counted {
-    Boxes(u64),
-    Refused(Refusal),
-}
+use types::{Reason, Refusal, refuse};
 
 // Counts the boxes of a list that fills `within` from `start` on, and of all lists that it holds.
 #[cycle(count_boxes_count_superbox)]
-fn count_boxes(within: &[u8], depth: u8, start: usize) -> Counted
+fn count_boxes(within: &[u8], depth: u8, start: usize) -> Result<u64, Refusal>
     requires { depth ≤ deepest }
     ensures { result ≡ counted (boxes_in within.now depth start) }
 {
     let mut at = start;
     let mut count: u64 = 0;
-    loop {
-        let step = crate::box_step::list_step(within, depth, at);
+    while let Some(step) = crate::box_step::list_step(within, depth, at)? {
+        count += 1;
         match step {
-            ListStep::End => return Counted::Boxes(count),
-            ListStep::Refused(refusal) => return Counted::Refused(refusal),
-            ListStep::Plain(entry) => {
-                count += 1;
-                at = crate::box_row::end_of(entry);
-            }
+            ListStep::Plain(entry) => at = crate::box_row::end_of(entry),
             ListStep::Superbox(entry) => {
-                let held = count_superbox(within, entry);
-                let Counted::Boxes(more) = held else {
-                    return held;
-                };
-                count += 1 + more;
+                count += count_superbox(within, entry)?;
                 at = crate::box_row::end_of(entry);
             }
         }
     }
+    Ok(count)
 }
 
 // Counts the boxes that a superbox holds.
 #[cycle(count_boxes_count_superbox)]
-fn count_superbox(within: &[u8], entry: BoxEntry) -> Counted
+fn count_superbox(within: &[u8], entry: BoxEntry) -> Result<u64, Refusal>
     requires depth_lt_deepest { entry.depth < deepest }
     requires in_bounds { end_of entry ≤ length within.now }
     ensures { result ≡ counted (contents_of within.now entry) }
 {
     let to = crate::box_row::end_of(entry);
-    let from = entry.content;
-    count_boxes(&within[..to], entry.depth + 1, from.position())
+    count_boxes(&within[..to], entry.depth + 1, entry.content.position())
 }
 
 // What a listing into a table of so many rows answers.
-fn decide(file: &[u8], rows: u64) -> Counted
+fn decide(file: &[u8], rows: u64) -> Result<u64, Refusal>
     ensures { result ≡ listed file.now rows }
 {
-    let judgement = count_boxes(file, 1, 0);
-    let Counted::Boxes(count) = judgement else {
-        return judgement;
-    };
+    let count = count_boxes(file, 1, 0)?;
     if rows < count {
-        return Counted::Refused(Refusal {
-            number: 18,
-            place: count,
-        });
+        return refuse(Reason::TableTooSmall, count);
     }
-    judgement
+    Ok(count)
 }
 
 // Writes the boxes of a list, and of all lists that it holds, one row after the other; gives where the rows end. A table that has no
@@ -86,14 +65,11 @@ fn fill_boxes(within: &[u8], depth: u8, start: usize, table: &mut [u8], first: u
 {
     let mut at = start;
     let mut row = first;
-    loop {
-        if table.len() - row < ROW {
+    while ROW <= table.len() - row {
+        let Some(step) = crate::box_step::list_step(within, depth, at).unwrap_or(None) else {
             return row;
-        }
-        let step = crate::box_step::list_step(within, depth, at);
+        };
         match step {
-            ListStep::End => return row,
-            ListStep::Refused(_refusal) => return row,
             ListStep::Plain(entry) => {
                 crate::box_row::write_row(table, row, entry);
                 row += ROW;
@@ -106,6 +82,7 @@ fn fill_boxes(within: &[u8], depth: u8, start: usize, table: &mut [u8], first: u
             }
         }
     }
+    row
 }
 
 // Writes the boxes that a superbox holds.
@@ -119,25 +96,21 @@ fn fill_superbox(within: &[u8], entry: BoxEntry, table: &mut [u8], first: usize)
     ensures table_after { table.new ≡ put table.old first (rows_of (entries_of (contents_of within.now entry))) }
 {
     let to = crate::box_row::end_of(entry);
-    let from = entry.content;
     fill_boxes(
         &within[..to],
         entry.depth + 1,
-        from.position(),
+        entry.content.position(),
         table,
         first,
     )
 }
 
 // Every box of a file, in file order. The table has a row for each 29 bytes.
-pub fn list_boxes(file: &[u8], table: &mut [u8]) -> Counted
+pub fn list_boxes(file: &[u8], table: &mut [u8]) -> Result<u64, Refusal>
     ensures value { result ≡ listed file.now (length table.old / box_row_bytes) }
     ensures table_after { table.new ≡ listed_table file.now table.old }
 {
-    let answer = decide(file, (table.len() / ROW) as u64);
-    let Counted::Boxes(_count) = answer else {
-        return answer;
-    };
-    let _end = fill_boxes(file, 1, 0, table, 0);
-    answer
+    let count = decide(file, (table.len() / ROW) as u64)?;
+    fill_boxes(file, 1, 0, table, 0);
+    Ok(count)
 }

@@ -2,27 +2,20 @@
 ghost use Rattle.std.specs.Prelude.{◌≡◌, true, ◌+◌, ◌*◌, ◌≤◌, ◌<◌, length};
 ghost use Rattle.numbers.specs.Ceiling.{ceil_div};
 ghost use Rattle.types.specs.Siz.{component};
-ghost use Rattle.types.specs.Refusals.{refusal};
 ghost use Rattle.tile.specs.Siz.{marker};
-ghost use Rattle.reader.specs.Components.{siz_whole, count_held, apart, all_apart, components_read, components_in_tile, divided, component_at, component_in, chosen, component_of, component_in_tile};
+ghost use Rattle.reader.specs.Components.{siz_whole, count_held, apart, all_apart, components_read, components_in_tile, divided, component_at, component_in, component_of, component_in_tile};
 
 use header::step::HeaderStep;
-use tile::rules::{Placed, Rule};
+use tile::rules::Rule;
 use tile::siz::MARKER;
 use types::markers::{SIZ, SOC};
-use types::{Area, Refusal, siz};
+use types::{Area, Reason, Refusal, refuse, siz};
 
 // What the check tells: how many components there are, and where the image or the tile lies on the reference grid.
 #[derive(Clone, Copy)]
 pub struct Components {
     pub count: u16,
     pub area: Area,
-}
-
-#[derive(Clone, Copy)]
-pub enum ComponentsRead {
-    Components(Components),
-    Refused(Refusal),
 }
 
 // A component's samples, and its part of an area, counted in them.
@@ -33,20 +26,6 @@ pub struct ComponentInfo {
     pub xrsiz: u8,
     pub yrsiz: u8,
     pub area: Area,
-}
-
-#[derive(Clone, Copy)]
-pub enum ComponentRead {
-    Component(ComponentInfo),
-    // The number is past the last.
-    NoSuch,
-    Refused(Refusal),
-}
-
-fn refuse(number: u32, place: u64) -> ComponentsRead
-    ensures { result ≡ ComponentsRead.Refused (refusal number place) }
-{
-    ComponentsRead::Refused(Refusal { number, place })
 }
 
 // Whether SIZ's length is that of as many components as it counts.
@@ -75,62 +54,45 @@ fn are_apart(codestream: &[u8], count: u16) -> bool
     requires { component marker count ≤ length codestream.now }
     ensures { result ≡ all_apart codestream.now count }
 {
-    let all = count as usize;
-    let mut k: usize = 0;
-    while k < all {
-        if !is_apart(codestream, MARKER + siz::SSIZ + siz::COMPONENT * k) {
-            return false;
-        }
-        k += 1;
-    }
-    true
+    (0..count as usize).all(|k| is_apart(codestream, MARKER + siz::SSIZ + siz::COMPONENT * k))
 }
 
-pub fn read_components(codestream: &[u8]) -> ComponentsRead
+pub fn read_components(codestream: &[u8]) -> Result<Components, Refusal>
     ensures { result ≡ components_read codestream.now }
 {
     if !header::parse::marker_stands(codestream, 0, SOC) {
-        return refuse(1, 0);
+        return refuse(Reason::NoSoc, 0);
     }
     if !header::parse::marker_stands(codestream, MARKER, SIZ) {
-        return refuse(2, MARKER as u64);
+        return refuse(Reason::NoSiz, MARKER as u64);
     }
-    let step = header::step::header_step(codestream, MARKER);
-    let HeaderStep::Segment(_) = step else {
-        return refuse(3, MARKER as u64);
+    let HeaderStep::Segment(_) = header::step::header_step(codestream, MARKER) else {
+        return refuse(Reason::SegmentPastEnd, MARKER as u64);
     };
     if !count_held(codestream) {
-        return refuse(24, MARKER as u64);
+        return refuse(Reason::ComponentsNotHeld, MARKER as u64);
     }
     let count = numbers::read_u16(codestream, MARKER + siz::CSIZ);
     if !are_apart(codestream, count) {
-        return refuse(25, MARKER as u64);
+        return refuse(Reason::SubsamplingOf0, MARKER as u64);
     }
     let area = tile::rules::image_area(codestream);
-    if area.x1 < area.x0 {
-        return refuse(22, MARKER as u64);
+    if area.x1 < area.x0 || area.y1 < area.y0 {
+        return refuse(Reason::ImageEndsBeforeItStarts, MARKER as u64);
     }
-    if area.y1 < area.y0 {
-        return refuse(22, MARKER as u64);
-    }
-    ComponentsRead::Components(Components { count, area })
+    Ok(Components { count, area })
 }
 
-pub fn read_components_in_tile(codestream: &[u8], tile: u16, rule: Rule) -> ComponentsRead
+pub fn read_components_in_tile(
+    codestream: &[u8],
+    tile: u16,
+    rule: Rule,
+) -> Result<Components, Refusal>
     ensures { result ≡ components_in_tile rule codestream.now tile }
 {
-    let read = read_components(codestream);
-    let ComponentsRead::Components(components) = read else {
-        return read;
-    };
-    let area = match tile::rules::place(codestream, tile, rule) {
-        Placed::Tile(area) => area,
-        Placed::Refused(refusal) => return ComponentsRead::Refused(refusal),
-    };
-    ComponentsRead::Components(Components {
-        count: components.count,
-        area,
-    })
+    let count = read_components(codestream)?.count;
+    let area = tile::rules::place(codestream, tile, rule)?;
+    Ok(Components { count, area })
 }
 
 // A place of the reference grid in samples that lie so far apart.
@@ -171,50 +133,42 @@ fn component_at(codestream: &[u8], area: Area, at: usize) -> ComponentInfo
 }
 
 // One component by itself, in an area that a check gave: it asks for no more than its own bytes.
-pub fn component_within(codestream: &[u8], area: Area, number: u64) -> ComponentRead
+pub fn component_within(
+    codestream: &[u8],
+    area: Area,
+    number: u64,
+) -> Result<Option<ComponentInfo>, Refusal>
     ensures { result ≡ component_in codestream.now area number }
 {
-    if codestream.len() < MARKER + siz::SSIZ {
-        return ComponentRead::NoSuch;
-    }
-    if numbers::read_u16(codestream, MARKER + siz::CSIZ) as u64 <= number {
-        return ComponentRead::NoSuch;
+    if codestream.len() < MARKER + siz::SSIZ
+        || numbers::read_u16(codestream, MARKER + siz::CSIZ) as u64 <= number
+    {
+        return Ok(None);
     }
     let at = MARKER + siz::SSIZ + siz::COMPONENT * (number as usize);
-    if codestream.len() < at + siz::COMPONENT {
-        return ComponentRead::NoSuch;
+    if codestream.len() < at + siz::COMPONENT || !is_apart(codestream, at) {
+        return Ok(None);
     }
-    if !is_apart(codestream, at) {
-        return ComponentRead::NoSuch;
-    }
-    ComponentRead::Component(component_at(codestream, area, at))
+    Ok(Some(component_at(codestream, area, at)))
 }
 
-fn choose(read: ComponentsRead, codestream: &[u8], number: u64) -> ComponentRead
-    ensures { result ≡ chosen read codestream.now number }
-{
-    match read {
-        ComponentsRead::Components(components) => component_within(
-            codestream,
-            components.area,
-            number,
-        ),
-        ComponentsRead::Refused(refusal) => ComponentRead::Refused(refusal),
-    }
-}
-
-pub fn component(codestream: &[u8], number: u64) -> ComponentRead
+pub fn component(codestream: &[u8], number: u64) -> Result<Option<ComponentInfo>, Refusal>
     ensures { result ≡ component_of codestream.now number }
 {
-    choose(read_components(codestream), codestream, number)
+    component_within(codestream, read_components(codestream)?.area, number)
 }
 
-pub fn component_in_tile(codestream: &[u8], tile: u16, rule: Rule, number: u64) -> ComponentRead
+pub fn component_in_tile(
+    codestream: &[u8],
+    tile: u16,
+    rule: Rule,
+    number: u64,
+) -> Result<Option<ComponentInfo>, Refusal>
     ensures { result ≡ component_in_tile rule codestream.now tile number }
 {
-    choose(
-        read_components_in_tile(codestream, tile, rule),
+    component_within(
         codestream,
+        read_components_in_tile(codestream, tile, rule)?.area,
         number,
     )
 }

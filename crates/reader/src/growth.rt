@@ -2,8 +2,6 @@
 ghost use Rattle.std.specs.Prelude.{◌≡◌};
 ghost use Rattle.reader.specs.Growth.{next_region, grown};
 
-use header::extent::MainHeaderExtent;
-
 const FIRST_REGION: u64 = 65_536;
 
 #[derive(Clone, Copy)]
@@ -18,28 +16,18 @@ pub struct Grown {
 pub fn next_region(region: u64, length: u64) -> u64
     ensures { result ≡ next_region region length }
 {
-    if region <= length / 2 {
-        2 * region
-    } else {
-        length
-    }
+    region.saturating_mul(2).min(length)
 }
 
 pub fn grow_header_region(codestream: &[u8]) -> Grown
     ensures { result ≡ grown codestream.now }
 {
     let length = codestream.len() as u64;
-    let mut region = numbers::minimum(FIRST_REGION, length);
+    let mut region = FIRST_REGION.min(length);
     let mut enlargements: u32 = 0;
-    while region != length {
-        let end = region as usize;
-        let extent = header::extent::main_header_extent(&codestream[..end]);
-        if let MainHeaderExtent::Complete(_) = extent {
-            return Grown {
-                region,
-                enlargements,
-            };
-        }
+    while region != length
+        && header::extent::main_header_extent(&codestream[..region as usize]).is_none()
+    {
         region = next_region(region, length);
         enlargements += 1;
     }

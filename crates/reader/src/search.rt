@@ -1,20 +1,19 @@
 // Where a file holds its codestream: in the first jp2c box, or from the start on (docs/RULES.md, "Codestream search").
 // Boxes are those of ISO/IEC 15444-1, annex I.4.
 ghost use Rattle.std.specs.Prelude.{◌≡◌};
-ghost use Rattle.types.specs.Refusals.{refusal};
-ghost use Rattle.reader.specs.Search.{box_at, is_jp2, content, passed, move_of, move_at, found_from, found_in, content_of};
+ghost use Rattle.reader.specs.Search.{box_at, is_jp2, content, passed, move_of, found_from, found_in, content_of};
 
 use types::markers::SOC;
-use types::{CodestreamOffset, FileOffset, InCodestream, InFile, Refusal};
+use types::{FileOffset, Reason, Refusal, refuse};
 
 // The type of the box that holds the codestream: "jp2c".
 const JP2C: u32 = 0x6a70_3263;
 
+// Where the codestream starts, and its length.
 #[derive(Clone, Copy)]
-pub enum Found {
-    // Where it starts, and its length.
-    Codestream(FileOffset, u64),
-    Refused(Refusal),
+pub struct Codestream {
+    pub start: FileOffset,
+    pub length: u64,
 }
 
 // A box's type, the length of its header, and its own length, header included.
@@ -25,120 +24,85 @@ pub struct BoxHeader {
     pub length: u64,
 }
 
-#[derive(Clone, Copy)]
-pub enum BoxRead {
-    Box(BoxHeader),
+// Why no box was read.
+#[derive(Clone, Copy, PartialEq, Eq)]
+pub enum NoBox {
     // Fewer than 8 bytes are left.
     End,
     // The length stands in 8 bytes more, and fewer are left.
     CutShort,
 }
 
-// A step of the search: it ends with an answer, or goes on from a later position, which may lie past the end.
-#[derive(Clone, Copy)]
-enum BoxStep {
-    Ended(Found),
-    Next(usize),
-}
-
-fn refuse(number: u32, place: u64) -> Found
-    ensures { result ≡ Found.Refused (refusal number place) }
-{
-    Found::Refused(Refusal { number, place })
-}
-
-pub fn box_at(file: &[u8], at: usize) -> BoxRead
+pub fn box_at(file: &[u8], at: usize) -> Result<BoxHeader, NoBox>
     ensures { result ≡ box_at file.now at }
 {
-    let left = numbers::clamped_sub(file.len() as u64, at as u64);
+    let left = file.len().saturating_sub(at) as u64;
     if left < 8 {
-        return BoxRead::End;
+        return Err(NoBox::End);
     }
     let length = numbers::read_u32(file, at);
     let kind = numbers::read_u32(file, at + 4);
     if length == 1 {
         if left < 16 {
-            return BoxRead::CutShort;
+            return Err(NoBox::CutShort);
         }
-        let length = numbers::read_u64(file, at + 8);
-        return BoxRead::Box(BoxHeader {
+        return Ok(BoxHeader {
             kind,
             header: 16,
-            length,
+            length: numbers::read_u64(file, at + 8),
         });
     }
-    if length == 0 {
-        return BoxRead::Box(BoxHeader {
-            kind,
-            header: 8,
-            length: left,
-        });
-    }
-    BoxRead::Box(BoxHeader {
+    Ok(BoxHeader {
         kind,
         header: 8,
-        length: length as u64,
+        length: if length == 0 { left } else { length as u64 },
     })
 }
 
 // What a jp2c box at a place of a file of a size holds.
-fn content_of_box(size: u64, at: u64, found: BoxHeader) -> Found
+fn content_of_box(size: u64, at: u64, found: BoxHeader) -> Result<Codestream, Refusal>
     ensures { result ≡ content size at found }
 {
     if found.length < found.header {
-        return refuse(15, at);
+        return refuse(Reason::CodestreamBoxTooShort, at);
     }
-    if 0xffff_ffff_ffff_ffff - at < found.length {
-        return refuse(16, at);
-    }
-    let start = FileOffset(at + found.header);
-    let end = FileOffset(numbers::minimum(at + found.length, size));
-    match end.in_codestream(start) {
-        InCodestream::At(length) => Found::Codestream(start, length.0),
-        InCodestream::Before => Found::Codestream(start, 0),
-    }
+    let Some(end) = at.checked_add(found.length) else {
+        return refuse(Reason::BoxTooLong, at);
+    };
+    let start = at + found.header;
+    Ok(Codestream {
+        start: FileOffset(start),
+        length: end.min(size).saturating_sub(start),
+    })
 }
 
-// Past a box of another type.
-fn pass_box(at: usize, found: BoxHeader) -> BoxStep
+// Where a box of another type ends.
+fn pass_box(at: usize, found: BoxHeader) -> Result<usize, Refusal>
     ensures { move_of result ≡ passed at found }
 {
     if found.length < found.header {
-        return BoxStep::Ended(refuse(14, at as u64));
+        return refuse(Reason::NoCodestreamBox, at as u64);
     }
-    if 0xffff_ffff_ffff_ffff - (at as u64) < found.length {
-        return BoxStep::Ended(refuse(16, at as u64));
-    }
-    BoxStep::Next(at + found.length as usize)
-}
-
-fn box_step(file: &[u8], at: usize) -> BoxStep
-    ensures { move_of result ≡ move_at file.now at }
-{
-    let read = box_at(file, at);
-    match read {
-        BoxRead::End => BoxStep::Ended(refuse(14, at as u64)),
-        BoxRead::CutShort => BoxStep::Ended(refuse(13, at as u64)),
-        BoxRead::Box(found) => {
-            if found.kind == JP2C {
-                BoxStep::Ended(content_of_box(file.len() as u64, at as u64, found))
-            } else {
-                pass_box(at, found)
-            }
-        }
+    match at.checked_add(found.length as usize) {
+        Some(end) => Ok(end),
+        None => refuse(Reason::BoxTooLong, at as u64),
     }
 }
 
-fn find_jp2c(file: &[u8]) -> Found
+fn find_jp2c(file: &[u8]) -> Result<Codestream, Refusal>
     ensures { result ≡ found_from file.now 0 }
 {
     let mut at: usize = 0;
     loop {
-        let step = box_step(file, at);
-        match step {
-            BoxStep::Ended(found) => return found,
-            BoxStep::Next(next) => at = next,
+        let found = match box_at(file, at) {
+            Ok(found) => found,
+            Err(NoBox::End) => return refuse(Reason::NoCodestreamBox, at as u64),
+            Err(NoBox::CutShort) => return refuse(Reason::BoxCutShort, at as u64),
+        };
+        if found.kind == JP2C {
+            return content_of_box(file.len() as u64, at as u64, found);
         }
+        at = pass_box(at, found)?;
     }
 }
 
@@ -146,43 +110,36 @@ fn find_jp2c(file: &[u8]) -> Found
 fn is_jp2(file: &[u8]) -> bool
     ensures { result ≡ is_jp2 file.now }
 {
-    if file.len() < 12 {
-        return false;
-    }
-    if numbers::read_u64(file, 0) != 0x0000_000c_6a50_2020 {
-        return false;
-    }
-    numbers::read_u32(file, 8) == 0x0d0a_870a
+    12 <= file.len()
+        && (numbers::read_u64(file, 0) == 0x0000_000c_6a50_2020
+            && numbers::read_u32(file, 8) == 0x0d0a_870a)
 }
 
-pub fn find_codestream(file: &[u8]) -> Found
+pub fn find_codestream(file: &[u8]) -> Result<Codestream, Refusal>
     ensures { result ≡ found_in file.now }
 {
     if file.len() < 2 {
-        return refuse(11, 0);
+        return refuse(Reason::FileTooShort, 0);
     }
     if is_jp2(file) {
         return find_jp2c(file);
     }
     if numbers::read_u16(file, 0) != SOC {
-        return refuse(12, 0);
+        return refuse(Reason::NotJpeg2000, 0);
     }
-    Found::Codestream(FileOffset(0), file.len() as u64)
+    Ok(Codestream {
+        start: FileOffset(0),
+        length: file.len() as u64,
+    })
 }
 
 // The codestream as a part of the file; where the search refuses, an empty one.
 pub fn codestream_of(file: &[u8]) -> &[u8]
     ensures { result.now ≡ content_of file.now }
 {
-    let found = find_codestream(file);
-    let Found::Codestream(start, length) = found else {
+    let Ok(found) = find_codestream(file) else {
         return &file[..0];
     };
-    let end = CodestreamOffset(length).in_file(start);
-    let InFile::At(stop) = end else {
-        return &file[..0];
-    };
-    let from = start.position();
-    let to = stop.position();
-    &file[from..to]
+    let from = found.start.position();
+    &file[from..from + found.length as usize]
 }

@@ -2,28 +2,10 @@
 ghost use Rattle.std.specs.Prelude.{◌≡◌};
 ghost use Rattle.parts.specs.Order.{in_order};
 
-use parts::order::Order;
 use types::TilePartEntry;
 
 pub fn tile_in_order(table: &[TilePartEntry], tile: u16) -> bool
     ensures { result ≡ in_order tile table.now }
 {
-    let mut passed: u64 = 0;
-    let mut given: u8 = 0;
-    let mut i: usize = 0;
-    while i < table.len() {
-        let entry = table[i];
-        let step = parts::order::order_step(entry, tile, passed, given);
-        let Order::Due {
-            passed: more,
-            given: told,
-        } = step
-        else {
-            return false;
-        };
-        passed = more;
-        given = told;
-        i += 1;
-    }
-    parts::order::order_end(passed, given)
+    parts::order::in_order(table, tile)
 }

@@ -8,21 +8,19 @@ ghost use Rattle.records.specs.MainHeader.{records_after};
 ghost use Rattle.records.specs.Scan.{scanned_records};
 ghost use Rattle.records.specs.Tables.{blank};
 
-use header::parse::MainHeader;
+use header::parse::MainHeaderInfo;
 use header::reading::Reading;
-use index::extend::Indexed;
-use parts::scan::Scanned;
-use types::{CodestreamOffset, PartNumbers, TilePartEntry};
+use types::{CodestreamOffset, PartNumbers, Refusal, TilePartEntry};
 
 #[derive(Drop)]
 pub struct ScanTable {
-    pub answer: Scanned,
+    pub answer: Result<u64, Refusal>,
     pub table: [TilePartEntry; 2048],
 }
 
 #[derive(Drop)]
 pub struct HeaderTable {
-    pub answer: MainHeader,
+    pub answer: Result<MainHeaderInfo, Refusal>,
     pub table: [TilePartEntry; 2048],
 }
 
@@ -38,13 +36,13 @@ pub fn new_table() -> [TilePartEntry; 2048]
     [none; 2048]
 }
 
-fn scan_with(answer: Scanned, table: [TilePartEntry; 2048]) -> ScanTable
+fn scan_with(answer: Result<u64, Refusal>, table: [TilePartEntry; 2048]) -> ScanTable
     ensures { (result.answer ≡ answer) × (result.table ≡ table) }
 {
     ScanTable { answer, table }
 }
 
-fn header_with(answer: MainHeader, table: [TilePartEntry; 2048]) -> HeaderTable
+fn header_with(answer: Result<MainHeaderInfo, Refusal>, table: [TilePartEntry; 2048]) -> HeaderTable
     ensures { (result.answer ≡ answer) × (result.table ≡ table) }
 {
     HeaderTable { answer, table }
@@ -54,7 +52,7 @@ fn header_with(answer: MainHeader, table: [TilePartEntry; 2048]) -> HeaderTable
 fn at_most(rows: usize) -> usize
     ensures { result ≡ min rows 2048 }
 {
-    numbers::minimum(rows as u64, 2048) as usize
+    rows.min(2048)
 }
 
 // The scan into the first `rows` records of a table.
@@ -111,7 +109,7 @@ pub fn index_within(
     have: usize,
     index: &mut [u64],
     scratch: &mut [u64],
-) -> Indexed
+) -> Result<u64, Refusal>
     ensures value { result ≡ extended (min rows 2048) have (length index.old) (length scratch.old) }
     ensures index_after { index.new ≡ index_after result (take (min rows 2048) table) (old_of have (min rows 2048)) index.old }
     ensures scratch_after { scratch.new ≡ scratch_after result (take (min rows 2048) table) (old_of have (min rows 2048)) scratch.old }

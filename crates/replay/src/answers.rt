@@ -1,8 +1,5 @@
 // The answers without a table of tile-parts, one function for each kind of case.
 use crate::print;
-use header::extent::MainHeaderExtent;
-use reader::search::Found;
-use reader::siz::{SampleType, SizRead};
 use reader::{box_row, components};
 use std::io;
 use std::io::Write;
@@ -12,20 +9,17 @@ use types::{Area, ROW};
 // The payload is the prefix.
 pub(crate) fn extent<W: Write>(out: &mut W, prefix: &[u8]) -> io::Result<()> {
     match header::extent::main_header_extent(prefix) {
-        MainHeaderExtent::Complete(first_sot) => {
-            print::text(out, b"extent complete")?;
-            print::number(out, first_sot.0)
-        }
-        MainHeaderExtent::Truncated => print::text(out, b"extent truncated"),
+        Some(first_sot) => write!(out, "extent complete {}", first_sot.0),
+        None => write!(out, "extent truncated"),
     }
 }
 
 // The payload is the marker, 2 bytes, and the codestream.
 pub(crate) fn marker<W: Write>(out: &mut W, payload: &[u8]) -> io::Result<()> {
     if payload.len() < 2 {
-        return print::text(out, b"unknown kind");
+        return print::unknown(out);
     }
-    print::text(out, b"marker")?;
+    write!(out, "marker")?;
     print::finding(
         out,
         header::find::find_marker(&payload[2..], numbers::read_u16(payload, 0)),
@@ -35,9 +29,9 @@ pub(crate) fn marker<W: Write>(out: &mut W, payload: &[u8]) -> io::Result<()> {
 // The payload is the header's region, 8 bytes, and the codestream.
 pub(crate) fn length_table<W: Write>(out: &mut W, payload: &[u8]) -> io::Result<()> {
     if payload.len() < 8 {
-        return print::text(out, b"unknown kind");
+        return print::unknown(out);
     }
-    print::text(out, b"check")?;
+    write!(out, "check")?;
     print::checked(
         out,
         lengths::check::check_length_table(&payload[8..], numbers::read_u64(payload, 0)),
@@ -47,49 +41,47 @@ pub(crate) fn length_table<W: Write>(out: &mut W, payload: &[u8]) -> io::Result<
 // The payload is the tile's buffer.
 pub(crate) fn split<W: Write>(out: &mut W, tile: &[u8]) -> io::Result<()> {
     let count = parts::split::split_count(tile);
-    print::text(out, b"split")?;
-    print::number(out, count as u64)?;
+    write!(out, "split {count}")?;
     for k in 0..count {
-        print::number(out, parts::split::split_part(tile, k).len() as u64)?;
+        write!(out, " {}", parts::split::split_part(tile, k).len())?;
     }
     Ok(())
 }
 
 // The rule that the answers of a kind go by, in its line.
-fn name<W: Write>(out: &mut W, rule: Rule) -> io::Result<()> {
+fn name(rule: Rule) -> &'static str {
     match rule {
-        Rule::AnnexB => print::text(out, b"-b"),
-        Rule::Original => Ok(()),
-        Rule::InPlace => print::text(out, b"-p"),
+        Rule::AnnexB => "-b",
+        Rule::Original => "",
+        Rule::InPlace => "-p",
     }
 }
 
 // The payload is the index, 2 bytes, and the header.
 pub(crate) fn rewrite<W: Write>(out: &mut W, payload: &[u8], rule: Rule) -> io::Result<()> {
     if payload.len() < 2 {
-        return print::text(out, b"unknown kind");
+        return print::unknown(out);
     }
     let isot = numbers::read_u16(payload, 0);
     let mut bytes = crate::large_buffer();
     let answer = tile::rewrite::rewrite_siz_for_tile(&payload[2..], isot, rule, &mut bytes);
-    print::text(out, b"rewrite")?;
-    name(out, rule)?;
+    write!(out, "rewrite{}", name(rule))?;
     print::written(out, answer, &bytes)
 }
 
 // The payload is the header's length, 4 bytes, the header, the number of rows, 2 bytes, the rows, and the codestream.
 pub(crate) fn assembly<W: Write>(out: &mut W, payload: &[u8], rule: Rule) -> io::Result<()> {
     if payload.len() < 4 {
-        return print::text(out, b"unknown kind");
+        return print::unknown(out);
     }
     let header_end = 4 + numbers::read_u32(payload, 0) as usize;
     let from = header_end + 2;
     if payload.len() < from {
-        return print::text(out, b"unknown kind");
+        return print::unknown(out);
     }
     let to = from + numbers::read_u16(payload, header_end) as usize * ROW;
     if payload.len() < to {
-        return print::text(out, b"unknown kind");
+        return print::unknown(out);
     }
     assemble(
         out,
@@ -111,31 +103,26 @@ fn assemble<W: Write>(
     let answer = tile::assembly::build_minimal_codestream(
         header, rows, codestream, rule, &mut bytes,
     );
-    print::text(out, b"assembly")?;
-    name(out, rule)?;
+    write!(out, "assembly{}", name(rule))?;
     print::written(out, answer, &bytes)
 }
 
 // The payload is the file.
 pub(crate) fn search<W: Write>(out: &mut W, file: &[u8]) -> io::Result<()> {
-    print::text(out, b"search")?;
     match reader::search::find_codestream(file) {
-        Found::Codestream(start, size) => {
-            print::number(out, start.0)?;
-            print::number(out, size)
-        }
-        Found::Refused(_) => print::text(out, b" refused"),
+        Ok(found) => write!(out, "search {} {}", found.start.0, found.length),
+        Err(_) => write!(out, "search refused"),
     }
 }
 
 // The payload is how many rows the table has, 2 bytes, and the file.
 pub(crate) fn boxes<W: Write>(out: &mut W, payload: &[u8]) -> io::Result<()> {
     if payload.len() < 2 {
-        return print::text(out, b"unknown kind");
+        return print::unknown(out);
     }
     let size = numbers::read_u16(payload, 0) as usize * box_row::ROW;
     if 0x1_0000 < size {
-        return print::text(out, b"unknown kind");
+        return print::unknown(out);
     }
     let mut table = crate::large_buffer();
     list_boxes(out, &payload[2..], &mut table[..size])
@@ -143,54 +130,49 @@ pub(crate) fn boxes<W: Write>(out: &mut W, payload: &[u8]) -> io::Result<()> {
 
 fn list_boxes<W: Write>(out: &mut W, file: &[u8], table: &mut [u8]) -> io::Result<()> {
     let answer = reader::boxes::list_boxes(file, table);
-    print::text(out, b"boxes")?;
+    write!(out, "boxes")?;
     print::boxes(out, answer, table)
 }
 
 // The payload is the codestream.
 pub(crate) fn siz<W: Write>(out: &mut W, codestream: &[u8]) -> io::Result<()> {
-    print::text(out, b"siz")?;
-    let SizRead::Siz(info) = reader::siz::parse_siz_marker(codestream) else {
-        return print::text(out, b" refused");
+    let Ok(info) = reader::siz::parse_siz_marker(codestream) else {
+        return write!(out, "siz refused");
     };
-    print::number(out, info.width as u64)?;
-    print::number(out, info.height as u64)?;
-    print::number(out, info.num_components as u64)?;
-    print::number(out, info.bits_per_component as u64)?;
-    print::number(out, if info.is_signed { 1 } else { 0 })?;
-    let sample = reader::siz::pixel_type_from_siz(info.bits_per_component, info.is_signed);
-    print::number(
+    let bits = info.bits_per_component;
+    let signed = info.is_signed;
+    let sample = reader::siz::pixel_type_from_siz(bits, signed);
+    write!(
         out,
-        match sample {
-            SampleType::UInt8 => 0,
-            SampleType::Int8 => 1,
-            SampleType::UInt16 => 2,
-            SampleType::Int16 => 3,
-            SampleType::UInt32 => 4,
-            SampleType::Int32 => 5,
-        },
+        "siz {} {} {} {bits} {} {}",
+        info.width,
+        info.height,
+        info.num_components,
+        u64::from(signed),
+        sample as u32
     )
 }
 
 // The payload is the region and the codestream's length, 8 bytes each.
 pub(crate) fn growth<W: Write>(out: &mut W, payload: &[u8]) -> io::Result<()> {
     if payload.len() != 16 {
-        return print::text(out, b"unknown kind");
+        return print::unknown(out);
     }
-    print::text(out, b"growth")?;
     let region = numbers::read_u64(payload, 0);
-    print::number(
+    let length = numbers::read_u64(payload, 8);
+    write!(
         out,
-        reader::growth::next_region(region, numbers::read_u64(payload, 8)),
+        "growth {}",
+        reader::growth::next_region(region, length)
     )
 }
 
 // The payload is the tile's index, 2 bytes, the component's number, 8 bytes, and the codestream.
 pub(crate) fn component_sizes<W: Write>(out: &mut W, payload: &[u8]) -> io::Result<()> {
     if payload.len() < 10 {
-        return print::text(out, b"unknown kind");
+        return print::unknown(out);
     }
-    print::text(out, b"components")?;
+    write!(out, "components")?;
     sizes_of(
         out,
         &payload[10..],
@@ -202,19 +184,19 @@ pub(crate) fn component_sizes<W: Write>(out: &mut W, payload: &[u8]) -> io::Resu
 // In the image, in the tile, and in an area that is the same for every case.
 fn sizes_of<W: Write>(out: &mut W, codestream: &[u8], tile: u16, number: u64) -> io::Result<()> {
     print::components(out, components::read_components(codestream))?;
-    print::text(out, b",")?;
+    write!(out, ",")?;
     print::components(
         out,
         components::read_components_in_tile(codestream, tile, Rule::AnnexB),
     )?;
-    print::text(out, b",")?;
+    write!(out, ",")?;
     print::component(out, components::component(codestream, number))?;
-    print::text(out, b",")?;
+    write!(out, ",")?;
     print::component(
         out,
         components::component_in_tile(codestream, tile, Rule::AnnexB, number),
     )?;
-    print::text(out, b",")?;
+    write!(out, ",")?;
     let area = Area {
         x0: 1,
         y0: 254,

@@ -4,101 +4,75 @@ ghost use Rattle.std.specs.Prelude.{◌≡◌, length};
 use crate::{print, tables};
 use std::io;
 use std::io::Write;
+use types::table::Element;
 use types::{CodestreamOffset, TilePartEntry};
 
 // The payload is the tile's index and how many entries are old, 2 bytes each, and the codestream, whose tile-parts start at 0.
 pub(crate) fn rows<W: Write>(out: &mut W, payload: &[u8]) -> io::Result<()> {
     if payload.len() < 4 {
-        return print::text(out, b"unknown kind");
+        return print::unknown(out);
     }
-    let mut table = tables::new_table();
+    let tile = numbers::read_u16(payload, 0);
+    let old = numbers::read_u16(payload, 2);
+    let mut table = tables::new_rows();
     let answer = parts::scan::scan_sot_markers(&payload[4..], CodestreamOffset(0), &mut table);
     let entries = print::scan(out, answer)?;
-    rows_by(
-        out,
-        tables::first_rows(&table, entries),
-        numbers::read_u16(payload, 2),
-        numbers::read_u16(payload, 0),
-    )
+    rows_of(out, tables::first(&table, entries), old, tile)
 }
 
-// The index of the rows that are old, extended to all.
-fn rows_by<W: Write>(out: &mut W, table: &[u8], old: u16, tile: u16) -> io::Result<()> {
+fn rows_of<W: Write>(out: &mut W, table: &[u8], old: u16, tile: u16) -> io::Result<()> {
     let mut index = new_index();
-    let mut scratch = new_index();
-    let early = tables::first_rows(table, old as u64);
-    index::extend::index_tiles(early, &mut index, &mut scratch);
-    let answer = index::extend::extend_index(table, old as usize, &mut index, &mut scratch);
-    let keys = print::indexed(out, b", index", answer)?;
-    rows_told(out, table, first_keys(&index, keys), tile)
-}
-
-fn rows_told<W: Write>(out: &mut W, table: &[u8], index: &[u64], tile: u16) -> io::Result<()> {
-    print::keys(out, index)?;
-    print::run(out, index, tile)?;
-    let mut bytes = tables::new_table();
-    let answer = index::entries::tile_entries(table, index, tile, &mut bytes);
-    let entries = print::indexed(out, b", entries", answer)?;
-    print::rows(out, &bytes, entries, true)
+    let keys = index_of(out, table, old, tile, &mut index)?;
+    let mut bytes = tables::new_rows();
+    let keys = &index[..index.len().min(keys as usize)];
+    let answer = index::entries::tile_entries(table, keys, tile, &mut bytes);
+    let entries = print::indexed(out, ", entries", answer)?;
+    print::entries(out, &bytes, entries, true)
 }
 
 // The same with a table of records.
 pub(crate) fn records<W: Write>(out: &mut W, payload: &[u8]) -> io::Result<()> {
     if payload.len() < 4 {
-        return print::text(out, b"unknown kind");
+        return print::unknown(out);
     }
-    let scan = records::tables::scan_table(&payload[4..], CodestreamOffset(0));
-    let answer = scan.answer;
-    let table = scan.table;
+    let tile = numbers::read_u16(payload, 0);
+    let old = numbers::read_u16(payload, 2);
+    let mut table = records::tables::new_table();
+    let answer = records::scan::scan_sot_markers(&payload[4..], CodestreamOffset(0), &mut table);
     let entries = print::scan(out, answer)?;
-    records_by(
-        out,
-        table,
-        entries,
-        numbers::read_u16(payload, 2),
-        numbers::read_u16(payload, 0),
-    )
+    records_of(out, tables::first(&table, entries), old, tile)
 }
 
-// In the first records of a table, which has as many.
-fn records_by<W: Write>(
+fn records_of<W: Write>(
     out: &mut W,
-    table: [TilePartEntry; 2048],
-    entries: u64,
+    table: &[TilePartEntry],
     old: u16,
     tile: u16,
 ) -> io::Result<()> {
     let mut index = new_index();
-    let mut scratch = new_index();
-    let early = numbers::minimum(old as u64, entries) as usize;
-    records::tables::index_within(table, early, 0, &mut index, &mut scratch);
-    let answer = records::tables::index_within(
-        table,
-        entries as usize,
-        old as usize,
-        &mut index,
-        &mut scratch,
-    );
-    let keys = print::indexed(out, b", index", answer)?;
-    records_told(out, table, first_keys(&index, keys), tile)
+    let keys = index_of(out, table, old, tile, &mut index)?;
+    let keys = &index[..index.len().min(keys as usize)];
+    write!(out, ", entries")?;
+    print::records_of(out, table, index::run::tile_run(keys, tile))
 }
 
-fn records_told<W: Write>(
+// The index of the entries that are old, extended to all, and what it says of a tile; gives how many keys it has.
+fn index_of<W: Write, E: Element>(
     out: &mut W,
-    table: [TilePartEntry; 2048],
-    index: &[u64],
+    table: &[E],
+    old: u16,
     tile: u16,
-) -> io::Result<()> {
-    print::keys(out, index)?;
-    print::run(out, index, tile)?;
-    print::text(out, b", entries")?;
-    print::records_of(out, table, index::run::tile_run(index, tile))
-}
-
-// The first keys of an index, which has as many.
-fn first_keys(index: &[u64], count: u64) -> &[u64] {
-    let keys = numbers::minimum(count, index.len() as u64) as usize;
-    &index[..keys]
+    index: &mut [u64],
+) -> io::Result<u64> {
+    let mut scratch = new_index();
+    let early = tables::first(table, u64::from(old));
+    let _ = index::extend::extend(early, 0, index, &mut scratch);
+    let answer = index::extend::extend(table, old as usize, index, &mut scratch);
+    let keys = print::indexed(out, ", index", answer)?;
+    let all = &index[..index.len().min(keys as usize)];
+    print::keys(out, all)?;
+    print::run(out, all, tile)?;
+    Ok(keys)
 }
 
 // Room for as many keys as a table has entries.

@@ -51,7 +51,8 @@ fn answer_next<W: Write, R: Read>(out: &mut W, cases: &mut R) -> io::Result<bool
     Ok(true)
 }
 
-// Fills the buffer as far as the input reaches, and gives how far that is.
+// Fills the buffer as far as the input reaches, and gives how far that is. `tileparts` has the same, since what a library
+// exports is to settle its answer, and how far an input reaches is no such thing.
 fn read_full<R: Read>(input: &mut R, buffer: &mut [u8]) -> io::Result<usize>
     ensures { IfOk result (λ size. size ≤ length buffer.new) }
 {
@@ -69,7 +70,7 @@ fn read_full<R: Read>(input: &mut R, buffer: &mut [u8]) -> io::Result<usize>
 fn answer<W: Write>(out: &mut W, kind: u8, payload: &[u8]) -> io::Result<()> {
     match kind {
         1 => answers::extent(out, payload),
-        2 => tables::header(out, payload, older(Numbering::Restarting)),
+        2 => header_rows(out, payload, older(Numbering::Restarting)),
         3 => tables::scan(out, payload),
         4 => answers::split(out, payload),
         5 => answers::rewrite(out, payload, Rule::Original),
@@ -77,7 +78,7 @@ fn answer<W: Write>(out: &mut W, kind: u8, payload: &[u8]) -> io::Result<()> {
         7 => answers::search(out, payload),
         8 => answers::siz(out, payload),
         9 => answers::growth(out, payload),
-        10 => tables::header_records(out, payload, older(Numbering::Restarting)),
+        10 => header_records(out, payload, older(Numbering::Restarting)),
         11 => tables::scan_records(out, payload),
         12 => answers::component_sizes(out, payload),
         13 => answers::rewrite(out, payload, Rule::AnnexB),
@@ -85,19 +86,27 @@ fn answer<W: Write>(out: &mut W, kind: u8, payload: &[u8]) -> io::Result<()> {
         15 => answers::rewrite(out, payload, Rule::InPlace),
         16 => answers::assembly(out, payload, Rule::InPlace),
         17 => answers::marker(out, payload),
-        18 => tables::header(out, payload, older(Numbering::CarriedOn)),
-        19 => tables::header_records(out, payload, older(Numbering::CarriedOn)),
-        20 => tables::header(out, payload, newer()),
-        21 => tables::header_records(out, payload, newer()),
+        18 => header_rows(out, payload, older(Numbering::CarriedOn)),
+        19 => header_records(out, payload, older(Numbering::CarriedOn)),
+        20 => header_rows(out, payload, newer()),
+        21 => header_records(out, payload, newer()),
         22 => tables::order(out, payload),
         23 => tables::order_records(out, payload),
         24 => by_tile::rows(out, payload),
         25 => by_tile::records(out, payload),
         26 => answers::length_table(out, payload),
         27 => answers::boxes(out, payload),
-        _ => print::text(out, b"unknown kind"),
+        _ => print::unknown(out),
     }?;
-    print::text(out, b"\n")
+    writeln!(out)
+}
+
+fn header_rows<W: Write>(out: &mut W, codestream: &[u8], reading: Reading) -> io::Result<()> {
+    tables::header(out, codestream, reading, &mut tables::new_rows())
+}
+
+fn header_records<W: Write>(out: &mut W, codestream: &[u8], reading: Reading) -> io::Result<()> {
+    tables::header(out, codestream, reading, &mut records::tables::new_table())
 }
 
 // Room for what a case writes.

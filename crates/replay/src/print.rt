@@ -1,163 +1,157 @@
-// What is written of an answer.
-use header::find::Finding;
-use header::parse::MainHeader;
-use index::extend::Indexed;
-use lengths::check::{Check, Difference, Said};
-use parts::scan::Scanned;
-use reader::boxes::Counted;
-use reader::components::{ComponentRead, ComponentsRead};
+// What is written of an answer. What follows a word stands behind a space.
+use header::parse::MainHeaderInfo;
+use lengths::check::{Difference, Said};
+use reader::components::{ComponentInfo, Components};
 use std::io;
 use std::io::Write;
-use tile::rewrite::Written;
-use types::{Area, PartNumbers, ROW, Refusal, TilePartEntry};
+use types::table::Element;
+use types::{Area, CodestreamOffset, PartNumbers, Refusal, TilePartEntry};
+
+// The payload is too short for its kind, or the kind is none.
+pub(crate) fn unknown<W: Write>(out: &mut W) -> io::Result<()> {
+    write!(out, "unknown kind")
+}
 
 // The line but for its entries; gives how many follow.
-pub(crate) fn header<W: Write>(out: &mut W, answer: MainHeader, bytes: &[u8]) -> io::Result<u64> {
-    text(out, b"header")?;
-    let MainHeader::Header(info) = answer else {
-        text(out, b" refused")?;
+pub(crate) fn header<W: Write>(
+    out: &mut W,
+    answer: Result<MainHeaderInfo, Refusal>,
+    bytes: &[u8],
+) -> io::Result<u64> {
+    let Ok(info) = answer else {
+        write!(out, "header refused")?;
         return Ok(0);
     };
-    let first_sot = info.first_sot_offset;
-    number(out, first_sot.0)?;
-    number(out, info.decode_header_length)?;
-    number(out, info.fillers)?;
-    hex(out, bytes, info.decode_header_length)?;
+    let long = info.decode_header_length;
+    write!(
+        out,
+        "header {} {long} {}",
+        info.first_sot_offset.0, info.fillers
+    )?;
+    hex(out, bytes, long)?;
     if info.tlm_entries == 0 {
-        text(out, b" none")?;
+        write!(out, " none")?;
     }
     Ok(info.tlm_entries)
 }
 
 // The same of a scan.
-pub(crate) fn scan<W: Write>(out: &mut W, answer: Scanned) -> io::Result<u64> {
-    text(out, b"scan")?;
-    let Scanned::Table(count) = answer else {
-        text(out, b" refused")?;
+pub(crate) fn scan<W: Write>(out: &mut W, answer: Result<u64, Refusal>) -> io::Result<u64> {
+    let Ok(count) = answer else {
+        write!(out, "scan refused")?;
         return Ok(0);
     };
-    number(out, count)?;
+    write!(out, "scan {count}")?;
     Ok(count)
 }
 
-pub(crate) fn finding<W: Write>(out: &mut W, answer: Finding) -> io::Result<()> {
+pub(crate) fn finding<W: Write>(
+    out: &mut W,
+    answer: Result<Option<CodestreamOffset>, Refusal>,
+) -> io::Result<()> {
     match answer {
-        Finding::At(offset) => number(out, offset.0),
-        Finding::Absent => text(out, b" none"),
-        Finding::Refused(why) => refused(out, why),
+        Ok(Some(offset)) => write!(out, " {}", offset.0),
+        Ok(None) => write!(out, " none"),
+        Err(why) => refused(out, why),
     }
 }
 
-pub(crate) fn checked<W: Write>(out: &mut W, answer: Check) -> io::Result<()> {
+pub(crate) fn checked<W: Write>(
+    out: &mut W,
+    answer: Result<Option<Difference>, Refusal>,
+) -> io::Result<()> {
     match answer {
-        Check::Passes => text(out, b" passes"),
-        Check::DiffersAt(difference) => differs(out, difference),
-        Check::Refused(why) => refused(out, why),
-    }
-}
-
-fn differs<W: Write>(out: &mut W, at: Difference) -> io::Result<()> {
-    let offset = at.offset;
-    let listed = at.listed;
-    let standing = at.standing;
-    text(out, b" differs")?;
-    number(out, at.number)?;
-    number(out, offset.0)?;
-    text(out, b", listed")?;
-    said(out, listed)?;
-    text(out, b", standing")?;
-    said(out, standing)
-}
-
-fn said<W: Write>(out: &mut W, what: Said) -> io::Result<()> {
-    match what {
-        Said::Part { tile, length } => {
-            number(out, tile as u64)?;
-            number(out, length)
+        Ok(None) => write!(out, " passes"),
+        Ok(Some(at)) => {
+            write!(out, " differs {} {}, listed", at.number, at.offset.0)?;
+            said(out, at.listed)?;
+            write!(out, ", standing")?;
+            said(out, at.standing)
         }
-        Said::Nothing => text(out, b" none"),
+        Err(why) => refused(out, why),
+    }
+}
+
+fn said<W: Write>(out: &mut W, what: Option<Said>) -> io::Result<()> {
+    match what {
+        Some(part) => write!(out, " {} {}", part.tile, part.length),
+        None => write!(out, " none"),
     }
 }
 
 // How many boxes there are, and all of the table.
-pub(crate) fn boxes<W: Write>(out: &mut W, answer: Counted, table: &[u8]) -> io::Result<()> {
+pub(crate) fn boxes<W: Write>(
+    out: &mut W,
+    answer: Result<u64, Refusal>,
+    table: &[u8],
+) -> io::Result<()> {
     match answer {
-        Counted::Boxes(count) => {
-            number(out, count)?;
+        Ok(count) => {
+            write!(out, " {count}")?;
             hex(out, table, table.len() as u64)
         }
-        Counted::Refused(why) => refused(out, why),
+        Err(why) => refused(out, why),
     }
 }
 
-pub(crate) fn written<W: Write>(out: &mut W, answer: Written, bytes: &[u8]) -> io::Result<()> {
+pub(crate) fn written<W: Write>(
+    out: &mut W,
+    answer: Result<u64, Refusal>,
+    bytes: &[u8],
+) -> io::Result<()> {
     match answer {
-        Written::Bytes(count) => hex(out, bytes, count),
-        Written::Refused(why) => refused(out, why),
+        Ok(count) => hex(out, bytes, count),
+        Err(why) => refused(out, why),
     }
 }
 
-pub(crate) fn components<W: Write>(out: &mut W, read: ComponentsRead) -> io::Result<()> {
+pub(crate) fn components<W: Write>(
+    out: &mut W,
+    read: Result<Components, Refusal>,
+) -> io::Result<()> {
     match read {
-        ComponentsRead::Components(info) => {
-            number(out, info.count as u64)?;
+        Ok(info) => {
+            write!(out, " {}", info.count)?;
             area(out, info.area)
         }
-        ComponentsRead::Refused(why) => refused(out, why),
+        Err(why) => refused(out, why),
     }
 }
 
-pub(crate) fn component<W: Write>(out: &mut W, read: ComponentRead) -> io::Result<()> {
+pub(crate) fn component<W: Write>(
+    out: &mut W,
+    read: Result<Option<ComponentInfo>, Refusal>,
+) -> io::Result<()> {
     match read {
-        ComponentRead::Component(info) => {
-            number(out, info.bits as u64)?;
-            number(out, if info.is_signed { 1 } else { 0 })?;
-            number(out, info.xrsiz as u64)?;
-            number(out, info.yrsiz as u64)?;
+        Ok(Some(info)) => {
+            let signed = u64::from(info.is_signed);
+            write!(out, " {} {signed} {} {}", info.bits, info.xrsiz, info.yrsiz)?;
             area(out, info.area)
         }
-        ComponentRead::NoSuch => text(out, b" none"),
-        ComponentRead::Refused(why) => refused(out, why),
+        Ok(None) => write!(out, " none"),
+        Err(why) => refused(out, why),
     }
 }
 
 fn area<W: Write>(out: &mut W, on_grid: Area) -> io::Result<()> {
-    number(out, on_grid.x0 as u64)?;
-    number(out, on_grid.y0 as u64)?;
-    number(out, on_grid.x1 as u64)?;
-    number(out, on_grid.y1 as u64)
+    let Area { x0, y0, x1, y1 } = on_grid;
+    write!(out, " {x0} {y0} {x1} {y1}")
 }
 
 fn refused<W: Write>(out: &mut W, why: Refusal) -> io::Result<()> {
-    text(out, b" refused")?;
-    number(out, why.number as u64)?;
-    number(out, why.place)
+    write!(out, " refused {} {}", why.number(), why.place)
 }
 
-// The first rows of a table, which has as many; each with its numbers, or without.
-pub(crate) fn rows<W: Write>(
+// The first records of a table, which has as many; each with its numbers, or without.
+pub(crate) fn entries<W: Write, E: Element>(
     out: &mut W,
-    table: &[u8],
+    table: &[E],
     count: u64,
     numbered: bool,
 ) -> io::Result<()> {
-    let end = numbers::minimum(count, (table.len() / ROW) as u64) as usize;
-    for i in 0..end {
-        record(out, types::read_row(table, i * ROW), numbered)?;
-    }
-    Ok(())
-}
-
-// The first records of a table, which has as many, the same way.
-pub(crate) fn records<W: Write>(
-    out: &mut W,
-    table: [TilePartEntry; 2048],
-    count: u64,
-    numbered: bool,
-) -> io::Result<()> {
-    let end = numbers::minimum(count, 2048) as usize;
-    for i in 0..end {
-        record(out, table[i], numbered)?;
+    let end = (count as usize).min(table.len() / E::WIDTH);
+    for n in 0..end {
+        record(out, E::read(table, n), numbered)?;
     }
     Ok(())
 }
@@ -165,54 +159,47 @@ pub(crate) fn records<W: Write>(
 // The records of a table that the keys of a run say.
 pub(crate) fn records_of<W: Write>(
     out: &mut W,
-    table: [TilePartEntry; 2048],
+    table: &[TilePartEntry],
     run: &[u64],
 ) -> io::Result<()> {
-    for i in 0..run.len() {
-        let at = index::keys::number_of(run[i]);
-        if at < 2048 {
-            record(out, table[at as usize], true)?;
+    for key in run {
+        if let Some(entry) = table.get(index::keys::number_of(*key) as usize) {
+            record(out, *entry, true)?;
         }
     }
     Ok(())
 }
 
 fn record<W: Write>(out: &mut W, entry: TilePartEntry, numbered: bool) -> io::Result<()> {
-    let offset = entry.offset;
-    let known = entry.numbers;
-    number(out, entry.tile_index as u64)?;
-    number(out, offset.0)?;
-    number(out, entry.length)?;
-    if numbered {
-        part_numbers(out, known)?;
+    write!(
+        out,
+        " {} {} {}",
+        entry.tile_index, entry.offset.0, entry.length
+    )?;
+    if !numbered {
+        return Ok(());
     }
-    Ok(())
-}
-
-fn part_numbers<W: Write>(out: &mut W, known: PartNumbers) -> io::Result<()> {
-    match known {
-        PartNumbers::Known { tpsot, tnsot } => {
-            number(out, tpsot as u64)?;
-            number(out, tnsot as u64)
-        }
-        PartNumbers::NotKnown => text(out, b" not known"),
+    match entry.numbers {
+        PartNumbers::Known { tpsot, tnsot } => write!(out, " {tpsot} {tnsot}"),
+        PartNumbers::NotKnown => write!(out, " not known"),
     }
 }
 
 // Whether a tile's tile-parts stand in order.
 pub(crate) fn order<W: Write>(out: &mut W, answer: bool) -> io::Result<()> {
-    if answer {
-        text(out, b", in order")
-    } else {
-        text(out, b", not in order")
-    }
+    let not = if answer { "" } else { "not " };
+    write!(out, ", {not}in order")
 }
 
 // What is said of as many entries as follow, without them; gives how many they are.
-pub(crate) fn indexed<W: Write>(out: &mut W, word: &[u8], answer: Indexed) -> io::Result<u64> {
-    text(out, word)?;
-    let Indexed::Entries(count) = answer else {
-        text(out, b" refused")?;
+pub(crate) fn indexed<W: Write>(
+    out: &mut W,
+    word: &str,
+    answer: Result<u64, Refusal>,
+) -> io::Result<u64> {
+    write!(out, "{word}")?;
+    let Ok(count) = answer else {
+        write!(out, " refused")?;
         return Ok(0);
     };
     Ok(count)
@@ -220,10 +207,10 @@ pub(crate) fn indexed<W: Write>(out: &mut W, word: &[u8], answer: Indexed) -> io
 
 // The keys of an index: the tile and the number of each.
 pub(crate) fn keys<W: Write>(out: &mut W, index: &[u64]) -> io::Result<()> {
-    for i in 0..index.len() {
-        let key = index[i];
-        number(out, index::keys::tile_of(key))?;
-        number(out, index::keys::number_of(key))?;
+    for key in index {
+        let tile = index::keys::tile_of(*key);
+        let number = index::keys::number_of(*key);
+        write!(out, " {tile} {number}")?;
     }
     Ok(())
 }
@@ -233,26 +220,14 @@ pub(crate) fn run<W: Write>(out: &mut W, index: &[u64], tile: u16) -> io::Result
     let mut first: u64 = 0;
     let mut count: u64 = 0;
     index::run::tell(index, tile, &mut first, &mut count);
-    text(out, b", run")?;
-    number(out, first)?;
-    number(out, count)
+    write!(out, ", run {first} {count}")
 }
 
-// The first bytes of a buffer, which has as many, after a space.
-pub(crate) fn hex<W: Write>(out: &mut W, bytes: &[u8], count: u64) -> io::Result<()> {
-    let end = numbers::minimum(count, bytes.len() as u64) as usize;
-    text(out, b" ")?;
-    for byte in &bytes[..end] {
+// The first bytes of a buffer, which has as many.
+fn hex<W: Write>(out: &mut W, bytes: &[u8], count: u64) -> io::Result<()> {
+    write!(out, " ")?;
+    for byte in bytes.iter().take(count as usize) {
         write!(out, "{byte:02x}")?;
     }
     Ok(())
-}
-
-// A number, after a space.
-pub(crate) fn number<W: Write>(out: &mut W, n: u64) -> io::Result<()> {
-    write!(out, " {n}")
-}
-
-pub(crate) fn text<W: Write>(out: &mut W, word: &[u8]) -> io::Result<()> {
-    out.write_all(word)
 }

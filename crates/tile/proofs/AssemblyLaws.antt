@@ -8,19 +8,19 @@ use mathlib.Core.List.{List, [], ◌∷◌, ◌++◌}
 use lib.ListN.{length, take, drop, length-append}
 use lib.Dec.{leb, eqb}
 use borrow.Author.Tests.{leb-true, leb-false, lt-leb}
+use Rattle.std.specs.Prelude.{Option, Some, None, Result, Ok, Err}
 use Rattle.numbers.specs.Bytes.{be, bytes_of, put}
 use Rattle.numbers.proofs.BytesLaws.{length_bytes, length_put, be_put, be_bytes_of, take_put, drop_put}
 use Rattle.types.specs.Markers.{SOT, EOC}
 use Rattle.tile.specs.Rewrite.{tile_size, cut_to, Room, rewritten, with_room, judged}
-use Rattle.types.specs.Row.{row_bytes, entry_at}
-use Rattle.tile.specs.Assembly.{range_of, is_sot, patched, part_size, size_for, joined, assembled}
+use Rattle.types.specs.Row.{entry_at}
+use Rattle.tile.specs.Assembly.{part_of, is_sot, patched, part_size, size_for, joined, assembled}
 use Rattle.tile.specs.declared.rules.Rule.{Rule}
-use Rattle.tile.specs.declared.rewrite.TileSize.{TileSize}
-use Rattle.tile.specs.declared.assembly.Range.TheVariants.{Kept}
 use Rattle.numbers.proofs.Choice.{by_test}
-use Rattle.tile.proofs.AssemblyRanges.{kept_inside, length_part, parts_from, parts_kept}
+use Rattle.tile.proofs.AssemblyRanges.{Cut, parts_left, parts_kept}
 use Rattle.tile.proofs.RewriteHeader.{size_room, length_cut}
-use Rattle.tile.specs.declared.rewrite.TileSize.TheVariants as size
+use Rattle.types.specs.declared.Area.{Area}
+use Rattle.types.specs.declared.Refusal.{Refusal}
 
 -- ---- a part
 
@@ -44,11 +44,11 @@ module _ (part : List ℕ) where
   module _ (rule : Rule) (h : List ℕ) where
     pub part_sot : is_sot part ≡ true → part_size rule h part ≡ tile_size rule h (be 2 part 4)
     unfolding part_size
-    part_sot e = ap (λ (b : Bool). cond b (tile_size rule h (be 2 part 4)) size.Whole) e
+    part_sot e = ap (λ (b : Bool). cond b (tile_size rule h (be 2 part 4)) (Ok None)) e
 
-    pub part_other : is_sot part ≡ false → part_size rule h part ≡ size.Whole
+    pub part_other : is_sot part ≡ false → part_size rule h part ≡ Ok None
     unfolding part_size
-    part_other e = ap (λ (b : Bool). cond b (tile_size rule h (be 2 part 4)) size.Whole) e
+    part_other e = ap (λ (b : Bool). cond b (tile_size rule h (be 2 part 4)) (Ok None)) e
 
   of_patched : (P : List ℕ → Type 0) → P part → (6 ≤ length part → P (put part 4 (bytes_of 2 0))) → P (patched part)
   unfolding patched
@@ -83,26 +83,24 @@ joined_none e = ap joined e
 pub length_joined : {parts rest : List (List ℕ)} {part : List ℕ} → parts ≡ part ∷ rest → length (joined parts) ≡ length part + length (joined rest)
 length_joined {rest = rest} {part = part} e = ap length (joined_next e) ∙ length-append (patched part) (joined rest) ∙ ap (λ (n : ℕ). n + length (joined rest)) (length_patched part)
 
--- a range that is kept adds its bytes
-pub length_kept : (s table : List ℕ) (at from to : ℕ) → at + row_bytes ≤ length table → range_of s (entry_at table at) ≡ Kept from to
-    → length (joined (parts_from s table at)) ≡ to - from + length (joined (parts_from s table (at + row_bytes)))
-length_kept s table at from to room found =
-    length_joined (parts_kept s table at room from to found)
-    ∙ ap (λ (n : ℕ). n + length (joined (parts_from s table (at + row_bytes)))) (length_part s from to (kept_inside s (entry_at table at) found))
+-- a part that is kept adds its bytes
+pub length_kept : (s : List ℕ) {rows row rest part : List ℕ} → Cut rows row rest → Some part ≡ part_of s (entry_at row 0)
+    → length (joined (parts_left s rows)) ≡ length part + length (joined (parts_left s rest))
+length_kept s cut found = length_joined (parts_kept s cut found)
 
 -- ---- the whole
 
 pub for_room : (rule : Rule) (h : List ℕ) (parts : List (List ℕ)) → Room (size_for rule h parts) (length h)
 unfolding size_for part_size Room
 for_room rule h [] = tt
-for_room rule h (part ∷ rest) = by_test (λ (s : TileSize). Room s (length h)) (is_sot part) (λ _. size_room rule h (be 2 part 4)) (λ _. tt)
+for_room rule h (part ∷ rest) = by_test (λ (s : Result (Option Area) Refusal). Room s (length h)) (is_sot part) (λ _. size_room rule h (be 2 part 4)) (λ _. tt)
 
 -- the first part chooses
 pub for_first : (rule : Rule) (h : List ℕ) {parts rest : List (List ℕ)} {part : List ℕ} → parts ≡ part ∷ rest → size_for rule h parts ≡ part_size rule h part
 unfolding size_for
 for_first rule h e = ap (size_for rule h) e
 
-pub for_none : (rule : Rule) (h : List ℕ) {parts : List (List ℕ)} → parts ≡ [] → size_for rule h parts ≡ size.Whole
+pub for_none : (rule : Rule) (h : List ℕ) {parts : List (List ℕ)} → parts ≡ [] → size_for rule h parts ≡ Ok None
 unfolding size_for
 for_none rule h e = ap (size_for rule h) e
 
@@ -118,11 +116,11 @@ assembled_none rule h = refl
 module _ (rule : Rule) (h part : List ℕ) (rest : List (List ℕ)) where
   pub assembled_tile : is_sot part ≡ true → assembled rule h (part ∷ rest) ≡ rewritten rule h (be 2 part 4) ++ (joined (part ∷ rest) ++ bytes_of 2 EOC)
   unfolding assembled size_for rewritten
-  assembled_tile e = ap (λ (s : TileSize). cut_to s h ++ (joined (part ∷ rest) ++ bytes_of 2 EOC)) (part_sot part rule h e)
+  assembled_tile e = ap (λ (s : Result (Option Area) Refusal). cut_to s h ++ (joined (part ∷ rest) ++ bytes_of 2 EOC)) (part_sot part rule h e)
 
   pub assembled_other : is_sot part ≡ false → assembled rule h (part ∷ rest) ≡ h ++ (joined (part ∷ rest) ++ bytes_of 2 EOC)
   unfolding assembled size_for cut_to
-  assembled_other e = ap (λ (s : TileSize). cut_to s h ++ (joined (part ∷ rest) ++ bytes_of 2 EOC)) (part_other part rule h e)
+  assembled_other e = ap (λ (s : Result (Option Area) Refusal). cut_to s h ++ (joined (part ∷ rest) ++ bytes_of 2 EOC)) (part_other part rule h e)
 
 -- The size needed, whatever the rule.
 pub length_assembled : (rule : Rule) (h : List ℕ) (parts : List (List ℕ)) → length (assembled rule h parts) ≡ length h + 2 + length (joined parts)
@@ -145,8 +143,8 @@ saturated_room needed room h = by_size (leb needed (2 ^ 64 - 1)) refl
         rw (min-eq_right {n = 2 ^ 64 - 1} {m = needed} (omega arith), lt-leb (2 ^ 64 - 1) room h, lt-leb needed room short)
 
 -- the room is below 2^64-1, so the least of the two sizes is judged as the size needed is
-pub judged_saturated : (s : TileSize) (needed room : ℕ) → room < 2 ^ 64 - 1 → judged s (min needed (2 ^ 64 - 1)) room ≡ judged s needed room
+pub judged_saturated : (s : Result (Option Area) Refusal) (needed room : ℕ) → room < 2 ^ 64 - 1 → judged s (min needed (2 ^ 64 - 1)) room ≡ judged s needed room
 unfolding judged
-judged_saturated size.Whole needed room h = saturated_room needed room h
-judged_saturated (size.Cut a) needed room h = saturated_room needed room h
-judged_saturated (size.Refused r) needed room h = refl
+judged_saturated (Ok None) needed room h = saturated_room needed room h
+judged_saturated (Ok (Some a)) needed room h = saturated_room needed room h
+judged_saturated (Err r) needed room h = refl

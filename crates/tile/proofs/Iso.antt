@@ -9,6 +9,7 @@ use mathlib.Core.List.{List, [], ◌∷◌, ◌++◌, append_assoc, append-nil}
 use lib.ListN.{length, take, drop, length-append}
 use lib.Seq.{take_at, drop_at}
 use lib.Dec.{eqb}
+use Rattle.std.specs.Prelude.{Option, Some, None, Result, Ok, Err}
 use Rattle.numbers.specs.Bytes.{be, put}
 use Rattle.numbers.specs.Rows.{Row, row, bytes_of_rows, widths}
 use Rattle.numbers.proofs.Choice.{by_test, by_bool}
@@ -25,17 +26,15 @@ use Rattle.tile.specs.Rules.{by_annex_b, placed_by}
 use Rattle.tile.specs.Rewrite.{from_zero, sized, moved, cut_by, tile_size, cut_to, with_room, judged, rewritten, over, rewrite_answer, rewrite_out}
 use Rattle.tile.specs.Iso.{Gridded, num_xtiles, num_ytiles, column_of, row_of, start_of, end_of, area_of, width_of, height_of, header_of, cut_size, moved_tile, for_tile}
 use Rattle.tile.specs.declared.annex_b.Side.{Side}
-use Rattle.tile.specs.declared.annex_b.GridTile.TheVariants.{NoGrid}
+use Rattle.tile.specs.declared.annex_b.NoTile.TheVariants.{NoGrid}
 use Rattle.tile.specs.declared.rules.Rule.{Rule}
 use Rattle.tile.specs.declared.rules.Rule.TheVariants.{AnnexB, Original, InPlace}
-use Rattle.tile.specs.declared.rules.Placed.TheVariants.{Tile, Refused}
-use Rattle.tile.specs.declared.rewrite.TileSize.{TileSize}
-use Rattle.tile.specs.declared.rewrite.Written.TheVariants.{Bytes}
 use Rattle.tile.proofs.AnnexBLaws.{Laid, laid_is, is_laid, span_some, column_inside, row_inside, grid_past, grid_inside, no_columns, no_rows, some_grid, Found}
 use Rattle.tile.proofs.RulesLaws.{annex_told}
 use Rattle.tile.proofs.RulesAgree.{original_follows}
 use Rattle.tile.proofs.RewriteLaws.{size_refused, size_inside, size_siz, room_enough}
-use Rattle.tile.specs.declared.rewrite.TileSize.TheVariants as size
+use Rattle.types.specs.declared.Refusal.{Refusal}
+use Rattle.types.specs.declared.Reason.TheVariants as reason
 
 -- ---- a size, and a header that holds it
 
@@ -139,12 +138,12 @@ module _ (z : Size) (h : List ℕ) (k : Holds z h) (tile : ℕ) where
   on_sides = ap₂ (λ (x y : Side). by_annex_b (on_grid x y tile)) across_x down_y
 
   -- Where B.3's premises and the index hold, the tile lies where B-7 to B-10 have it.
-  pub annex_standard : Gridded z → tile < num_xtiles z * num_ytiles z → placed_by AnnexB h tile ≡ Tile (area_of z tile)
+  pub annex_standard : Gridded z → tile < num_xtiles z * num_ytiles z → placed_by AnnexB h tile ≡ Ok (area_of z tile)
   unfolding by_annex_b
   annex_standard g inside =
       on_sides
       ∙ ap by_annex_b (some_grid _ _ tile (is_laid _ (laid_x z g)) (is_laid _ (laid_y z g)) ∙ grid_inside _ _ tile (below z tile inside g))
-      ∙ ap Tile (area_same z tile)
+      ∙ ap Ok (area_same z tile)
 
   -- It is told only there.
   pub record Standard (a : Area) : Type 0 where
@@ -152,7 +151,7 @@ module _ (z : Size) (h : List ℕ) (k : Holds z h) (tile : ℕ) where
     pub inside : tile < num_xtiles z * num_ytiles z
     pub area : a ≡ area_of z tile
 
-  pub annex_only : (a : Area) → placed_by AnnexB h tile ≡ Tile a → Standard a
+  pub annex_only : (a : Area) → placed_by AnnexB h tile ≡ Ok a → Standard a
   annex_only a e =
       let f : Found (across h) (down h) tile a = annex_told h tile a e in
       record {
@@ -162,17 +161,17 @@ module _ (z : Size) (h : List ℕ) (k : Holds z h) (tile : ℕ) where
       }
 
   -- No grid is 30, whatever the index.
-  pub annex_no_grid : (Gridded z → ⊥) → placed_by AnnexB h tile ≡ Refused (refusal 30 marker)
+  pub annex_no_grid : (Gridded z → ⊥) → placed_by AnnexB h tile ≡ Err (refusal reason.NoGrid marker)
   unfolding by_annex_b
   annex_no_grid n =
-      let none : on_grid (side_x z) (side_y z) tile ≡ NoGrid =
+      let none : on_grid (side_x z) (side_y z) tile ≡ Err NoGrid =
       by_bool (laid (side_x z))
       (λ x. by_bool (laid (side_y z)) (λ y. absurd (n (gridded z (laid_is (side_x z) x) (laid_is (side_y z) y)))) (λ y. no_rows (side_x z) (side_y z) tile y))
       (λ x. no_columns (side_x z) (side_y z) tile x) in
       on_sides ∙ ap by_annex_b none
 
   -- A grid, and an index at or past its end, is 31.
-  pub annex_no_tile : Gridded z → num_xtiles z * num_ytiles z ≤ tile → placed_by AnnexB h tile ≡ Refused (refusal 31 marker)
+  pub annex_no_tile : Gridded z → num_xtiles z * num_ytiles z ≤ tile → placed_by AnnexB h tile ≡ Err (refusal reason.NoSuchTile marker)
   unfolding by_annex_b
   annex_no_tile g past =
       on_sides ∙ ap by_annex_b (some_grid _ _ tile (is_laid _ (laid_x z g)) (is_laid _ (laid_y z g)) ∙ grid_past _ _ tile (rw (tiles_same z) past))
@@ -251,7 +250,7 @@ tile_ranges InPlace z tile inside g t = kept_ranges z tile inside g t
 -- of a header of 40 bytes or more with SIZ at 2 that holds a size
 module _ (z : Size) (h : List ℕ) (k : Holds z h) (long : 40 ≤ length h) (siz : be 2 h marker ≡ SIZ) (tile : ℕ) where
   -- Where a rule tells a tile at the standard's place it is cut as the standard has it.
-  pub size_told : (rule : Rule) → placed_by rule h tile ≡ Tile (area_of z tile) → tile_size rule h tile ≡ cut_by rule (area_of z tile) z.XTsiz z.YTsiz
+  pub size_told : (rule : Rule) → placed_by rule h tile ≡ Ok (area_of z tile) → tile_size rule h tile ≡ cut_by rule (area_of z tile) z.XTsiz z.YTsiz
   size_told rule told =
       size_siz rule h tile long siz ∙ size_inside rule h tile (area_of z tile) told ∙ (λ i. cut_by rule (area_of z tile) (k.XTsiz i) (k.YTsiz i))
 
@@ -260,14 +259,14 @@ module _ (z : Size) (h : List ℕ) (k : Holds z h) (long : 40 ≤ length h) (siz
   unfolding cut_by moved width_of height_of
   size_annex g inside = size_told AnnexB (annex_standard z h k tile g inside)
 
-  pub size_no_grid : (Gridded z → ⊥) → tile_size AnnexB h tile ≡ size.Refused (refusal 30 marker)
+  pub size_no_grid : (Gridded z → ⊥) → tile_size AnnexB h tile ≡ Err (refusal reason.NoGrid marker)
   size_no_grid n = size_siz AnnexB h tile long siz ∙ size_refused AnnexB h tile _ (annex_no_grid z h k tile n)
 
-  pub size_no_tile : Gridded z → num_xtiles z * num_ytiles z ≤ tile → tile_size AnnexB h tile ≡ size.Refused (refusal 31 marker)
+  pub size_no_tile : Gridded z → num_xtiles z * num_ytiles z ≤ tile → tile_size AnnexB h tile ≡ Err (refusal reason.NoSuchTile marker)
   size_no_tile g past = size_siz AnnexB h tile long siz ∙ size_refused AnnexB h tile _ (annex_no_tile z h k tile g past)
 
 -- what is cut by a rule stays or is cut to an area
-of_cut : (P : TileSize → Type 0) (rule : Rule) (a : Area) (xt yt : ℕ) → P size.Whole → ((b : Area) → P (size.Cut b)) → P (cut_by rule a xt yt)
+of_cut : (P : Result (Option Area) Refusal → Type 0) (rule : Rule) (a : Area) (xt yt : ℕ) → P (Ok None) → ((b : Area) → P (Ok (Some b))) → P (cut_by rule a xt yt)
 unfolding cut_by moved sized
 of_cut P AnnexB a xt yt w c = by_test P (eqb (a.x1 - a.x0) xt && eqb (a.y1 - a.y0) yt) (λ _. w) (λ _. c _)
 of_cut P Original a xt yt w c = by_test P (eqb (a.x1 - a.x0) xt && eqb (a.y1 - a.y0) yt) (λ _. w) (λ _. c _)
@@ -287,19 +286,19 @@ module _ (z : Size) (rest : List ℕ) (tile : ℕ) where
   cut_is InPlace = cut_rows z rest (area_of z tile)
 
 -- of a SIZ by the standard, where a rule tells a tile at the standard's place
-module _ (rule : Rule) (z : Size) (rest : List ℕ) (tile : ℕ) (g : Ranges z) (t : TileRanges z) (told : placed_by rule (header_of z rest) tile ≡ Tile (area_of z tile)) where
+module _ (rule : Rule) (z : Size) (rest : List ℕ) (tile : ℕ) (g : Ranges z) (t : TileRanges z) (told : placed_by rule (header_of z rest) tile ≡ Ok (area_of z tile)) where
   pub size_standard : tile_size rule (header_of z rest) tile ≡ cut_by rule (area_of z tile) z.XTsiz z.YTsiz
   size_standard =
       let f : Fields z (header_of z rest) = fields_standard z rest g in
       size_told z (header_of z rest) (holds_standard z rest g t) (omega (arith, f.long)) f.marker tile rule told
 
   -- With room for the header the rewrite is not refused.
-  pub rewrite_accepts : (room : ℕ) → length (header_of z rest) ≤ room → rewrite_answer rule (header_of z rest) tile room ≡ Bytes (length (header_of z rest))
+  pub rewrite_accepts : (room : ℕ) → length (header_of z rest) ≤ room → rewrite_answer rule (header_of z rest) tile room ≡ Ok (length (header_of z rest))
   unfolding rewrite_answer judged
   rewrite_accepts room enough =
       let n : ℕ = length (header_of z rest) in
-      let all : with_room n room ≡ Bytes n = room_enough n room enough in
-      rw size_standard (of_cut (λ s. judged s n room ≡ Bytes n) rule (area_of z tile) z.XTsiz z.YTsiz all (λ _. all))
+      let all : with_room n room ≡ Ok n = room_enough n room enough in
+      rw size_standard (of_cut (λ s. judged s n room ≡ Ok n) rule (area_of z tile) z.XTsiz z.YTsiz all (λ _. all))
 
   header_cut : rewritten rule (header_of z rest) tile ≡ header_of (for_tile rule z tile) rest
   unfolding rewritten
@@ -313,13 +312,13 @@ module _ (rule : Rule) (z : Size) (rest : List ℕ) (tile : ℕ) (g : Ranges z) 
 
 module _ (z : Size) (rest : List ℕ) (tile : ℕ) (g : Ranges z) (t : TileRanges z) (inside : tile < num_xtiles z * num_ytiles z) where
   -- By Annex B every tile of the grid is told so.
-  pub area_standard : placed_by AnnexB (header_of z rest) tile ≡ Tile (area_of z tile)
+  pub area_standard : placed_by AnnexB (header_of z rest) tile ≡ Ok (area_of z tile)
   area_standard = annex_standard z (header_of z rest) (holds_standard z rest g t) tile (standard_gridded z g t) inside
 
   -- By the original's rule, where tile origin and image origin are one and the tile's sums fit 32 bits.
   module _ (x : z.XTOsiz ≡ z.XOsiz) (y : z.YTOsiz ≡ z.YOsiz) (fitsX : z.XTOsiz + (column_of z tile + 1) * z.XTsiz < 2 ^ 32)
       (fitsY : z.YTOsiz + (row_of z tile + 1) * z.YTsiz < 2 ^ 32) where
-    pub area_original : placed_by Original (header_of z rest) tile ≡ Tile (area_of z tile)
+    pub area_original : placed_by Original (header_of z rest) tile ≡ Ok (area_of z tile)
     unfolding column_of row_of num_xtiles cells_of side_x
     area_original =
         let h : List ℕ = header_of z rest in

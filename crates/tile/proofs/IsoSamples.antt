@@ -5,6 +5,7 @@ use native.Mathlib.Omega.{arith}
 use mathlib.Core.Path.{◌≡◌, refl}
 use mathlib.Core.Bool.{false}
 use mathlib.Core.List.{List, []}
+use Rattle.std.specs.Prelude.{Some, None, Ok, Err}
 use Rattle.numbers.specs.Bytes.{be, bytes_of}
 use Rattle.numbers.specs.Ceiling.{ceil_div}
 use Rattle.numbers.specs.Rows.{bytes_of_rows}
@@ -16,8 +17,8 @@ use Rattle.tile.specs.Rules.{by_annex_b, by_original, placed_by}
 use Rattle.tile.specs.Rewrite.{from_zero, sized, moved, cut_by, size_of, size_in, tile_size}
 use Rattle.tile.specs.Iso.{num_xtiles, num_ytiles, column_of, row_of, start_of, end_of, area_of, width_of, height_of, header_of}
 use Rattle.tile.specs.declared.rules.Rule.TheVariants.{AnnexB, Original}
-use Rattle.tile.specs.declared.rewrite.TileSize.TheVariants.{Whole, Cut, Refused}
 use Rattle.tile.proofs.Iso.{size_standard, area_standard, area_original}
+use Rattle.types.specs.declared.Reason.TheVariants.{TileOutside, NoSuchTile}
 
 -- one component of 8 bits; all origins are 0 but the image's across
 abbrev image : ℕ → ℕ → ℕ → ℕ → ℕ → Size
@@ -67,7 +68,7 @@ sample_tiles from h =
       YTOsiz = (omega arith, omega arith);
     }
 
-pub sample_tile : (rest : List ℕ) → tile_size Original (header_of (image 0 10 6 4 4) rest) 5 ≡ Cut (from_zero 2 2)
+pub sample_tile : (rest : List ℕ) → tile_size Original (header_of (image 0 10 6 4 4) rest) 5 ≡ Ok (Some (from_zero 2 2))
 unfolding by_standard cut_by moved sized
 sample_tile rest =
     let z : Size = image 0 10 6 4 4 in
@@ -76,7 +77,7 @@ sample_tile rest =
     size_standard Original z rest 5 g t (area_original z rest 5 g t (omega arith) refl refl (omega arith) (omega arith))
 
 -- with the image from 3 on, tile 0 has one column of points, and by Annex B it is cut to that
-pub sample_annex : (rest : List ℕ) → tile_size AnnexB (header_of (image 3 10 6 4 4) rest) 0 ≡ Cut (from_zero 1 4)
+pub sample_annex : (rest : List ℕ) → tile_size AnnexB (header_of (image 3 10 6 4 4) rest) 0 ≡ Ok (Some (from_zero 1 4))
 unfolding by_standard cut_by moved sized
 sample_annex rest =
     let z : Size = image 3 10 6 4 4 in
@@ -91,20 +92,20 @@ pub past_32_bits_width : width_of (image 0 (2 ^ 32 - 1) 1 (2 ^ 31) 1) 1 ≡ 2 ^ 
 unfolding by_standard
 past_32_bits_width = refl
 
-pub past_32_bits : tile_size Original (header_of (image 0 (2 ^ 32 - 1) 1 (2 ^ 31) 1) []) 1 ≡ Refused (refusal 10 2)
+pub past_32_bits : tile_size Original (header_of (image 0 (2 ^ 32 - 1) 1 (2 ^ 31) 1) []) 1 ≡ Err (refusal TileOutside 2)
 unfolding by_rule
 past_32_bits = refl
 
-pub past_32_bits_annex : tile_size AnnexB (header_of (image 0 (2 ^ 32 - 1) 1 (2 ^ 31) 1) []) 1 ≡ Cut (from_zero (2 ^ 31 - 1) 1)
+pub past_32_bits_annex : tile_size AnnexB (header_of (image 0 (2 ^ 32 - 1) 1 (2 ^ 31) 1) []) 1 ≡ Ok (Some (from_zero (2 ^ 31 - 1) 1))
 unfolding by_rule
 past_32_bits_annex = refl
 
 -- an index past a grid of four tiles is accepted, and by Annex B refused
-pub past_grid : tile_size Original (header_of (image 0 8 8 4 4) []) 4 ≡ Cut (from_zero 4 0)
+pub past_grid : tile_size Original (header_of (image 0 8 8 4 4) []) 4 ≡ Ok (Some (from_zero 4 0))
 unfolding by_rule
 past_grid = refl
 
-pub past_grid_annex : tile_size AnnexB (header_of (image 0 8 8 4 4) []) 4 ≡ Refused (refusal 31 2)
+pub past_grid_annex : tile_size AnnexB (header_of (image 0 8 8 4 4) []) 4 ≡ Err (refusal NoSuchTile 2)
 unfolding by_rule
 past_grid_annex = refl
 
@@ -113,11 +114,11 @@ pub origins_width : width_of (image 1 3 1 2 1) 0 ≡ 1
 unfolding by_standard
 origins_width = refl
 
-pub origins_differ : tile_size Original (header_of (image 1 3 1 2 1) []) 0 ≡ Whole
+pub origins_differ : tile_size Original (header_of (image 1 3 1 2 1) []) 0 ≡ Ok None
 unfolding by_rule
 origins_differ = refl
 
-pub origins_annex : tile_size AnnexB (header_of (image 1 3 1 2 1) []) 0 ≡ Cut (from_zero 1 1)
+pub origins_annex : tile_size AnnexB (header_of (image 1 3 1 2 1) []) 0 ≡ Ok (Some (from_zero 1 1))
 unfolding by_rule
 origins_annex = refl
 
@@ -126,10 +127,10 @@ pub origins_width_one : width_of (image 1 3 1 2 1) 1 ≡ 1
 unfolding by_standard
 origins_width_one = refl
 
-pub origins_differ_one : tile_size Original (header_of (image 1 3 1 2 1) []) 1 ≡ Cut (from_zero 2 0)
+pub origins_differ_one : tile_size Original (header_of (image 1 3 1 2 1) []) 1 ≡ Ok (Some (from_zero 2 0))
 unfolding by_rule
 origins_differ_one = refl
 
-pub origins_annex_one : tile_size AnnexB (header_of (image 1 3 1 2 1) []) 1 ≡ Cut (from_zero 1 1)
+pub origins_annex_one : tile_size AnnexB (header_of (image 1 3 1 2 1) []) 1 ≡ Ok (Some (from_zero 1 1))
 unfolding by_rule
 origins_annex_one = refl

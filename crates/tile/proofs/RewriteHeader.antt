@@ -4,13 +4,11 @@ use Prim.Native.Nat.{ℕ, ◌-◌, ◌≤◌}
 use native.Mathlib.Omega.{arith}
 use mathlib.Core.Path.{◌≡◌, refl, sym, ap, ◌∙◌}
 use mathlib.Core.Bool.{◌&&◌}
-use mathlib.Core.Logic.{⊎_elim}
-use mathlib.Core.List.{List, [], ◌∷◌, ◌++◌, append_assoc}
+use mathlib.Core.List.{List, ◌++◌, append_assoc}
 use lib.ListN.{length, take, drop, length-append}
 use lib.Dec.{leb, eqb}
 use borrow.Author.Tests.{leb-true}
-use denote.Enum.Declared.{tag_of}
-use types.Run.{OneOf}
+use Rattle.std.specs.Prelude.{Option, Some, None, Result, Ok, Err}
 use Rattle.numbers.specs.Bytes.{be, put}
 use Rattle.numbers.proofs.BytesLaws.{length_bytes, length_put, put_put, put_start, take_put, drop_put, put_inside}
 use Rattle.types.specs.Markers.{SIZ}
@@ -19,18 +17,11 @@ use Rattle.types.specs.declared.Area.{Area}
 use Rattle.types.specs.declared.Refusal.{Refusal}
 use Rattle.tile.specs.Siz.{marker, pair, one_tile}
 use Rattle.tile.specs.Rules.{placed_by}
-use Rattle.tile.specs.Rewrite.{sized, moved, cut_by, size_of, size_in, tile_size, cut_to, Ordered, Room, rewritten, with_room, judged, over}
+use Rattle.tile.specs.Rewrite.{sized, moved, cut_by, size_of, size_in, tile_size, cut_to, Ordered, Room, rewritten, with_room, over}
 use Rattle.tile.specs.declared.rules.Rule.{Rule}
 use Rattle.tile.specs.declared.rules.Rule.TheVariants.{AnnexB, Original, InPlace}
-use Rattle.tile.specs.declared.rules.Placed.{Placed}
-use Rattle.tile.specs.declared.rules.Placed.TheVariants as placed
-use Rattle.tile.specs.declared.rewrite.TileSize.{TileSize}
-use Rattle.tile.specs.declared.rewrite.Written.{Written}
-use Rattle.tile.specs.declared.rewrite.Written.TheVariants.{Bytes, Refused}
-use Rattle.tile.specs.contracts.rewrite.TileSize.{the_type}
 use Rattle.tile.proofs.RulesLaws.{tile_within}
 use Rattle.numbers.proofs.Choice.{by_test}
-use Rattle.tile.specs.declared.rewrite.TileSize.TheVariants as size
 
 -- ---- the eight fields
 
@@ -64,7 +55,7 @@ module _ (n : ℕ) (long : 40 ≤ n) where
   moved_room : (a : Area) (xt yt : ℕ) → Room (moved a xt yt) n
   unfolding moved sized Room
   moved_room a xt yt =
-      by_test (λ (s : TileSize). Room s n) (eqb (a.x1 - a.x0) xt && eqb (a.y1 - a.y0) yt) (λ _. tt) (λ _. (long, (omega arith, omega arith)))
+      by_test (λ (s : Result (Option Area) Refusal). Room s n) (eqb (a.x1 - a.x0) xt && eqb (a.y1 - a.y0) yt) (λ _. tt) (λ _. (long, (omega arith, omega arith)))
 
   by_room : (rule : Rule) (a : Area) (xt yt : ℕ) → Ordered a → Room (cut_by rule a xt yt) n
   unfolding cut_by Room
@@ -72,51 +63,49 @@ module _ (n : ℕ) (long : 40 ≤ n) where
   by_room Original a xt yt o = moved_room a xt yt
   by_room InPlace a xt yt o = (long, o)
 
-  of_room : (rule : Rule) (p : Placed) (xt yt : ℕ) → ((a : Area) → p ≡ placed.Tile a → Ordered a) → Room (size_of rule p xt yt) n
+  of_room : (rule : Rule) (p : Result Area Refusal) (xt yt : ℕ) → ((a : Area) → p ≡ Ok a → Ordered a) → Room (size_of rule p xt yt) n
   unfolding size_of Room
-  of_room rule (placed.Tile a) xt yt o = by_room rule a xt yt (o a refl)
-  of_room rule (placed.Refused r) xt yt o = tt
+  of_room rule (Ok a) xt yt o = by_room rule a xt yt (o a refl)
+  of_room rule (Err r) xt yt o = tt
 
 pub size_room : (rule : Rule) (h : List ℕ) (tile : ℕ) → Room (tile_size rule h tile) (length h)
 unfolding tile_size size_in Room
 size_room rule h tile =
-    let P : TileSize → Type 0 = λ s. Room s (length h) in
-    let ordered : (a : Area) → placed_by rule h tile ≡ placed.Tile a → Ordered a = λ a e. let i = tile_within rule h tile a e in (i.wide, i.high) in
+    let P : Result (Option Area) Refusal → Type 0 = λ s. Room s (length h) in
+    let ordered : (a : Area) → placed_by rule h tile ≡ Ok a → Ordered a = λ a e. let i = tile_within rule h tile a e in (i.wide, i.high) in
     by_test P (leb 40 (length h))
     (λ l. by_test P (eqb (be 2 h 2) SIZ)
     (λ _. of_room (length h) (leb-true _ _ l) rule (placed_by rule h tile) (xtsiz h marker) (ytsiz h marker) ordered)
     (λ _. tt))
     (λ _. tt)
 
-pub cut_room : (s : TileSize) (a : Area) (n : ℕ) → s ≡ size.Cut a → Room s n → (40 ≤ n) × Ordered a
+pub cut_room : (s : Result (Option Area) Refusal) (a : Area) (n : ℕ) → s ≡ Ok (Some a) → Room s n → (40 ≤ n) × Ordered a
 unfolding Room
 cut_room s a n e r = rw e at r
 
-pub cut_as : (s : TileSize) (a : Area) (h : List ℕ) → s ≡ size.Cut a → cut_to s h ≡ put h 8 (one_tile a)
+pub cut_as : (s : Result (Option Area) Refusal) (a : Area) (h : List ℕ) → s ≡ Ok (Some a) → cut_to s h ≡ put h 8 (one_tile a)
 unfolding cut_to
-cut_as s a h e = ap (λ (x : TileSize). cut_to x h) e
+cut_as s a h e = ap (λ (x : Result (Option Area) Refusal). cut_to x h) e
 
-pub cut_kept : (s : TileSize) (h : List ℕ) → OneOf (0 ∷ 2 ∷ []) (tag_of the_type s) → cut_to s h ≡ h
+pub cut_kept : (s : Result (Option Area) Refusal) (h : List ℕ) → s ≡ Ok None → cut_to s h ≡ h
 unfolding cut_to
-cut_kept size.Whole h k = refl
-cut_kept (size.Cut a) h k = absurd (⊎_elim (λ z. omega arith) (λ z. omega arith) k)
-cut_kept (size.Refused r) h k = refl
+cut_kept s h e = ap (λ (x : Result (Option Area) Refusal). cut_to x h) e
 
 -- a header written and then cut is the cut header written
-pub put_cut : (s : TileSize) (a : Area) (h out : List ℕ) → s ≡ size.Cut a → Room s (length h) → length h ≤ length out
+pub put_cut : (s : Result (Option Area) Refusal) (a : Area) (h out : List ℕ) → s ≡ Ok (Some a) → Room s (length h) → length h ≤ length out
     → put (put out 0 h) 8 (one_tile a) ≡ put out 0 (cut_to s h)
 put_cut s a h out e r room =
     put_inside out 0 h 8 (one_tile a) (omega (arith, length_one a, cut_room s a (length h) e r)) (omega arith)
     ∙ ap (put out 0) (sym (cut_as s a h e))
 
 module _ (P : List ℕ → List ℕ → Type 0) (h : List ℕ) (same : P h h) (cut : (a : Area) → 40 ≤ length h → P (put h 8 (one_tile a)) h) where
-  of_cut : (s : TileSize) → Room s (length h) → P (cut_to s h) h
+  of_cut : (s : Result (Option Area) Refusal) → Room s (length h) → P (cut_to s h) h
   unfolding cut_to Room
-  of_cut size.Whole r = same
-  of_cut (size.Cut a) r = cut a r.0
-  of_cut (size.Refused x) r = same
+  of_cut (Ok None) r = same
+  of_cut (Ok (Some a)) r = cut a r.0
+  of_cut (Err x) r = same
 
-pub length_cut : (s : TileSize) (h : List ℕ) → Room s (length h) → length (cut_to s h) ≡ length h
+pub length_cut : (s : Result (Option Area) Refusal) (h : List ℕ) → Room s (length h) → length (cut_to s h) ≡ length h
 length_cut s h r = of_cut (λ a b. length a ≡ length b) h refl (λ a l. length_put h 8 (one_tile a) (omega (arith, length_one a))) s r
 
 pub length_rewritten : (rule : Rule) (h : List ℕ) (tile : ℕ) → length (rewritten rule h tile) ≡ length h
@@ -137,29 +126,20 @@ rewritten_rest rule h tile =
 
 -- ---- the answer and the output
 
-bytes_refused : {n : ℕ} {r : Refusal} → ◌≡◌ {A = Written} (Refused r) (Bytes n) → ⊥
-bytes_refused e = let z : ◌≡◌ {A = ℕ} 0 1 = cc in omega arith
-
-room_bytes : (needed room n : ℕ) → with_room needed room ≡ Bytes n → (needed ≡ n) × (needed ≤ room)
+-- an answer of so many bytes has all that is needed, and the room
+pub room_bytes : (needed room n : ℕ) → with_room needed room ≡ Ok n → (needed ≡ n) × (needed ≤ room)
 unfolding with_room
 room_bytes needed room n e =
-    by_test (λ (a : Written). a ≡ Bytes n → (needed ≡ n) × (needed ≤ room)) (leb needed room)
+    by_test (λ (a : Result ℕ Refusal). a ≡ Ok n → (needed ≡ n) × (needed ≤ room)) (leb needed room)
     (λ l f. (cc, leb-true _ _ l))
-    (λ _ f. absurd (bytes_refused f))
+    (λ _ f. (cc))
     e
 
--- an answer of so many bytes has all that is needed, and the room
-pub judged_bytes : (s : TileSize) (needed room n : ℕ) → judged s needed room ≡ Bytes n → (needed ≡ n) × (needed ≤ room)
-unfolding judged
-judged_bytes size.Whole needed room n e = room_bytes needed room n e
-judged_bytes (size.Cut a) needed room n e = room_bytes needed room n e
-judged_bytes (size.Refused r) needed room n e = absurd (bytes_refused e)
-
-pub over_refused : (a : Written) (r : Refusal) (bytes out : List ℕ) → a ≡ Refused r → over a bytes out ≡ out
+pub over_refused : (a : Result ℕ Refusal) (r : Refusal) (bytes out : List ℕ) → a ≡ Err r → over a bytes out ≡ out
 unfolding over
-over_refused a r bytes out e = ap (λ (x : Written). over x bytes out) e
+over_refused a r bytes out e = ap (λ (x : Result ℕ Refusal). over x bytes out) e
 
-pub over_bytes : (a : Written) (n : ℕ) (bytes out : List ℕ) → a ≡ Bytes n → length bytes ≡ n → over a bytes out ≡ put out 0 bytes
+pub over_bytes : (a : Result ℕ Refusal) (n : ℕ) (bytes out : List ℕ) → a ≡ Ok n → length bytes ≡ n → over a bytes out ≡ put out 0 bytes
 unfolding over
 over_bytes a n bytes out e l =
-    ap (λ (x : Written). over x bytes out) e ∙ ap (λ (k : ℕ). bytes ++ drop k out) (sym l) ∙ sym (put_start out bytes)
+    ap (λ (x : Result ℕ Refusal). over x bytes out) e ∙ ap (λ (k : ℕ). bytes ++ drop k out) (sym l) ∙ sym (put_start out bytes)

@@ -9,6 +9,7 @@ use mathlib.Core.List.{List, [], ◌∷◌, ◌++◌, append-nil}
 use lib.ListN.{length, get_or, take}
 use lib.Dec.{leb, eqb}
 use borrow.Author.Tests.{leb-true, leb-false, eqb-true, eqb-false}
+use Rattle.std.specs.Prelude.{Option, Some, None, Result, Ok, Err}
 use Rattle.numbers.specs.Bytes.{be, put}
 use Rattle.numbers.specs.Rows.{Row, row, bytes_of_rows, widths}
 use Rattle.numbers.proofs.BytesLaws.{be_put, be_put_before, be_put_after, be_bound, put_again, ceil_same}
@@ -26,16 +27,13 @@ use Rattle.tile.specs.Rewrite.{sized, moved, cut_by, size_in, tile_size, cut_to,
 use Rattle.tile.specs.Iso.{Gridded, num_xtiles, num_ytiles, column_of, row_of, start_of, end_of, area_of, cut_size}
 use Rattle.tile.specs.declared.rules.Rule.{Rule}
 use Rattle.tile.specs.declared.rules.Rule.TheVariants.{AnnexB, InPlace}
-use Rattle.tile.specs.declared.rules.Placed.{Placed}
-use Rattle.tile.specs.declared.rules.Placed.TheVariants.{Tile, Refused}
-use Rattle.tile.specs.declared.rewrite.TileSize.{TileSize}
-use Rattle.tile.specs.declared.rewrite.TileSize.TheVariants as size
 use Rattle.tile.proofs.RulesLaws.{kept_annex, tile_some, tile_within}
 use Rattle.tile.proofs.RulesAgree.{tile_same}
 use Rattle.tile.proofs.RewriteLaws.{size_refused, size_inside, size_short, size_other, size_siz}
 use Rattle.tile.proofs.RewriteHeader.{length_one, length_rewritten}
 use Rattle.tile.proofs.RewriteAgree.{Accepts}
 use Rattle.tile.proofs.Iso.{Holds, size_held, Standard, one_rows, one_rows_lem, annex_standard, annex_only, annex_no_tile}
+use Rattle.types.specs.declared.Reason.TheVariants.{NoSuchTile}
 
 -- ---- by the standard's fields
 
@@ -97,16 +95,16 @@ module _ (z : Size) (a : Area) (wide : a.x0 < a.x1) (high : a.y0 < a.y1) where
 
 -- ---- a header that is cut
 
-whole_cut : {a : Area} → ◌≡◌ {A = TileSize} size.Whole (size.Cut a) → ⊥
-whole_cut e = let z : ◌≡◌ {A = ℕ} 0 1 = cc in omega arith
+whole_cut : {a : Area} → ◌≡◌ {A = Result (Option Area) Refusal} (Ok None) (Ok (Some a)) → ⊥
+whole_cut e = cc
 
-refused_cut : {r : Refusal} {a : Area} → ◌≡◌ {A = TileSize} (size.Refused r) (size.Cut a) → ⊥
-refused_cut e = let z : ◌≡◌ {A = ℕ} 0 1 = cc in omega arith
+refused_cut : {r : Refusal} {a : Area} → ◌≡◌ {A = Result (Option Area) Refusal} (Err r) (Ok (Some a)) → ⊥
+refused_cut e = cc
 
-whole_refused : {r : Refusal} → ◌≡◌ {A = TileSize} size.Whole (size.Refused r) → ⊥
-whole_refused e = let z : ◌≡◌ {A = ℕ} 0 1 = cc in omega arith
+whole_refused : {r : Refusal} → ◌≡◌ {A = Result (Option Area) Refusal} (Ok None) (Err r) → ⊥
+whole_refused e = cc
 
-cut_same : {a b : Area} → ◌≡◌ {A = TileSize} (size.Cut a) (size.Cut b) → a ≡ b
+cut_same : {a b : Area} → ◌≡◌ {A = Result (Option Area) Refusal} (Ok (Some a)) (Ok (Some b)) → a ≡ b
 cut_same e = cc
 
 -- by a rule, to an area: it is long enough, has SIZ, and the rule tells its tile
@@ -114,15 +112,15 @@ pub record CutBy (rule : Rule) (h : List ℕ) (tile : ℕ) (b : Area) : Type 0 w
   pub long : 40 ≤ length h
   pub siz : be 2 h marker ≡ SIZ
   pub area : Area
-  pub told : placed_by rule h tile ≡ Tile area
-  pub cut : cut_by rule area (xtsiz h marker) (ytsiz h marker) ≡ size.Cut b
+  pub told : placed_by rule h tile ≡ Ok area
+  pub cut : cut_by rule area (xtsiz h marker) (ytsiz h marker) ≡ Ok (Some b)
 
 module _ (rule : Rule) (h : List ℕ) (tile : ℕ) (b : Area) where
-  told_by_lem : 40 ≤ length h → be 2 h marker ≡ SIZ → (p : Placed) → placed_by rule h tile ≡ p → size_in rule h tile ≡ size.Cut b → CutBy rule h tile b
-  told_by_lem long siz (Tile a) f e = record { long = long; siz = siz; area = a; told = f; cut = sym (size_inside rule h tile a f) ∙ e }
-  told_by_lem long siz (Refused r) f e = absurd (refused_cut (sym (size_refused rule h tile r f) ∙ e))
+  told_by_lem : 40 ≤ length h → be 2 h marker ≡ SIZ → (p : Result Area Refusal) → placed_by rule h tile ≡ p → size_in rule h tile ≡ Ok (Some b) → CutBy rule h tile b
+  told_by_lem long siz (Ok a) f e = record { long = long; siz = siz; area = a; told = f; cut = sym (size_inside rule h tile a f) ∙ e }
+  told_by_lem long siz (Err r) f e = absurd (refused_cut (sym (size_refused rule h tile r f) ∙ e))
 
-  pub cut_by_lem : tile_size rule h tile ≡ size.Cut b → CutBy rule h tile b
+  pub cut_by_lem : tile_size rule h tile ≡ Ok (Some b) → CutBy rule h tile b
   cut_by_lem e =
       by_bool (leb 40 (length h))
       (λ l. let long = leb-true _ _ l in
@@ -141,19 +139,19 @@ AllBytes h = (i : ℕ) → get_or h i 0 < 256
 pub record Kept (h : List ℕ) (tile : ℕ) (a : Area) : Type 0 where
   pub long : 40 ≤ length h
   pub siz : be 2 h marker ≡ SIZ
-  pub told : placed_by AnnexB h tile ≡ Tile a
+  pub told : placed_by AnnexB h tile ≡ Ok a
 
 -- It is cut to that area, full size too.
-pub kept_cut : {h : List ℕ} {tile : ℕ} {a : Area} → Kept h tile a → tile_size InPlace h tile ≡ size.Cut a
+pub kept_cut : {h : List ℕ} {tile : ℕ} {a : Area} → Kept h tile a → tile_size InPlace h tile ≡ Ok (Some a)
 unfolding cut_by
 kept_cut {h} {tile} {a} k = size_siz InPlace h tile k.long k.siz ∙ size_inside InPlace h tile a (kept_annex h tile ∙ k.told)
 
 -- And only such a one is cut.
-pub cut_kept : (h : List ℕ) (tile : ℕ) (a : Area) → tile_size InPlace h tile ≡ size.Cut a → Kept h tile a
+pub cut_kept : (h : List ℕ) (tile : ℕ) (a : Area) → tile_size InPlace h tile ≡ Ok (Some a) → Kept h tile a
 unfolding cut_by
 cut_kept h tile a e =
     let c : CutBy InPlace h tile a = cut_by_lem InPlace h tile a e in
-    record { long = c.long; siz = c.siz; told = sym (kept_annex h tile) ∙ c.told ∙ ap Tile (cut_same c.cut) }
+    record { long = c.long; siz = c.siz; told = sym (kept_annex h tile) ∙ c.told ∙ ap Ok (cut_same c.cut) }
 
 module _ (h : List ℕ) (tile : ℕ) (a : Area) (bytes : AllBytes h) (k : Kept h tile a) where
   some : (a.x0 < a.x1) × (a.y0 < a.y1)
@@ -161,7 +159,7 @@ module _ (h : List ℕ) (tile : ℕ) (a : Area) (bytes : AllBytes h) (k : Kept h
 
   pub kept_written : rewritten InPlace h tile ≡ put h 8 (one_tile a)
   unfolding rewritten cut_to
-  kept_written = ap (λ (s : TileSize). cut_to s h) (kept_cut k)
+  kept_written = ap (λ (s : Result (Option Area) Refusal). cut_to s h) (kept_cut k)
 
   -- what stands in front of the eight fields, and behind them, stays
   pub kept_front : (n at : ℕ) → at + n ≤ 8 → be n (rewritten InPlace h tile) at ≡ be n h at
@@ -249,11 +247,11 @@ module _ (h : List ℕ) (tile : ℕ) (a : Area) (bytes : AllBytes h) (k : Kept h
   new_one = one_tile_lem _ a some.0 some.1
 
   -- So it is by our rule: tile 0 lies there, and any other index is 31.
-  pub kept_told : placed_by AnnexB (rewritten InPlace h tile) 0 ≡ Tile a
+  pub kept_told : placed_by AnnexB (rewritten InPlace h tile) 0 ≡ Ok a
   kept_told =
-      annex_standard new (rewritten InPlace h tile) new_holds 0 new_one.gridded (rw (new_one.columns, new_one.rows) (omega arith)) ∙ ap Tile new_one.area
+      annex_standard new (rewritten InPlace h tile) new_holds 0 new_one.gridded (rw (new_one.columns, new_one.rows) (omega arith)) ∙ ap Ok new_one.area
 
-  pub kept_alone : (other : ℕ) → 1 ≤ other → placed_by AnnexB (rewritten InPlace h tile) other ≡ Refused (refusal 31 marker)
+  pub kept_alone : (other : ℕ) → 1 ≤ other → placed_by AnnexB (rewritten InPlace h tile) other ≡ Err (refusal NoSuchTile marker)
   kept_alone other more = annex_no_tile new (rewritten InPlace h tile) new_holds other new_one.gridded (rw (new_one.columns, new_one.rows) more)
 
   -- And it is kept there again.
@@ -263,7 +261,7 @@ module _ (h : List ℕ) (tile : ℕ) (a : Area) (bytes : AllBytes h) (k : Kept h
   written_again : rewritten InPlace (rewritten InPlace h tile) 0 ≡ rewritten InPlace h tile
   unfolding rewritten cut_to
   written_again =
-      ap (λ (s : TileSize). cut_to s (rewritten InPlace h tile)) (kept_cut kept_again)
+      ap (λ (s : Result (Option Area) Refusal). cut_to s (rewritten InPlace h tile)) (kept_cut kept_again)
       ∙ ap (λ (s : List ℕ). put s 8 (one_tile a)) kept_written
       ∙ put_again h 8 (one_tile a) (omega (arith, k.long, length_one a))
       ∙ sym kept_written
@@ -272,12 +270,12 @@ module _ (h : List ℕ) (tile : ℕ) (a : Area) (bytes : AllBytes h) (k : Kept h
 
 -- a header that stays as it is for a tile does so for every tile
 module _ (h : List ℕ) (tile other : ℕ) where
-  in_place_whole : (p : Placed) → placed_by InPlace h tile ≡ p → size_in InPlace h tile ≡ size.Whole → ⊥
+  in_place_whole : (p : Result Area Refusal) → placed_by InPlace h tile ≡ p → size_in InPlace h tile ≡ Ok None → ⊥
   unfolding cut_by
-  in_place_whole (Tile a) f e = whole_cut (sym (sym (size_inside InPlace h tile a f) ∙ e))
-  in_place_whole (Refused r) f e = whole_refused (sym (sym (size_refused InPlace h tile r f) ∙ e))
+  in_place_whole (Ok a) f e = whole_cut (sym (sym (size_inside InPlace h tile a f) ∙ e))
+  in_place_whole (Err r) f e = whole_refused (sym (sym (size_refused InPlace h tile r f) ∙ e))
 
-  stays : tile_size InPlace h tile ≡ size.Whole → tile_size InPlace h other ≡ size.Whole
+  stays : tile_size InPlace h tile ≡ Ok None → tile_size InPlace h other ≡ Ok None
   stays e =
       by_bool (leb 40 (length h))
       (λ l. let long = leb-true _ _ l in
@@ -296,37 +294,37 @@ pub rewrite_again : (h : List ℕ) (tile : ℕ) → AllBytes h → Accepts (tile
 unfolding rewritten cut_to
 rewrite_again h tile bytes accepts = by (tile_size InPlace h tile) refl
   where
-    by : (s : TileSize) → tile_size InPlace h tile ≡ s → Again h tile
-    by size.Whole e =
-        let same : rewritten InPlace h tile ≡ h = ap (λ (s : TileSize). cut_to s h) e in
-        let again : tile_size InPlace h 0 ≡ size.Whole = stays h tile 0 e in
+    by : (s : Result (Option Area) Refusal) → tile_size InPlace h tile ≡ s → Again h tile
+    by (Ok None) e =
+        let same : rewritten InPlace h tile ≡ h = ap (λ (s : Result (Option Area) Refusal). cut_to s h) e in
+        let again : tile_size InPlace h 0 ≡ Ok None = stays h tile 0 e in
         record {
           size = ap (λ (x : List ℕ). tile_size InPlace x 0) same ∙ again ∙ sym e;
-          header = ap (λ (x : List ℕ). rewritten InPlace x 0) same ∙ ap (λ (s : TileSize). cut_to s h) again ∙ sym same;
+          header = ap (λ (x : List ℕ). rewritten InPlace x 0) same ∙ ap (λ (s : Result (Option Area) Refusal). cut_to s h) again ∙ sym same;
         }
-    by (size.Cut a) e =
+    by (Ok (Some a)) e =
         let k : Kept h tile a = cut_kept h tile a e in
         record { size = kept_cut (kept_again h tile a bytes k) ∙ sym e; header = written_again h tile a bytes k }
-    by (size.Refused r) e = absurd (accepts r e)
+    by (Err r) e = absurd (accepts r e)
 
 -- ---- beside Annex B's rule
 
-moved_zero : (a b : Area) (xt yt : ℕ) → a.x0 ≡ 0 → a.y0 ≡ 0 → moved a xt yt ≡ size.Cut b → a ≡ b
+moved_zero : (a b : Area) (xt yt : ℕ) → a.x0 ≡ 0 → a.y0 ≡ 0 → moved a xt yt ≡ Ok (Some b) → a ≡ b
 unfolding moved sized
 moved_zero a b xt yt x y =
-    by_test (λ (s : TileSize). s ≡ size.Cut b → a ≡ b) (eqb (a.x1 - a.x0) xt && eqb (a.y1 - a.y0) yt)
+    by_test (λ (s : Result (Option Area) Refusal). s ≡ Ok (Some b) → a ≡ b) (eqb (a.x1 - a.x0) xt && eqb (a.y1 - a.y0) yt)
     (λ _ e. absurd (whole_cut e))
     (λ _ e. let right : a.x1 ≡ a.x1 - a.x0 = omega arith in
     let bottom : a.y1 ≡ a.y1 - a.y0 = omega arith in
     (λ i. record { x0 = x i; y0 = y i; x1 = right i; y1 = bottom i }) ∙ cut_same e)
 
 -- Where Annex B's rule cuts a tile that starts at 0, to keep it in its place is the same.
-pub zero_agrees : (h : List ℕ) (tile : ℕ) (a b : Area) → placed_by AnnexB h tile ≡ Tile a → a.x0 ≡ 0 → a.y0 ≡ 0 → tile_size AnnexB h tile ≡ size.Cut b
+pub zero_agrees : (h : List ℕ) (tile : ℕ) (a b : Area) → placed_by AnnexB h tile ≡ Ok a → a.x0 ≡ 0 → a.y0 ≡ 0 → tile_size AnnexB h tile ≡ Ok (Some b)
     → rewritten InPlace h tile ≡ rewritten AnnexB h tile
 unfolding rewritten cut_by
 zero_agrees h tile a b told x y e =
     let c : CutBy AnnexB h tile b = cut_by_lem AnnexB h tile b e in
     let same : c.area ≡ a = tile_same (sym c.told ∙ told) in
     let there : a ≡ b = moved_zero a b _ _ x y (ap (λ (d : Area). moved d (xtsiz h marker) (ytsiz h marker)) (sym same) ∙ c.cut) in
-    let k : Kept h tile b = record { long = c.long; siz = c.siz; told = told ∙ ap Tile there } in
-    ap (λ (s : TileSize). cut_to s h) (kept_cut k ∙ sym e)
+    let k : Kept h tile b = record { long = c.long; siz = c.siz; told = told ∙ ap Ok there } in
+    ap (λ (s : Result (Option Area) Refusal). cut_to s h) (kept_cut k ∙ sym e)

@@ -7,6 +7,7 @@ use mathlib.Core.Logic.{◌⊎◌, inl, inr, ⊎_elim}
 use mathlib.Core.List.{List}
 use lib.Dec.{ltb}
 use borrow.Author.Tests.{ltb-true, ltb-false}
+use Rattle.std.specs.Prelude.{Option, Some, None, Result, Ok, Err}
 use Rattle.numbers.specs.Ceiling.{ceil_div}
 use Rattle.numbers.proofs.Choice.{by_bool}
 use Rattle.types.specs.Refusals.{refusal}
@@ -18,16 +19,17 @@ use Rattle.tile.specs.AnnexB.{across, down, cells_of, from_of, to_of, cell_area}
 use Rattle.tile.specs.Original.{axis_of, columns_of, in_grid, tile_area}
 use Rattle.tile.specs.Rules.{by_original, placed_by}
 use Rattle.tile.specs.declared.annex_b.Side.{Side}
-use Rattle.tile.specs.declared.original.Axis.TheVariants.{Span, Outside}
-use Rattle.tile.specs.declared.original.TileArea.TheVariants as area
+use Rattle.tile.specs.declared.siz.Span.{Span}
 use Rattle.tile.specs.declared.rules.Rule.TheVariants.{AnnexB, Original}
-use Rattle.tile.specs.declared.rules.Placed.{Placed}
-use Rattle.tile.specs.declared.rules.Placed.TheVariants.{Tile, Refused}
 use Rattle.tile.proofs.AnnexBLaws.{Laid, Found, next_cell, cell_starts, columns_positive, column_inside, row_inside}
 use Rattle.tile.proofs.OriginalLaws.{axis_inside, axis_passes, columns_some, grid_across, grid_down, grid_both}
 use Rattle.tile.proofs.RulesLaws.{refused_tile, annex_told}
+use Rattle.types.specs.declared.Reason.TheVariants.{TileOutside}
 
 -- ---- one axis
+
+spanned : ℕ → ℕ → Option Span
+spanned from to = Some (record { from = from; to = to })
 
 module _ (s : Side) (l : Laid s) (same : s.tile_origin ≡ s.origin) where
   columns_same : columns_of s.end s.origin s.size ≡ cells_of s
@@ -37,13 +39,13 @@ module _ (s : Side) (l : Laid s) (same : s.tile_origin ≡ s.origin) where
       ∙ ap (λ (o : ℕ). ceil_div (s.end - o) s.size) (sym same)
 
   module _ (cell : ℕ) (inside : cell < cells_of s) where
-    axis_same : s.tile_origin + (cell + 1) * s.size < 2 ^ 32 → axis_of s.end s.origin s.size cell ≡ Span (from_of s cell) (to_of s cell)
-    unfolding from_of to_of
+    axis_same : s.tile_origin + (cell + 1) * s.size < 2 ^ 32 → axis_of s.end s.origin s.size cell ≡ Some (record { from = from_of s cell; to = to_of s cell })
+    unfolding from_of to_of spanned
     axis_same fits =
         axis_inside s.end s.origin s.size cell (omega (arith, next_cell cell s.size)) (omega (arith, cell_starts s l cell inside))
-        ∙ ap₂ Span (omega arith) (omega (arith, next_cell cell s.size))
+        ∙ ap₂ spanned (omega arith) (omega (arith, next_cell cell s.size))
 
-    axis_past : 2 ^ 32 ≤ s.tile_origin + (cell + 1) * s.size → axis_of s.end s.origin s.size cell ≡ Outside
+    axis_past : 2 ^ 32 ≤ s.tile_origin + (cell + 1) * s.size → axis_of s.end s.origin s.size cell ≡ None
     axis_past h = axis_passes s.end s.origin s.size cell (omega (arith, next_cell cell s.size))
 
 -- ---- the tile
@@ -60,7 +62,7 @@ last_x h tile = xtosiz h marker + (tile % cells_of (across h) + 1) * xtsiz h mar
 abbrev pub last_y : List ℕ → ℕ → ℕ
 last_y h tile = ytosiz h marker + (tile / cells_of (across h) + 1) * ytsiz h marker
 
-module _ (h : List ℕ) (tile : ℕ) (a : Area) (one : OneOrigin h) (told : placed_by AnnexB h tile ≡ Tile a) where
+module _ (h : List ℕ) (tile : ℕ) (a : Area) (one : OneOrigin h) (told : placed_by AnnexB h tile ≡ Ok a) where
   grid : Found (across h) (down h) tile a
   grid = annex_told h tile a told
 
@@ -72,29 +74,29 @@ module _ (h : List ℕ) (tile : ℕ) (a : Area) (one : OneOrigin h) (told : plac
   in_columns = ap (λ (n : ℕ). in_grid h n tile) (columns_same (across h) grid.columns one.x)
 
   module _ (fits : last_x h tile < 2 ^ 32) where
-    across_same : axis_of (across h).end (across h).origin (across h).size (tile % cells_of (across h)) ≡ Span (from_of (across h) (tile % cells_of (across h))) (to_of (across h) (tile % cells_of (across h)))
+    across_same : axis_of (across h).end (across h).origin (across h).size (tile % cells_of (across h)) ≡ Some (record { from = from_of (across h) (tile % cells_of (across h)); to = to_of (across h) (tile % cells_of (across h)) })
     across_same = axis_same (across h) grid.columns one.x _ (column_inside _ _ _ grid.inside) fits
 
     -- Where both sums fit, it lies there by the original's rule too.
-    pub original_follows : last_y h tile < 2 ^ 32 → placed_by Original h tile ≡ Tile a
+    pub original_follows : last_y h tile < 2 ^ 32 → placed_by Original h tile ≡ Ok a
     unfolding placed_by by_original cell_area
     original_follows low =
         ap by_original
         (in_columns
-        ∙ grid_both h (cells_of (across h)) tile some _ _ _ _ across_same (axis_same (down h) grid.rows one.y _ (row_inside _ _ _ grid.inside) low)
-        ∙ ap area.Tile (sym grid.area))
+        ∙ grid_both h (cells_of (across h)) tile some _ _ across_same (axis_same (down h) grid.rows one.y _ (row_inside _ _ _ grid.inside) low)
+        ∙ ap Some (sym grid.area))
 
-    past_down : 2 ^ 32 ≤ last_y h tile → tile_area h tile ≡ area.Outside
+    past_down : 2 ^ 32 ≤ last_y h tile → tile_area h tile ≡ None
     past_down high =
         in_columns
-        ∙ grid_down h (cells_of (across h)) tile some _ _ across_same (axis_past (down h) grid.rows one.y _ (row_inside _ _ _ grid.inside) high)
+        ∙ grid_down h (cells_of (across h)) tile some _ across_same (axis_past (down h) grid.rows one.y _ (row_inside _ _ _ grid.inside) high)
 
-  past_across : 2 ^ 32 ≤ last_x h tile → tile_area h tile ≡ area.Outside
+  past_across : 2 ^ 32 ≤ last_x h tile → tile_area h tile ≡ None
   past_across high =
       in_columns ∙ grid_across h (cells_of (across h)) tile some (axis_past (across h) grid.columns one.x _ (column_inside _ _ _ grid.inside) high)
 
   -- Where one passes 32 bits, the original's rule refuses it.
-  pub original_passes : (2 ^ 32 ≤ last_x h tile) ⊎ (2 ^ 32 ≤ last_y h tile) → placed_by Original h tile ≡ Refused (refusal 10 marker)
+  pub original_passes : (2 ^ 32 ≤ last_x h tile) ⊎ (2 ^ 32 ≤ last_y h tile) → placed_by Original h tile ≡ Err (refusal TileOutside marker)
   unfolding placed_by by_original
   original_passes high =
       ap by_original
@@ -103,7 +105,7 @@ module _ (h : List ℕ) (tile : ℕ) (a : Area) (one : OneOrigin h) (told : plac
       high)
 
   -- And only then.
-  pub original_refused : (r : Refusal) → placed_by Original h tile ≡ Refused r → (2 ^ 32 ≤ last_x h tile) ⊎ (2 ^ 32 ≤ last_y h tile)
+  pub original_refused : (r : Refusal) → placed_by Original h tile ≡ Err r → (2 ^ 32 ≤ last_x h tile) ⊎ (2 ^ 32 ≤ last_y h tile)
   original_refused r e =
       by_bool (ltb (last_x h tile) (2 ^ 32))
       (λ x. by_bool (ltb (last_y h tile) (2 ^ 32))
@@ -111,11 +113,11 @@ module _ (h : List ℕ) (tile : ℕ) (a : Area) (one : OneOrigin h) (told : plac
       (λ y. inr (ltb-false _ _ y)))
       (λ x. inl (ltb-false _ _ x))
 
-pub tile_same : {a b : Area} → ◌≡◌ {A = Placed} (Tile a) (Tile b) → a ≡ b
+pub tile_same : {a b : Area} → ◌≡◌ {A = Result Area Refusal} (Ok a) (Ok b) → a ≡ b
 tile_same e = cc
 
 -- The two rules agree where both tell a tile.
-pub rules_agree : (h : List ℕ) (tile : ℕ) (a b : Area) → OneOrigin h → placed_by AnnexB h tile ≡ Tile a → placed_by Original h tile ≡ Tile b → a ≡ b
+pub rules_agree : (h : List ℕ) (tile : ℕ) (a b : Area) → OneOrigin h → placed_by AnnexB h tile ≡ Ok a → placed_by Original h tile ≡ Ok b → a ≡ b
 rules_agree h tile a b one e f =
     by_bool (ltb (last_x h tile) (2 ^ 32))
     (λ x. by_bool (ltb (last_y h tile) (2 ^ 32))

@@ -3,6 +3,7 @@ use Prim.Native.Nat.{ℕ, ◌*◌, ◌/◌, ◌%◌, ◌<◌}
 use mathlib.Core.Path.{◌≡◌, ap, ◌∙◌}
 use mathlib.Core.List.{List}
 use lib.Dec.{lit<}
+use Rattle.std.specs.Prelude.{Ok}
 use Rattle.numbers.proofs.BytesLaws.{ceil_one}
 use Rattle.types.specs.Area.{Has}
 use Rattle.types.specs.declared.Area.{Area}
@@ -10,7 +11,6 @@ use Rattle.tile.specs.AnnexB.{across, down, cells_of, cell_area, grid_tile}
 use Rattle.tile.specs.Rules.{image_area, by_annex_b, placed_by}
 use Rattle.tile.specs.declared.annex_b.Side.{Side}
 use Rattle.tile.specs.declared.rules.Rule.TheVariants.{AnnexB}
-use Rattle.tile.specs.declared.rules.Placed.TheVariants.{Tile}
 use Rattle.tile.proofs.AnnexBLaws.{Laid, Found, is_laid, some_grid, grid_inside}
 use Rattle.tile.proofs.AnnexBCells.{Once, HasSample, InTile, grid_partition}
 use Rattle.tile.proofs.RulesLaws.{annex_told}
@@ -20,9 +20,9 @@ pub record OneTile (h : List ℕ) (P : Area → Type 0) : Type 0 where
   pub tile : ℕ
   pub area : Area
   pub below : tile < cells_of (across h) * cells_of (down h)
-  pub found : placed_by AnnexB h tile ≡ Tile area
+  pub found : placed_by AnnexB h tile ≡ Ok area
   pub has : P area
-  pub only : (u : ℕ) (b : Area) → placed_by AnnexB h u ≡ Tile b → P b → u ≡ tile
+  pub only : (u : ℕ) (b : Area) → placed_by AnnexB h u ≡ Ok b → P b → u ≡ tile
 
 -- Statements that say the same of every area have the same tile.
 pub one_tile_lem : {h : List ℕ} {P Q : Area → Type 0} → ((a : Area) → P a → Q a) → ((a : Area) → Q a → P a) → OneTile h P → OneTile h Q

@@ -1,14 +1,14 @@
 -- Where a tile lies by the standard's rule (docs/RULES.md, "Tiles by Annex B"; ISO/IEC 15444-1, B.3): counted from the tile origin, and clipped to the
 -- image on both sides. No sum has a bound.
-use Rattle.std.specs.Prelude.{ℕ, ◌+◌, ◌-◌, ◌*◌, ◌/◌, ◌%◌, min, max, Bool, cond, ◌&&◌, List, leb, ltb}
+use Rattle.std.specs.Prelude.{ℕ, ◌+◌, ◌-◌, ◌*◌, ◌/◌, ◌%◌, min, max, Bool, cond, ◌&&◌, List, leb, ltb, Result, Ok, Err}
 use Rattle.numbers.specs.Bytes.{be}
 use Rattle.numbers.specs.Ceiling.{ceil_div}
 use Rattle.types.specs.Siz.{XSIZ, xsiz, ysiz, xosiz, yosiz, xtsiz, ytsiz, xtosiz, ytosiz}
 use Rattle.types.specs.declared.Area.{Area}
 use Rattle.tile.specs.Siz.{marker}
 use Rattle.tile.specs.declared.annex_b.Side.{Side}
-use Rattle.tile.specs.declared.annex_b.GridTile.{GridTile}
-use Rattle.tile.specs.declared.annex_b.GridTile.TheVariants.{Tile, NoGrid, NoTile}
+use Rattle.tile.specs.declared.annex_b.NoTile.{NoTile}
+use Rattle.tile.specs.declared.annex_b.NoTile.TheVariants.{NoGrid, PastGrid}
 
 -- ---- one axis
 
@@ -55,16 +55,16 @@ unfolding from_of to_of
 cell_area x y column row = record { x0 = from_of x column; y0 = from_of y row; x1 = to_of x column; y1 = to_of y row }
 
 -- the index is below columns * rows: otherwise 31. Column and row are remainder and quotient of the index by the columns.
-unfoldable pub in_cells : Side → Side → ℕ → GridTile
+unfoldable pub in_cells : Side → Side → ℕ → Result Area NoTile
 unfolding cell_area
 in_cells x y tile =
-    cond (ltb tile (cells_of x * cells_of y)) (Tile (cell_area x y (tile % cells_of x) (tile / cells_of x))) NoTile
+    cond (ltb tile (cells_of x * cells_of y)) (Ok (cell_area x y (tile % cells_of x) (tile / cells_of x))) (Err PastGrid)
 
 -- 30 comes first
-unfoldable pub on_grid : Side → Side → ℕ → GridTile
+unfoldable pub on_grid : Side → Side → ℕ → Result Area NoTile
 unfolding in_cells
-on_grid x y tile = cond (laid x && laid y) (in_cells x y tile) NoGrid
+on_grid x y tile = cond (laid x && laid y) (in_cells x y tile) (Err NoGrid)
 
-unfoldable pub grid_tile : List ℕ → ℕ → GridTile
+unfoldable pub grid_tile : List ℕ → ℕ → Result Area NoTile
 unfolding on_grid
 grid_tile h tile = on_grid (across h) (down h) tile

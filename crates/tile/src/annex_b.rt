@@ -3,7 +3,7 @@
 ghost use Rattle.std.specs.Prelude.{◌≡◌, true, ◌+◌, ◌≤◌, ◌<◌, length};
 ghost use Rattle.tile.specs.AnnexB.{side_at, laid, cells_of, from_of, to_of, in_cells, grid_tile};
 
-use crate::siz::field;
+use crate::siz::{Span, field};
 use types::{Area, siz};
 
 // SIZ along one axis.
@@ -15,20 +15,13 @@ pub struct Side {
     pub tile_origin: u32,
 }
 
-// A tile along one axis.
+// Why no tile is told.
 #[derive(Clone, Copy)]
-pub struct Span {
-    pub from: u32,
-    pub to: u32,
-}
-
-#[derive(Clone, Copy)]
-pub enum GridTile {
-    Tile(Area),
+pub enum NoTile {
     // The fields make no grid of tiles.
     NoGrid,
     // The index is past the last tile of the grid.
-    NoTile,
+    PastGrid,
 }
 
 // What is added to the place of a field across: each field down stands behind it.
@@ -52,14 +45,10 @@ fn side_at(header: &[u8], axis: usize) -> Side
 fn is_laid(side: Side) -> bool
     ensures { result ≡ laid side }
 {
-    if side.origin < side.tile_origin {
-        return false;
-    }
-    if side.end <= side.origin {
-        return false;
-    }
     // A tile of size 0 reaches into nothing.
-    (side.origin as u64) < side.tile_origin as u64 + side.size as u64
+    side.tile_origin <= side.origin
+        && side.origin < side.end
+        && (side.origin as u64) < side.tile_origin as u64 + side.size as u64
 }
 
 // How many columns of tiles, or rows.
@@ -79,12 +68,12 @@ fn span_of(side: Side, cell: u64) -> Span
     let from = side.tile_origin as u64 + cell * (side.size as u64);
     let to = from + side.size as u64;
     Span {
-        from: numbers::maximum(from, side.origin as u64) as u32,
-        to: numbers::minimum(to, side.end as u64) as u32,
+        from: from.max(side.origin as u64) as u32,
+        to: to.min(side.end as u64) as u32,
     }
 }
 
-fn in_cells(across: Side, down: Side, tile: u32) -> GridTile
+fn in_cells(across: Side, down: Side, tile: u32) -> Result<Area, NoTile>
     requires across_value { laid across ≡ true }
     requires down_value { laid down ≡ true }
     ensures { result ≡ in_cells across down tile }
@@ -92,11 +81,11 @@ fn in_cells(across: Side, down: Side, tile: u32) -> GridTile
     let columns = cells(across);
     let rows = cells(down);
     if columns * rows <= tile as u64 {
-        return GridTile::NoTile;
+        return Err(NoTile::PastGrid);
     }
     let x = span_of(across, tile as u64 % columns);
     let y = span_of(down, tile as u64 / columns);
-    GridTile::Tile(Area {
+    Ok(Area {
         x0: x.from,
         y0: y.from,
         x1: x.to,
@@ -104,17 +93,17 @@ fn in_cells(across: Side, down: Side, tile: u32) -> GridTile
     })
 }
 
-pub fn tile_area(header: &[u8], isot: u16) -> GridTile
+pub fn tile_area(header: &[u8], isot: u16) -> Result<Area, NoTile>
     requires { 40 ≤ length header.now }
     ensures { result ≡ grid_tile header.now isot }
 {
     let across = side_at(header, ACROSS);
     if !is_laid(across) {
-        return GridTile::NoGrid;
+        return Err(NoTile::NoGrid);
     }
     let down = side_at(header, DOWN);
     if !is_laid(down) {
-        return GridTile::NoGrid;
+        return Err(NoTile::NoGrid);
     }
     in_cells(across, down, isot as u32)
 }

@@ -1,16 +1,13 @@
 // Where the image lies on the reference grid, and where a tile does by a rule (docs/RULES.md, "Tiles").
 ghost use Rattle.std.specs.Prelude.{◌≡◌, ◌≤◌, length};
-ghost use Rattle.types.specs.Refusals.{refusal};
-ghost use Rattle.tile.specs.Siz.{marker};
-ghost use Rattle.tile.specs.Rules.{image_area, by_annex_b, by_original, placed_by};
+ghost use Rattle.tile.specs.Rules.{image_area, refusal_for, placed_by, rule_of};
 
-use crate::annex_b::GridTile;
-use crate::original::TileArea;
+use crate::annex_b::NoTile;
 use crate::siz::{MARKER, field};
-use types::{Area, Refusal, siz};
+use types::{Area, Reason, Refusal, siz};
 
 // The rule by which a tile's place is told.
-#[derive(Clone, Copy)]
+#[derive(Clone, Copy, PartialEq, Eq)]
 pub enum Rule {
     // The standard's.
     AnnexB,
@@ -19,11 +16,20 @@ pub enum Rule {
     InPlace,
 }
 
-// Where a tile lies by a rule.
-#[derive(Clone, Copy)]
-pub enum Placed {
-    Tile(Area),
-    Refused(Refusal),
+// As C gives it: 1 is the original's, 2 keeps a tile in its place; any other number is Annex B's, which is 0.
+impl From<u32> for Rule {
+    ghost from_gives = { λ number rule. rule ≡ rule_of number };
+
+    fn from(number: u32) -> Rule {
+        if number == 1 {
+            return Rule::Original;
+        }
+        if number == 2 {
+            Rule::InPlace
+        } else {
+            Rule::AnnexB
+        }
+    }
 }
 
 pub fn image_area(header: &[u8]) -> Area
@@ -38,41 +44,31 @@ pub fn image_area(header: &[u8]) -> Area
     }
 }
 
-fn refuse(number: u32) -> Placed
-    ensures { result ≡ Placed.Refused (refusal number marker) }
-{
-    Placed::Refused(Refusal {
-        number,
-        place: MARKER as u64,
-    })
-}
+impl From<NoTile> for Refusal {
+    ghost from_gives = { λ why r. r ≡ refusal_for why };
 
-fn by_annex_b(found: GridTile) -> Placed
-    ensures { result ≡ by_annex_b found }
-{
-    match found {
-        GridTile::Tile(area) => Placed::Tile(area),
-        GridTile::NoGrid => refuse(30),
-        GridTile::NoTile => refuse(31),
+    fn from(why: NoTile) -> Refusal {
+        let reason = match why {
+            NoTile::NoGrid => Reason::NoGrid,
+            NoTile::PastGrid => Reason::NoSuchTile,
+        };
+        Refusal {
+            reason,
+            place: MARKER as u64,
+        }
     }
 }
 
-fn by_original(found: TileArea) -> Placed
-    ensures { result ≡ by_original found }
-{
-    match found {
-        TileArea::Tile(area) => Placed::Tile(area),
-        TileArea::Outside => refuse(10),
-    }
-}
-
-pub fn place(header: &[u8], isot: u16, rule: Rule) -> Placed
+pub fn place(header: &[u8], isot: u16, rule: Rule) -> Result<Area, Refusal>
     requires { 40 ≤ length header.now }
     ensures { result ≡ placed_by rule header.now isot }
 {
-    if let Rule::Original = rule {
-        return by_original(crate::original::tile_area(header, isot));
+    match rule {
+        Rule::Original => crate::original::tile_area(header, isot).ok_or(Refusal {
+            reason: Reason::TileOutside,
+            place: MARKER as u64,
+        }),
+        // The one call for two rules is compiled into this function, and two are not.
+        Rule::AnnexB | Rule::InPlace => Ok(crate::annex_b::tile_area(header, isot)?),
     }
-    // The one call for two rules is compiled into this function, and two are not.
-    by_annex_b(crate::annex_b::tile_area(header, isot))
 }

@@ -4,25 +4,22 @@ use native.Mathlib.Omega.{arith}
 use mathlib.Core.Path.{◌≡◌, refl}
 use lib.Dec.{leb, ltb}
 use borrow.Author.Tests.{leb-false, ltb-false}
+use Rattle.std.specs.Prelude.{Option, Some, None}
 use Rattle.numbers.proofs.Choice.{by_test}
 use Rattle.types.specs.Offsets.{in_file, in_codestream}
 use Rattle.types.specs.declared.FileOffset.{FileOffset}
 use Rattle.types.specs.declared.CodestreamOffset.{CodestreamOffset}
-use Rattle.types.specs.declared.InFile.{InFile}
-use Rattle.types.specs.declared.InFile.TheVariants as file
-use Rattle.types.specs.declared.InCodestream.{InCodestream}
-use Rattle.types.specs.declared.InCodestream.TheVariants as codestream
 
-abbrev pub Sum : ℕ → InFile → Type 0
-Sum n (file.At place) = place.0 ≡ n
-Sum n file.Past = 2 ^ 64 ≤ n
+abbrev pub Sum : ℕ → Option FileOffset → Type 0
+Sum n (Some place) = place.0 ≡ n
+Sum n None = 2 ^ 64 ≤ n
 
 pub in_file_sum : (o : CodestreamOffset) (start : FileOffset) → Sum (start.0 + o.0) (in_file o start)
 in_file_sum o start = by_test (Sum (start.0 + o.0)) (ltb (start.0 + o.0) (2 ^ 64)) (λ _. refl) (λ e. ltb-false _ _ e)
 
-abbrev pub Difference : ℕ → InCodestream → Type 0
-Difference n (codestream.At place) = place.0 ≡ n
-Difference n codestream.Before = n ≡ 0
+abbrev pub Difference : ℕ → Option CodestreamOffset → Type 0
+Difference n (Some place) = place.0 ≡ n
+Difference n None = n ≡ 0
 
 pub in_codestream_difference : (o start : FileOffset) → Difference (o.0 - start.0) (in_codestream o start)
 in_codestream_difference o start =

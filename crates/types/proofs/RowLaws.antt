@@ -13,6 +13,7 @@ use Rattle.types.specs.declared.PartNumbers.{PartNumbers}
 use Rattle.types.specs.declared.PartNumbers.TheVariants.{Known, NotKnown}
 use Rattle.types.specs.declared.TilePartEntry.{TilePartEntry}
 use Rattle.types.specs.Row.{row_bytes, numbers_at, number_bytes, entry_at, row_of, rows_of}
+pub use Rattle.types.specs.Layout.{length_row}
 
 -- the fields' widths; a record's numbers are read back whatever they are
 pub record Fits (e : TilePartEntry) : Type 0 where
@@ -57,10 +58,6 @@ numbers_back (Known t n) = refl
 numbers_back NotKnown = refl
 
 -- ---- the row
-
-pub length_row : (e : TilePartEntry) → length (row_of e) ≡ row_bytes
-unfolding row_of
-length_row e = simp (length-append, length_bytes, length_numbers)
 
 pub length_rows : (es : List TilePartEntry) → length (rows_of es) ≡ row_bytes * length es
 unfolding rows_of

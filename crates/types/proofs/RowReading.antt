@@ -11,7 +11,9 @@ use Rattle.numbers.specs.Bytes.{be, put}
 use Rattle.numbers.proofs.BytesLaws.{be_rest, put_start}
 use Rattle.types.specs.declared.TilePartEntry.{TilePartEntry}
 use Rattle.types.specs.Row.{row_bytes, numbers_at, entry_at, row_of, rows_of, records_at, records_from, records_in}
-use Rattle.types.proofs.RowLaws.{Fits, numbers_moved, length_row, length_rows, entry_put}
+pub use Rattle.types.specs.Layout.{length_at, length_records}
+use Rattle.types.specs.Layout.{length_row}
+use Rattle.types.proofs.RowLaws.{Fits, numbers_moved, length_rows, entry_put}
 
 -- ---- one by one
 
@@ -28,16 +30,6 @@ records_next table at h =
     rw one
 
 -- ---- by number
-
-pub length_at : (m : ℕ) (s : List ℕ) (at : ℕ) → length (records_at m s at) ≡ m
-unfolding records_at
-length_at zero s at = refl
-length_at (suc m) s at = ap suc (length_at m s (at + row_bytes))
-
--- as many as there are whole rows
-pub length_records : (table : List ℕ) → length (records_in table) ≡ length table / row_bytes
-unfolding records_in records_from
-length_records table = length_at ((length table - 0) / row_bytes) table 0 ∙ omega arith
 
 record_at : (n m : ℕ) (s : List ℕ) (at : ℕ) → n < m → drop n (records_at m s at) ≡ entry_at s (at + n * row_bytes) ∷ drop (suc n) (records_at m s at)
 unfolding records_at
@@ -71,12 +63,13 @@ row_here e rest f =
     let same : put whole 0 (row_of e) ≡ whole = put_start whole (row_of e) ∙ ap (λ (l : List ℕ). row_of e ++ l) (drop-append_seam (row_of e) rest) in
     ap (λ (l : List ℕ). entry_at l 0) (sym same) ∙ entry_put e whole 0 f (simp length-append (omega (arith, length_row e)))
 
-entry_past : (front s : List ℕ) → entry_at (front ++ s) (length front) ≡ entry_at s 0
-entry_past front s =
-    let first : be 2 (front ++ s) (length front) ≡ be 2 s 0 = ap (be 2 (front ++ s)) (sym (add-zero (length front))) ∙ be_rest 2 front s 0 in
-    let last : numbers_at (front ++ s) (length front + 18) ≡ numbers_at s 18 =
-    numbers_moved (front ++ s) s (length front + 18) 18 (λ i h. ap (be 1 (front ++ s)) (omega arith) ∙ be_rest 1 front s (18 + i)) in
-    λ i. record { tile_index = first i; numbers = last i; offset = record { 0 = be_rest 8 front s 2 i }; length = be_rest 8 front s 10 i }
+entry_past : (front s : List ℕ) (at : ℕ) → entry_at (front ++ s) (length front + at) ≡ entry_at s at
+entry_past front s at =
+    let field : (k i : ℕ) → be k (front ++ s) (length front + at + i) ≡ be k s (at + i) =
+    λ k i. ap (be k (front ++ s)) (omega arith) ∙ be_rest k front s (at + i) in
+    let last : numbers_at (front ++ s) (length front + at + 18) ≡ numbers_at s (at + 18) =
+    numbers_moved (front ++ s) s (length front + at + 18) (at + 18) (λ i h. ap (be 1 (front ++ s)) (omega arith) ∙ be_rest 1 front s (at + 18 + i)) in
+    λ i. record { tile_index = be_rest 2 front s at i; numbers = last i; offset = record { 0 = field 8 2 i }; length = field 8 10 i }
 
 row_ends : (front : List ℕ) (e : TilePartEntry) → length front + row_bytes ≡ length (front ++ row_of e)
 row_ends front e = simp length-append (omega (arith, length_row e))
@@ -86,7 +79,7 @@ unfolding records_at rows_of
 rows_back none front = refl
 rows_back (more {e = e} {rest = rest} f fits) front =
     ap₂ (λ (x : TilePartEntry) (xs : List TilePartEntry). x ∷ xs)
-    (entry_past front (row_of e ++ rows_of rest) ∙ row_here e (rows_of rest) f)
+    (ap (entry_at (front ++ (row_of e ++ rows_of rest))) (sym (add-zero (length front))) ∙ entry_past front (row_of e ++ rows_of rest) 0 ∙ row_here e (rows_of rest) f)
     (ap₂ (λ (l : List ℕ) (n : ℕ). records_at (length rest) l n) (sym (append_assoc front (row_of e) (rows_of rest))) (row_ends front e)
     ∙ rows_back fits (front ++ row_of e))
 

@@ -1,7 +1,7 @@
 -- How records stand in a table: as rows of bytes, or as themselves. A loop that fills a table, one record a turn, is argued once for both: what is left,
 -- put where the next record goes, makes the same table before a turn and after it.
-use Prim.Native.Nat.{ℕ, zero, suc, ◌+◌, ◌*◌, ◌≤◌}
-use native.Mathlib.Nat.{mul-zero, mul-suc}
+use Prim.Native.Nat.{ℕ, zero, suc, ◌+◌, ◌*◌, ◌/◌, ◌≤◌}
+use native.Mathlib.Nat.{mul-zero, mul-suc, mul_comm, mul-le-mul_left, div-mul-le_self}
 use native.Mathlib.Omega.{arith}
 use mathlib.Core.Path.{◌≡◌, refl, sym, ap, ◌∙◌}
 use mathlib.Core.List.{List, [], ◌∷◌, ◌++◌, append_assoc}
@@ -10,50 +10,32 @@ use lib.Seq.{drop-nil, drop-append-add}
 use Rattle.numbers.specs.Bytes.{put}
 use Rattle.numbers.proofs.BytesLaws.{put_put, put_none, put_apart, length_put}
 use Rattle.types.specs.declared.TilePartEntry.{TilePartEntry}
-use Rattle.types.specs.Row.{row_bytes, row_of, rows_of}
-use Rattle.types.proofs.RowLaws.{length_row}
+use Rattle.types.specs.Layout.{Layout}
+pub use Rattle.types.specs.Layout.{rows_none, rows_more, rows, records}
 
-pub record Layout (B : Type 0) : Type 0 where
-  pub one : TilePartEntry → List B
-  pub all : List TilePartEntry → List B
-  pub width : ℕ
-  pub none : all [] ≡ []
-  pub more : (e : TilePartEntry) (es : List TilePartEntry) → all (e ∷ es) ≡ one e ++ all es
-  pub wide : (e : TilePartEntry) → length (one e) ≡ width
-
-pub rows_none : rows_of [] ≡ []
-unfolding rows_of
-rows_none = refl
-
-pub rows_more : (e : TilePartEntry) (es : List TilePartEntry) → rows_of (e ∷ es) ≡ row_of e ++ rows_of es
-unfolding rows_of
-rows_more e es = refl
-
-abbrev pub rows : Layout ℕ
-rows = record { one = row_of; all = rows_of; width = row_bytes; none = rows_none; more = rows_more; wide = length_row }
-
-abbrev pub records : Layout TilePartEntry
-records = record { one = λ e. e ∷ []; all = λ es. es; width = 1; none = refl; more = λ e es. refl; wide = λ e. refl }
-
-module _ {B : Type 0} (L : Layout B) where
-  pub length_more : (e : TilePartEntry) (es : List TilePartEntry) → length (L.all (e ∷ es)) ≡ L.width + length (L.all es)
+module _ {B : Type 0} {width : ℕ} (L : Layout B width) where
+  pub length_more : (e : TilePartEntry) (es : List TilePartEntry) → length (L.all (e ∷ es)) ≡ width + length (L.all es)
   length_more e es = rw (L.more, length-append, L.wide)
 
-  pub length_all : (es : List TilePartEntry) → length (L.all es) ≡ L.width * length es
-  length_all [] = rw L.none (sym (mul-zero L.width))
-  length_all (e ∷ es) = length_more e es ∙ rw (length_all es, mul-suc L.width (length es)) (omega arith)
+  pub length_all : (es : List TilePartEntry) → length (L.all es) ≡ width * length es
+  length_all [] = rw L.none (sym (mul-zero width))
+  length_all (e ∷ es) = length_more e es ∙ rw (length_all es, mul-suc width (length es)) (omega arith)
+
+  -- as many records as there is room for fit
+  pub room_for : {n t : ℕ} → n ≤ t / width → width * n ≤ t
+  room_for {n} {t} few = omega (arith, mul-le-mul_left width few, mul_comm width (t / width), div-mul-le_self t width)
 
   pub all_append : (xs ys : List TilePartEntry) → L.all (xs ++ ys) ≡ L.all xs ++ L.all ys
   all_append [] ys = rw L.none
   all_append (e ∷ xs) ys = rw (L.more, L.more, all_append xs ys) (sym (append_assoc (L.one e) (L.all xs) (L.all ys)))
 
   -- the records after the first n stand after n widths
-  pub all_drop : (n : ℕ) (es : List TilePartEntry) → drop (L.width * n) (L.all es) ≡ L.all (drop n es)
-  all_drop zero es = ap (λ (k : ℕ). drop k (L.all es)) (mul-zero L.width)
-  all_drop (suc n) [] = rw L.none (drop-nil (L.width * suc n))
+  pub all_drop : (n : ℕ) (es : List TilePartEntry) → drop (width * n) (L.all es) ≡ L.all (drop n es)
+  all_drop zero es = ap (λ (k : ℕ). drop k (L.all es)) (mul-zero width)
+  all_drop (suc n) [] = rw L.none (drop-nil (width * suc n))
   all_drop (suc n) (e ∷ es) =
-      let past : L.width * suc n ≡ length (L.one e) + L.width * n = mul-suc L.width n ∙ omega (arith, L.wide e) in
-      rw (L.more, past) (drop-append-add (L.one e) (L.all es) (L.width * n) ∙ all_drop n es)
+      let past : width * suc n ≡ length (L.one e) + width * n = mul-suc width n ∙ omega (arith, L.wide e) in
+      rw (L.more, past) (drop-append-add (L.one e) (L.all es) (width * n) ∙ all_drop n es)
 
   -- nothing is left
   pub put_last : (t : List B) (at : ℕ) → put t at (L.all []) ≡ t
@@ -62,7 +44,7 @@ module _ {B : Type 0} (L : Layout B) where
   -- one more stands
   pub record Stored (t next : List B) (at : ℕ) (e : TilePartEntry) (es : List TilePartEntry) : Type 0 where
     pub same : length next ≡ length t
-    pub whole : put next (at + L.width) (L.all es) ≡ put t at (L.all (e ∷ es))
+    pub whole : put next (at + width) (L.all es) ≡ put t at (L.all (e ∷ es))
 
   pub stored : {t next : List B} {at : ℕ} {e : TilePartEntry} (es : List TilePartEntry) → next ≡ put t at (L.one e) → at + length (L.all (e ∷ es)) ≤ length t
       → Stored t next at e es
@@ -71,8 +53,8 @@ module _ {B : Type 0} (L : Layout B) where
       record {
         same = ap length new ∙ length_put t at (L.one e) (omega (arith, L.wide e));
         whole =
-            ap (λ (x : List B). put x (at + L.width) (L.all es)) new
-            ∙ put_put t at (L.one e) (L.all es) L.width (L.wide e) (omega arith)
+            ap (λ (x : List B). put x (at + width) (L.all es)) new
+            ∙ put_put t at (L.one e) (L.all es) width (L.wide e) (omega arith)
             ∙ ap (put t at) (sym (L.more e es));
       }
 
@@ -101,8 +83,8 @@ module _ {B : Type 0} where
       (ap (laid ps) (sym (put_apart t p.place p.items at xs before.0 room)) ∙ rest.0, rest.1 ∙ long)
 
   -- one more stands behind them
-  pub stored_behind : (L : Layout B) (ps : List (Piece B)) (t : List B) {next : List B} (at : ℕ) (e : TilePartEntry) (es : List TilePartEntry) → Before ps at → next ≡ put t at (L.one e)
-      → at + length (L.all (e ∷ es)) ≤ length t → put (laid ps next) (at + L.width) (L.all es) ≡ put (laid ps t) at (L.all (e ∷ es))
-  stored_behind L ps t at e es before new room =
+  pub stored_behind : {width : ℕ} (L : Layout B width) (ps : List (Piece B)) (t : List B) {next : List B} (at : ℕ) (e : TilePartEntry) (es : List TilePartEntry) → Before ps at → next ≡ put t at (L.one e)
+      → at + length (L.all (e ∷ es)) ≤ length t → put (laid ps next) (at + width) (L.all es) ≡ put (laid ps t) at (L.all (e ∷ es))
+  stored_behind {width} L ps t at e es before new room =
       let b = behind ps t at (L.one e) before (omega (arith, L.wide e, length_more L e es, room)) in
       (stored L es (ap (laid ps) new ∙ b.0) (omega (arith, b.1, room))).whole

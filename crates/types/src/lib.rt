@@ -4,18 +4,90 @@
 
 pub mod markers;
 pub mod siz;
+pub mod table;
 
 ghost use Rattle.std.specs.Prelude.{◌≡◌, ◌+◌, ◌≤◌, ◌<◌, ◌^◌, length};
 ghost use Rattle.numbers.specs.Bytes.{put};
+ghost use Rattle.types.specs.Refusals.{refusal, refusal_number, answer_number, answer_value};
 ghost use Rattle.types.specs.Offsets.{in_file, in_codestream};
 ghost use Rattle.types.specs.Row.{row_bytes, numbers_at, number_bytes, entry_at, row_of};
 
-// A refusal (docs/RULES.md, "Refusals"): its number, and its place, an offset whose start depends on the number; for 17 and
-// 18 it is what is needed.
+// Why something is refused (docs/RULES.md, "Refusals"), by the number that C and users get.
+#[derive(Clone, Copy, PartialEq, Eq)]
+pub enum Reason {
+    NoSoc = 1,
+    NoSiz = 2,
+    SegmentPastEnd = 3,
+    TlmTooShort = 4,
+    TlmFormUnknown = 5,
+    NoTilePart = 6,
+    TilePartCutShort = 7,
+    SotLengthWrong = 8,
+    TilePartPastEnd = 9,
+    TileOutside = 10,
+    FileTooShort = 11,
+    NotJpeg2000 = 12,
+    BoxCutShort = 13,
+    NoCodestreamBox = 14,
+    CodestreamBoxTooShort = 15,
+    BoxTooLong = 16,
+    OutputTooSmall = 17,
+    TableTooSmall = 18,
+    HeaderTooLong = 19,
+    SizCutShort = 20,
+    SizNotFound = 21,
+    ImageEndsBeforeItStarts = 22,
+    ListingTooLong = 23,
+    ComponentsNotHeld = 24,
+    SubsamplingOf0 = 25,
+    TlmTooManyEntries = 26,
+    BoxDoesNotFit = 27,
+    BoxLengthWrong = 28,
+    BoxesTooDeep = 29,
+    NoGrid = 30,
+    NoSuchTile = 31,
+    TlmNumberRepeated = 32,
+    CapOutOfPlace = 33,
+    CapLengthWrong = 34,
+}
+
+// A refusal: why, and its place, an offset whose start depends on the reason; for OutputTooSmall and TableTooSmall it is what is
+// needed.
 #[derive(Clone, Copy)]
 pub struct Refusal {
-    pub number: u32,
+    pub reason: Reason,
     pub place: u64,
+}
+
+impl Refusal {
+    pub fn number(self) -> u32
+        ensures { result ≡ refusal_number self }
+    {
+        self.reason as u32
+    }
+}
+
+pub fn refuse<T>(reason: Reason, place: u64) -> Result<T, Refusal>
+    ensures { result ≡ Err (refusal reason place) }
+{
+    Err(Refusal { reason, place })
+}
+
+// An answer for C: its number, and in `value` what it gives or the refusal's place.
+pub fn tell(answer: Result<u64, Refusal>, value: &mut u64) -> u32
+    ensures value { result ≡ answer_number answer }
+    ensures value_after { value.new ≡ answer_value answer }
+{
+    match answer {
+        Ok(given) => {
+            *value = given;
+            0
+        }
+        Err(refusal) => {
+            *value = refusal.place;
+            refusal.number()
+        }
+    }
 }
 
 // Counted from the start of the file.
@@ -25,20 +97,6 @@ pub struct FileOffset(pub u64);
 // Counted from the start of the codestream.
 #[derive(Clone, Copy)]
 pub struct CodestreamOffset(pub u64);
-
-#[derive(Clone, Copy)]
-pub enum InFile {
-    At(FileOffset),
-    // The sum passes 2^64-1.
-    Past,
-}
-
-#[derive(Clone, Copy)]
-pub enum InCodestream {
-    At(CodestreamOffset),
-    // The place lies before the codestream.
-    Before,
-}
 
 impl CodestreamOffset {
     // A position in the codestream's bytes as an offset, and an offset as a position: here alone does one become the other.
@@ -55,16 +113,11 @@ impl CodestreamOffset {
     }
 
     // Where a place of the codestream that starts at `start` lies in the file.
-    pub fn in_file(self, start: FileOffset) -> InFile
+    pub fn in_file(self, start: FileOffset) -> Option<FileOffset>
         ensures { result ≡ in_file self start }
     {
-        let from = start.0;
-        let at = self.0;
-        if at <= 0xffff_ffff_ffff_ffff - from {
-            InFile::At(FileOffset(from + at))
-        } else {
-            InFile::Past
-        }
+        let at = start.0.checked_add(self.0)?;
+        Some(FileOffset(at))
     }
 }
 
@@ -77,16 +130,11 @@ impl FileOffset {
     }
 
     // Where a place of the file lies in the codestream that starts at `start`.
-    pub fn in_codestream(self, start: FileOffset) -> InCodestream
+    pub fn in_codestream(self, start: FileOffset) -> Option<CodestreamOffset>
         ensures { result ≡ in_codestream self start }
     {
-        let from = start.0;
-        let at = self.0;
-        if from <= at {
-            InCodestream::At(CodestreamOffset(at - from))
-        } else {
-            InCodestream::Before
-        }
+        let at = self.0.checked_sub(start.0)?;
+        Some(CodestreamOffset(at))
     }
 }
 
@@ -99,7 +147,8 @@ pub struct Area {
     pub y1: u32,
 }
 
-// A tile-part's number among its tile's, and how many its tile has.
+// A tile-part's number among its tile's, and how many its tile has. No `Option`: of a record that says `None` nobody would know what
+// it has none of.
 #[derive(Clone, Copy)]
 pub enum PartNumbers {
     // As its SOT has them; a TNsot of 0 says that the count is not given there.

@@ -1,6 +1,5 @@
 -- Two halves that were read, joined by the law over the width.
 use native.Mathlib.Omega.{arith}
-use borrow.Author.Rules.{rules}
 use Rattle.numbers.proofs.BytesLaws.{be_join}
 use Rattle.numbers.proofs.read_u32.Goals as goal
 

@@ -1,12 +1,6 @@
--- A number that is turned twice is itself.
-use native.Mathlib.Omega.{arith}
-use borrow.Author.Rules.{rules}
-use Rattle.numbers.specs.Bytes.{span}
-use Rattle.numbers.proofs.BytesLaws.{turned_twice}
+-- std's list of the bytes is the definition's, copied where it stands.
+use Rattle.numbers.proofs.BytesLaws.{put_be}
 use Rattle.numbers.proofs.write_u32.Goals as goal
 
 pub returns : goal.returns
-unfolding span
-returns c =
-    let a = c.args in
-    cc (turned_twice 2 a.value (omega arith))
+returns c = rw (c.copy_from_slice.ensures.after, c.to_be_bytes.ensures) (put_be 4 c.args.value c.args.out.now c.args.at)

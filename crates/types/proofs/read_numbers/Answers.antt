@@ -1,6 +1,5 @@
 -- The first byte chooses.
 use Rattle.types.proofs.RowLaws.{numbers_none, numbers_known}
-use borrow.Author.Rules.{rules}
 use Rattle.types.proofs.read_numbers.Goals as goal
 
 pub returns-then-told-eq1 : goal.returns-then-told-eq1

@@ -25,13 +25,13 @@ pub overflow_add-result : goal.overflow_add-result
 overflow_add-result c =
     omega (arith, count_bound c.args.codestream.now c.args.at (λ i. omega (arith, c.type_inv.codestream i)))
 
-pub returns-then-index_size-eq0 : goal.returns-then-index_size-eq0
-returns-then-index_size-eq0 c =
-    sym (ap (λ (n : Numbering). next_number n c.args.codestream.now c.args.at c.args.first) c.in_default.is
+pub returns-in-CarriedOn : goal.returns-in-CarriedOn
+returns-in-CarriedOn c =
+    sym (ap (λ (n : Numbering). next_number n c.args.codestream.now c.args.at c.args.first) c.in-CarriedOn.is
     ∙ next_counts _ _ _ (omega (arith, c.index_size.ensures, c.if-index_size-eq0.true))
     ∙ ap (λ (m : ℕ). c.args.first + m) (sym c.requires.count_value))
 
-pub returns : goal.returns
-returns c =
-    sym (ap (λ (n : Numbering). next_number n c.args.codestream.now c.args.at c.args.first) c.in_default.is
+pub returns-in-CarriedOn-2 : goal.returns-in-CarriedOn-2
+returns-in-CarriedOn-2 c =
+    sym (ap (λ (n : Numbering). next_number n c.args.codestream.now c.args.at c.args.first) c.in-CarriedOn.is
     ∙ next_stays _ _ _ (λ e. omega (arith, c.index_size.ensures, c.if-index_size-eq0.false)))

@@ -1,8 +1,8 @@
 -- 4 before 5; what is left is accepted.
 use native.Mathlib.Omega.{arith}
 use mathlib.Core.Path.{sym, ap, ◌∙◌}
+use Rattle.std.specs.Prelude.{Ok}
 use Rattle.header.proofs.TlmLaws.{tlm_short, tlm_unknown, tlm_entries_lem}
-use Rattle.header.specs.declared.tlm.Tlm.TheVariants.{Entries}
 use Rattle.header.specs.Tlm.{entry_count}
 use Rattle.header.specs.Step.{segment_end}
 use Rattle.header.proofs.tlm.tlm_at.Goals as goal
@@ -21,5 +21,5 @@ returns-then-index_size-eq3 c =
 pub returns : goal.returns
 unfolding entry_count
 returns c =
-    ap Entries (c.whole_entries.ensures ∙ rw c.read_u16-ltlm.ensures)
+    ap Ok (c.whole_entries.ensures ∙ rw c.read_u16-ltlm.ensures)
     ∙ sym (tlm_entries_lem _ _ (omega arith) (λ e. c.if-index_size-eq3.false (c.index_size.ensures ∙ e)))

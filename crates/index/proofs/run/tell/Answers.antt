@@ -1,21 +1,14 @@
 -- The places that were found, as numbers.
-use Rattle.index.proofs.RunLaws.{run_length, run_some, run_none}
+use mathlib.Core.Path.{◌∙◌}
+use Rattle.index.proofs.RunLaws.{run_length, run_told}
 use Rattle.index.proofs.run.tell.Goals as goal
 
-pub returns-then-from-to : goal.returns-then-from-to
-returns-then-from-to c =
+pub returns-clause-value : goal.returns-clause-value
+returns-clause-value c =
     let p = c.places-run.ensures in
-    record {
-      value = run_some c.args.index.now c.args.tile p.from_value p.to_value c.if-from-to.true p.to_in_bounds;
-      first_after = p.from_value;
-      count_after = run_length c.args.index.now c.args.tile p.from_value p.to_value p.to_in_bounds;
-    }
+    c.from.ensures ∙ run_told c.args.index.now c.args.tile p.from_value p.to_value p.to_in_bounds
 
-pub returns-else-from-to : goal.returns-else-from-to
-returns-else-from-to c =
+pub returns-clause-count_after : goal.returns-clause-count_after
+returns-clause-count_after c =
     let p = c.places-run.ensures in
-    record {
-      value = run_none c.args.index.now c.args.tile p.from_value p.to_value c.if-from-to.false p.to_in_bounds;
-      first_after = p.from_value;
-      count_after = run_length c.args.index.now c.args.tile p.from_value p.to_value p.to_in_bounds;
-    }
+    run_length c.args.index.now c.args.tile p.from_value p.to_value p.to_in_bounds

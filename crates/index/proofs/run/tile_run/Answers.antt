@@ -4,4 +4,4 @@ use Rattle.index.proofs.run.tile_run.Goals as goal
 
 pub returns : goal.returns
 returns c =
-    run_between c.args.index.now c.args.tile c.places-run.ensures.from_value c.places-run.ensures.to_value
+    run_between c.args.index.now c.args.tile c.places.ensures.from_value c.places.ensures.to_value

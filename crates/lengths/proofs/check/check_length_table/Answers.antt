@@ -2,6 +2,7 @@
 use native.Mathlib.Omega.{arith}
 use mathlib.Core.Path.{sym, ◌∙◌}
 use lib.ListN.{length-take}
+use Rattle.std.proofs.lemmas.Result.{err_from_is_err_and}
 use Rattle.header.proofs.ParseLaws.{sound_front}
 use Rattle.lengths.proofs.CheckLaws.{front_refused, front_sound}
 use Rattle.lengths.proofs.check.check_length_table.Goals as goal
@@ -11,11 +12,13 @@ slice_bounds-header-end c = simp length-take (omega arith)
 
 pub check_table-requires : goal.check_table-requires
 check_table-requires c =
-    let f = sound_front _ (sym c.in-Sound.ensures) in
+    let f = sound_front _ (sym c.in_ok-test_front.ensures) in
     omega (arith, f.0)
 
-pub returns-in-Sound : goal.returns-in-Sound
-returns-in-Sound c = c.check_table.ensures ∙ front_sound _ _ _ c.minimum-end.ensures (sym c.in-Sound.ensures)
+pub returns-in_err-test_front : goal.returns-in_err-test_front
+returns-in_err-test_front c =
+    let p = err_from_is_err_and c.from_residual.result c.from_residual.ensures.1 in
+    rw (p.1, p.2) (front_refused _ _ _ c.min-end.ensures _ (sym c.in_err-test_front.ensures))
 
-pub returns-in-Refused : goal.returns-in-Refused
-returns-in-Refused c = front_refused _ _ _ c.minimum-end.ensures _ (sym c.in-Refused.ensures)
+pub returns : goal.returns
+returns c = c.check_table.ensures ∙ front_sound _ _ _ c.min-end.ensures (sym c.in_ok-test_front.ensures)

@@ -1,34 +1,48 @@
--- By whether a tile-part is left, and whether an entry is.
-use Prim.Native.Nat.{◌<◌}
+-- By whether the scan is refused, a tile-part is left, and an entry is.
+use Prim.Native.Nat.{ℕ, ◌<◌}
 use native.Mathlib.Omega.{arith}
-use mathlib.Core.Path.{◌≡◌}
-use lib.ListN.{length}
-use Rattle.parts.specs.Scan.{entries_from}
+use mathlib.Core.Path.{◌≡◌, sym, ap, ◌∙◌}
+use Rattle.std.specs.Prelude.{Ok}
+use Rattle.std.proofs.lemmas.Result.{err_from_is_err_and}
+use Rattle.header.proofs.WalkLaws.{by_is_none}
 use Rattle.parts.proofs.ScanLaws.{entries_next}
-use Rattle.lengths.proofs.AgreeLaws.{settled_part, settled_entry, settled_passes}
+use Rattle.lengths.proofs.AgreeLaws.{rest_refused, rest_accepted, rest_counted, settled_part, settled_entry, settled_passes}
 use Rattle.lengths.proofs.check.settle.Goals as goal
-use Rattle.lengths.proofs.check.settle.Goals.{Then-left-ne0, Else-left-ne0}
+use Rattle.lengths.proofs.check.settle.Goals.{then-left-ne0, else-left-ne0+else-is_none}
 
 -- a tile-part is left
-some : (c : Then-left-ne0) → 0 < length (entries_from c.args.codestream.now c.args.at)
-some c = omega (arith, c.requires)
+some : {left n : ℕ} → left ≡ n → (left ≡ 0 → ⊥) → 0 < n
+some is other = omega arith
 
 -- none is left
-none : (c : Else-left-ne0) → length (entries_from c.args.codestream.now c.args.at) ≡ 0
-none c = omega (arith, c.requires)
+none : {left n : ℕ} → left ≡ n → left ≡ 0 → n ≡ 0
+none is zero = omega arith
 
-pub part_at-part-requires : goal.part_at-part-requires
-part_at-part-requires c = (entries_next _ _ (some c)).room
+pub returns-in_err-left : goal.returns-in_err-left
+returns-in_err-left c =
+    let p = err_from_is_err_and c.from_residual.result c.from_residual.ensures.1 in
+    rw (p.1, p.2) (sym (rest_refused _ _ _ _ (sym c.in_err-left.ensures)))
 
-pub returns-then-left-ne0 : goal.returns-then-left-ne0
-returns-then-left-ne0 c =
-    let a = c.args in
-    settled_part a.codestream.now a.stop.number a.at c.at-offset.ensures a.stop.listed c.part_at-part.ensures (some (goal.at.returns-then-left-ne0 c).Then-left-ne0)
+pub part_at-requires : goal.part_at-requires
+part_at-requires c = (entries_next _ _ (some (rest_counted _ _ _ (sym c.in_ok-left.ensures)) c.if-left-ne0.true)).room
 
-pub returns-in-Nothing : goal.returns-in-Nothing
-returns-in-Nothing c = settled_passes _ _ _ c.in-Nothing.is (none (goal.at.returns-in-Nothing c).Else-left-ne0)
+pub returns-then-is_none : goal.returns-then-is_none
+returns-then-is_none c =
+    let left = sym c.in_ok-left.ensures in
+    ap Ok (settled_passes _ _ _ (by_is_none _ c.if-is_none.ensures) (none (rest_counted _ _ _ left) c.if-left-ne0.false))
+    ∙ sym (rest_accepted _ _ _ _ left)
 
 pub returns : goal.returns
 returns c =
     let a = c.args in
-    settled_entry a.codestream.now a.stop.number a.at c.at-offset.ensures a.stop.listed c.in_default.is (none (goal.at.returns c).Else-left-ne0)
+    let left = sym c.in_ok-left.ensures in
+    let counted = rest_counted _ _ _ left in
+    elim c.if-left-ne0.branch [
+      | then-left-ne0 w ↦
+          rw (w.standing-is, w.from.ensures)
+          (ap Ok (settled_part a.codestream.now a.stop.number a.at c.at.ensures a.stop.listed w.part_at.ensures (some counted w.if-left-ne0.true)))
+      | else-left-ne0+else-is_none w ↦
+          rw w.standing-is
+          (ap Ok (settled_entry a.codestream.now a.stop.number a.at c.at.ensures a.stop.listed w.if-is_none.ensures (none counted w.if-left-ne0.false)))
+    ]
+    ∙ sym (rest_accepted _ _ _ _ left)

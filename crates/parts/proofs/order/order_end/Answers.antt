@@ -1,13 +1,16 @@
 -- At each return the tests that led there choose the case of the definition.
-use mathlib.Core.Path.{sym}
+use Prim.Native.Nat.{ℕ}
+use mathlib.Core.Path.{sym, ap, ◌∙◌}
+use mathlib.Core.Bool.{not}
+use lib.Dec.{eqb}
 use Rattle.parts.proofs.OrderLaws.{end_none, end_silent, end_given}
 use Rattle.parts.proofs.order.order_end.Goals as goal
 
-pub returns-then-passed-eq0 : goal.returns-then-passed-eq0
-returns-then-passed-eq0 c = sym (end_none _ _ c.if-passed-eq0.true)
+pub returns-then-due-eq0 : goal.returns-then-due-eq0
+returns-then-due-eq0 c = sym (end_silent _ c.if-due-ne0.true c.if-due-eq0.true)
 
-pub returns-then-given-eq0 : goal.returns-then-given-eq0
-returns-then-given-eq0 c = sym (end_silent _ _ c.if-passed-eq0.false c.if-given-eq0.true)
+pub returns-else-due-eq0 : goal.returns-else-due-eq0
+returns-else-due-eq0 c = rw c.from.ensures (sym (end_given c.args.due c.if-due-ne0.true c.if-due-eq0.false))
 
-pub returns-else-given-eq0 : goal.returns-else-given-eq0
-returns-else-given-eq0 c = sym (end_given _ _ c.if-passed-eq0.false c.if-given-eq0.false)
+pub returns-else-due-ne0 : goal.returns-else-due-ne0
+returns-else-due-ne0 c = ap (λ (n : ℕ). not (eqb n 0)) c.if-due-ne0.false ∙ sym (end_none _ c.if-due-ne0.false)

@@ -1,12 +1,14 @@
--- The number is 18 or it is not, as in the definition.
-use borrow.Author.Tests.{eq-eqb, ne_eqb}
-use Rattle.parts.specs.Begin.{refused_behind}
+-- It is a table that is too small, or it is not, as in the definition.
+use Rattle.std.proofs.Common.{sym, ap}
+use Rattle.types.specs.Refusals.{refusal}
+use Rattle.parts.specs.Begin.{place_behind, refused_behind}
+use Rattle.parts.proofs.BeginAnswers.{place_same}
 use Rattle.parts.proofs.scan.behind.Goals as goal
 
-pub returns-then-refusal-eq18 : goal.returns-then-refusal-eq18
+pub returns-in-TableTooSmall : goal.returns-in-TableTooSmall
 unfolding refused_behind
-returns-then-refusal-eq18 c = rw (eq-eqb c.args.refusal.number 18 c.if-refusal-eq18.true)
+returns-in-TableTooSmall c = let r = c.args.refusal in ap (λ why. refusal r.reason (place_behind why c.args.count r.place)) (sym c.in-TableTooSmall.is)
 
-pub returns : goal.returns
+pub returns-in_default : goal.returns-in_default
 unfolding refused_behind
-returns c = rw (ne_eqb c.args.refusal.number 18 c.if-refusal-eq18.false)
+returns-in_default c = let r = c.args.refusal in sym (ap (refusal r.reason) (place_same r.reason c.args.count r.place c.in_default.not-TableTooSmall))

@@ -3,12 +3,13 @@
 use native.Mathlib.Omega.{arith}
 use mathlib.Core.Path.{◌≡◌, refl, sym, ap, ◌∙◌}
 use lib.ListN.{take}
+use Rattle.std.specs.Prelude.{Err}
 use Rattle.numbers.specs.Bytes.{put}
 use Rattle.types.specs.Row.{rows_of}
 use Rattle.parts.specs.Begin.{Begins}
 use Rattle.parts.specs.Scan.{entries_from}
-use Rattle.parts.specs.declared.scan.Scanned.TheVariants.{Refused}
 use Rattle.parts.proofs.BeginAnswers.{ended_answers, refused_answers, rest_fits, rest_place, rest_table, rest_refused}
+use Rattle.parts.proofs.ScanAnswers.{scan_rows}
 use Rattle.parts.proofs.scan.scan_sot_markers.Goals as goal
 use Rattle.parts.proofs.scan.scan_sot_markers.Goals.{After-begin-begun}
 
@@ -21,14 +22,14 @@ begun c = (rw c.position.ensures at c.begin-begun.ensures.begins, rw c.position.
 pub overflow_add-result : goal.overflow_add-result
 overflow_add-result c =
     let b = begun (goal.at.overflow_add-result c).After-begin-begun in
-    let e = sym c.in-Table.is ∙ c.scan_judged-rest.ensures.value in
-    omega (arith, rest_fits b.0 b.1 c.at.ensures refl c.in-Table.more e)
+    let e = sym c.in-Ok.is ∙ c.scan_judged-rest.ensures.value in
+    omega (arith, rest_fits b.0 b.1 c.at.ensures refl c.in-Ok.more e)
 
 pub behind-requires : goal.behind-requires
 behind-requires c =
     let b = begun (goal.at.behind-requires c).After-begin-begun in
-    let e = sym c.in-Refused-rest.is ∙ c.scan_judged-rest.ensures.value in
-    omega (arith, rest_place b.0 b.1 c.at.ensures refl c.in-Refused-rest.refusal e)
+    let e = sym c.in-Err.is ∙ c.scan_judged-rest.ensures.value in
+    omega (arith, rest_place b.0 b.1 c.at.ensures refl c.in-Err.refusal e)
 
 pub returns-in-Ended : goal.returns-in-Ended
 returns-in-Ended c =
@@ -42,16 +43,16 @@ returns-in-Refused c =
     let a = refused_answers b.0 b.1 c.in-Refused.refusal (rw c.in-Refused.is at b.0.stopped) in
     record { value = a.0; table_after = c.clear.ensures ∙ a.1 }
 
-pub returns-in-Table : goal.returns-in-Table
-returns-in-Table c =
-    let b = begun (goal.at.returns-in-Table c).After-begin-begun in
-    let e = sym c.in-Table.is ∙ c.scan_judged-rest.ensures.value in
-    let a = rest_table b.0 b.1 c.at.ensures refl c.in-Table.more e c.scan_judged-rest.ensures.table_after in
+pub returns-in-Ok : goal.returns-in-Ok
+returns-in-Ok c =
+    let b = begun (goal.at.returns-in-Ok c).After-begin-begun in
+    let e = sym c.in-Ok.is ∙ c.scan_judged-rest.ensures.value in
+    let a = rest_table b.0 b.1 c.at.ensures refl c.in-Ok.more e (c.scan_judged-rest.ensures.table_after ∙ scan_rows _ _ _) in
     record { value = a.0; table_after = a.1 }
 
-pub returns-in-Refused-rest : goal.returns-in-Refused-rest
-returns-in-Refused-rest c =
-    let b = begun (goal.at.returns-in-Refused-rest c).After-begin-begun in
-    let e = sym c.in-Refused-rest.is ∙ c.scan_judged-rest.ensures.value in
-    let a = rest_refused b.0 b.1 c.at.ensures refl c.in-Refused-rest.refusal e c.scan_judged-rest.ensures.table_after in
-    record { value = ap Refused c.behind.ensures ∙ a.0; table_after = c.clear-in-Refused-rest.ensures ∙ a.1 }
+pub returns-in-Err : goal.returns-in-Err
+returns-in-Err c =
+    let b = begun (goal.at.returns-in-Err c).After-begin-begun in
+    let e = sym c.in-Err.is ∙ c.scan_judged-rest.ensures.value in
+    let a = rest_refused b.0 b.1 c.at.ensures refl c.in-Err.refusal e (c.scan_judged-rest.ensures.table_after ∙ scan_rows _ _ _) in
+    record { value = ap Err c.behind.ensures ∙ a.0; table_after = c.clear-in-Err.ensures ∙ a.1 }

@@ -13,7 +13,7 @@ returns-then-at_eoc c =
 
 pub returns-then-codestream-at-lt-SOT_SEGMENT : goal.returns-then-codestream-at-lt-SOT_SEGMENT
 returns-then-codestream-at-lt-SOT_SEGMENT c =
-    sym (step_short _ _ c.if-codestream-at.false (sym c.at_eoc.ensures ∙ c.if-at_eoc.false) (omega arith))
+    c.refuse.ensures ∙ sym (step_short _ _ c.if-codestream-at.false (sym c.at_eoc.ensures ∙ c.if-at_eoc.false) (omega arith))
 
 pub returns-then-read_u16 : goal.returns-then-read_u16
 returns-then-read_u16 c =

@@ -1,50 +1,50 @@
 -- The scan is walked, then the rows are compared: each return is one of the ways that a call ends.
+use Prim.Native.Nat.{ℕ}
+use mathlib.Core.List.{List}
 use mathlib.Core.Path.{◌≡◌, sym, ap, ◌∙◌}
+use Rattle.std.specs.Prelude.{Result, Ok, Err}
+use Rattle.std.proofs.lemmas.Result.{err_from_is_err_and}
+use Rattle.types.specs.declared.Refusal.{Refusal}
 use Rattle.parts.proofs.ScanAnswers.{answer_refused, answer_no_room, answer_table}
-use Rattle.parts.specs.declared.scan.Scanned.TheVariants.{Table}
 use Rattle.parts.specs.declared.walk.Quarters.{Quarters}
-use Rattle.parts.specs.declared.walk.Walked.TheVariants as walked
 use Rattle.parts.specs.Scan.{scan_from, judged}
-use Rattle.parts.specs.Walk.{walked_as, Runs}
+use Rattle.parts.specs.Walk.{walked_as}
 use Rattle.parts.proofs.WalkLaws.{told, told_as}
 use Rattle.parts.proofs.walk.decide.Goals as goal
-use Rattle.parts.proofs.walk.decide.Goals.{After-walk-walked}
 
 -- what was walked is the scan from the offset
-answered : (c : After-walk-walked)
-    → c.walk-walked.result ≡ walked_as c.args.codestream.now c.args.first_sot_offset.0 (judged (scan_from c.args.codestream.now c.args.first_sot_offset.0))
-answered c = rw c.position.ensures at c.walk-walked.ensures.value
+module _ (s : List ℕ) {start position : ℕ} {walked : Result Quarters Refusal} (same : position ≡ start)
+    (is : walked ≡ walked_as s position (judged (scan_from s position))) where
+  answered : walked ≡ walked_as s start (judged (scan_from s start))
+  answered = is ∙ ap (λ (n : ℕ). walked_as s n (judged (scan_from s n))) same
 
-from : (c : After-walk-walked) → judged (scan_from c.args.codestream.now c.args.first_sot_offset.0) ≡ told c.walk-walked.result
-from c = sym (ap told (answered c) ∙ told_as _ _ _)
+  from : judged (scan_from s start) ≡ told walked
+  from = sym (ap told answered ∙ told_as _ _ _)
 
-runs : (c : After-walk-walked) → Runs c.args.codestream.now c.args.first_sot_offset.0 c.walk-walked.result
-runs c = rw c.position.ensures at c.walk-walked.ensures.runs
+  -- past a refusal, so many records were counted
+  counted : {q : Quarters} → walked ≡ Ok q → judged (scan_from s start) ≡ Ok q.parts
+  unfolding told
+  counted table = from ∙ ap told table
 
--- past a refusal, so many records were counted
-counted : (c : After-walk-walked) {q : Quarters} → c.walk-walked.result ≡ walked.Table q
-    → judged (scan_from c.args.codestream.now c.args.first_sot_offset.0) ≡ Table q.parts
-unfolding told
-counted c table = from c ∙ ap told table
-
-pub returns-in_default : goal.returns-in_default
+pub returns-in_err-runs-clause-value : goal.returns-in_err-runs-clause-value
 unfolding told walked_as
-returns-in_default c =
-    let w = (goal.at.returns-in_default c).After-walk-walked in
-    record {
-      value = c.in_default.is ∙ ap (walked_as _ _) (sym (answer_refused _ _ _ _ (from w ∙ ap told c.in_default.is)));
-      runs = runs w;
-    }
+returns-in_err-runs-clause-value c =
+    let e = err_from_is_err_and c.from_residual.result c.from_residual.ensures.1 in
+    e.1 ∙ ap Err e.2
+    ∙ ap (walked_as _ _) (sym (answer_refused _ _ _ _ (from c.args.codestream.now c.position.ensures c.walk.ensures.value ∙ ap told c.in_err-runs.was)))
 
 pub returns-then-rows-runs : goal.returns-then-rows-runs
 unfolding walked_as
 returns-then-rows-runs c =
-    let w = (goal.at.returns-then-rows-runs c).After-walk-walked in
-    record { value = ap (walked_as _ _) (sym (answer_no_room _ _ _ _ (counted w c.in-Table.is) c.if-rows-runs.true)); runs = tt }
+    let all = counted c.args.codestream.now c.position.ensures c.walk.ensures.value c.in_ok-runs.was in
+    record { value = c.refuse.ensures ∙ ap (walked_as _ _) (sym (answer_no_room _ _ _ _ all c.if-rows-runs.true)); runs = rw c.refuse.ensures tt }
 
 pub returns : goal.returns
 returns c =
-    let w = (goal.at.returns c).After-walk-walked in
-    let all = counted w c.in-Table.is in
+    let s = c.args.codestream.now in
+    let all = counted s c.position.ensures c.walk.ensures.value c.in_ok-runs.was in
     let same = all ∙ sym (answer_table _ _ _ _ all c.if-rows-runs.false) in
-    record { value = sym c.in-Table.is ∙ answered w ∙ ap (walked_as _ _) same; runs = rw c.in-Table.is at (runs w) }
+    record {
+      value = sym c.in_ok-runs.was ∙ answered s c.position.ensures c.walk.ensures.value ∙ ap (walked_as _ _) same;
+      runs = rw (c.in_ok-runs.was, c.position.ensures) at c.walk.ensures.runs;
+    }

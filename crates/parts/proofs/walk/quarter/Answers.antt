@@ -6,9 +6,9 @@ use Rattle.parts.proofs.walk.quarter.Goals as goal
 
 pub overflow_mul-result : goal.overflow_mul-result
 overflow_mul-result c =
-    let few : c.clamped_sub.result / 4 ≤ 15 = omega arith in
+    let few : c.saturating_sub-run.result / 4 ≤ 15 = omega arith in
     let wide : c.args.stride ≤ 2 ^ 59 = omega arith in
     omega (arith, mul-le-mul few wide)
 
 pub returns : goal.returns
-returns c = rw c.clamped_sub.ensures
+returns c = rw c.saturating_sub-run.ensures

@@ -7,11 +7,10 @@ use mathlib.Core.List.{List}
 use mathlib.Core.Path.{◌≡◌, refl, sym, ap, ◌∙◌}
 use lib.ListN.{length, get_or, set, length-set}
 use lib.Seq.{get_or-set_same}
+use Rattle.std.specs.Prelude.{None, Ok}
 use Rattle.parts.proofs.WalkLaws.{reached_start, reached_on, reached_few, reached_all, reached_ended, reached_refused, Marked, marked_none, marked_halved, marked_more, marked_quarters, doubled_none, doubled_more, doubled_on, doubled_last, quarters_all}
-use Rattle.parts.specs.declared.step.ScanStep.TheVariants as found
 use Rattle.parts.specs.declared.walk.Passed.{Passed}
 use Rattle.parts.specs.declared.walk.Quarters.{Quarters}
-use Rattle.parts.specs.declared.walk.Walked.TheVariants.{Table}
 use Rattle.parts.specs.Scan.{scan_step_at, scan_from, judged}
 use Rattle.parts.specs.Walk.{Reached, Passes, Halved, quarters_by, Quartered, walked_as}
 use Rattle.parts.proofs.walk.walk.Invariants.{Going}
@@ -60,7 +59,7 @@ module _ {s : List ℕ} {start : ℕ} {marks : List ℕ} {stride at count : ℕ}
       abbrev runs : Quarters
       runs = quarters_by (count + p.count) stride (used + 1) (set marks used at)
 
-      last : p.count < stride → scan_step_at s p.at ≡ found.Ended → (Table runs ≡ walked_as s start (judged (scan_from s start))) × Quartered s start runs
+      last : p.count < stride → scan_step_at s p.at ≡ Ok None → (Ok runs ≡ walked_as s start (judged (scan_from s start))) × Quartered s start runs
       unfolding walked_as
       last less ended =
           let q = marked_quarters used (count + p.count) g.some (omega (arith, g.even)) (reached_all ended on) more in
@@ -68,7 +67,7 @@ module _ {s : List ℕ} {start : ℕ} {marks : List ℕ} {stride at count : ℕ}
           let most = mul-le-mul_right {m = used + 1} {n = 64} stride (omega arith) in
           let first : used ≡ 0 → get_or (set marks used at) 0 0 ≡ start = λ z. rw z (get_or-set_same marks 0 at 0 (omega (arith, g.size)) ∙ g.begun z) in
           let stride-is = doubled_last (omega arith) (doubled_on p.count g.doubled) in
-          (ap Table (quarters_all stride (set marks used at) (omega (arith, g.even)) below first q stride-is) ∙ ap (walked_as s start) (reached_ended ended on), q)
+          (ap Ok (quarters_all stride (set marks used at) (omega (arith, g.even)) below first q stride-is) ∙ ap (walked_as s start) (reached_ended ended on), q)
 
 -- behind the halving there is room
 halving : (c : Joined-used-eq64)

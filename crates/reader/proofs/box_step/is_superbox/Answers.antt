@@ -11,6 +11,6 @@ pub returns-then-kind-eq-RES : goal.returns-then-kind-eq-RES
 unfolding opens
 returns-then-kind-eq-RES c = rw (ne_eqb _ _ c.if-kind-eq-JP2H.false, eq-eqb _ _ c.if-kind-eq-RES.true)
 
-pub returns : goal.returns
+pub returns-else-kind-eq-RES : goal.returns-else-kind-eq-RES
 unfolding opens
-returns c = rw (ne_eqb _ _ c.if-kind-eq-JP2H.false, ne_eqb _ _ c.if-kind-eq-RES.false)
+returns-else-kind-eq-RES c = rw (ne_eqb _ _ c.if-kind-eq-JP2H.false, ne_eqb _ _ c.if-kind-eq-RES.false)

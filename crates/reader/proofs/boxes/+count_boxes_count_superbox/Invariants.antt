@@ -11,8 +11,8 @@ decreases-count_boxes l = 2 * (9 - l.depth)
 abbrev pub decreases-count_superbox : goal.decreases-count_superbox
 decreases-count_superbox l = 2 * (8 - l.entry.depth) + 1
 
-abbrev pub invariant-count_boxes-loop-refusal : goal.invariant-count_boxes-loop-refusal
-invariant-count_boxes-loop-refusal l = Counting l.within l.depth l.start l.at l.count
+abbrev pub invariant-count_boxes-loop-step : goal.invariant-count_boxes-loop-step
+invariant-count_boxes-loop-step l = Counting l.within l.depth l.start l.at l.count
 
-abbrev pub decreases-count_boxes-loop-refusal : goal.decreases-count_boxes-loop-refusal
-decreases-count_boxes-loop-refusal l = length l.within - l.at
+abbrev pub decreases-count_boxes-loop-step : goal.decreases-count_boxes-loop-step
+decreases-count_boxes-loop-step l = length l.within - l.at

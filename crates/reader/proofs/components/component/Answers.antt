@@ -1,10 +1,19 @@
 -- The check, and then the component in the area that it gave.
 use mathlib.Core.Path.{ap, ◌∙◌}
+use Rattle.std.specs.Prelude.{Result}
+use Rattle.std.proofs.lemmas.Result.{err_from_is_err_and}
 use Rattle.reader.specs.Components.{chosen, component_of}
-use Rattle.reader.specs.declared.components.ComponentsRead.{ComponentsRead}
 use Rattle.reader.proofs.components.component.Goals as goal
+use Rattle.reader.specs.declared.components.Components.{Components}
+use Rattle.types.specs.declared.Refusal.{Refusal}
+
+pub returns-in_err-read_components : goal.returns-in_err-read_components
+unfolding component_of chosen
+returns-in_err-read_components c =
+    let p = err_from_is_err_and c.from_residual.result c.from_residual.ensures.1 in
+    rw (p.1, p.2) (ap (λ (r : Result Components Refusal). chosen r c.args.codestream.now c.args.number) c.in_err-read_components.ensures)
 
 pub returns : goal.returns
-unfolding component_of
+unfolding component_of chosen
 returns c =
-    c.choose.ensures ∙ ap (λ (r : ComponentsRead). chosen r c.args.codestream.now c.args.number) c.read_components.ensures
+    c.component_within.ensures ∙ ap (λ (r : Result Components Refusal). chosen r c.args.codestream.now c.args.number) c.in_ok-read_components.ensures

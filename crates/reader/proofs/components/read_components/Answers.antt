@@ -4,16 +4,17 @@ use native.Mathlib.Omega.{arith}
 use mathlib.Core.Path.{◌≡◌, sym, ap, ◌∙◌}
 use mathlib.Core.Bool.{true}
 use mathlib.Core.List.{List}
+use Rattle.std.specs.Prelude.{Ok}
 use Rattle.types.specs.Markers.{SOC, SIZ}
 use Rattle.types.specs.Siz.{csiz}
 use Rattle.header.specs.Parse.{stands}
 use Rattle.header.proofs.ParseLaws.{stands_inside}
 use Rattle.tile.specs.Siz.{marker}
 use Rattle.reader.specs.Components.{siz_whole, count_held, all_apart, ordered}
-use Rattle.reader.specs.declared.components.ComponentsRead.TheVariants.{Components}
 use Rattle.reader.proofs.ComponentsLaws.{segment_whole, segment_else, all_inside, read_no_soc, read_no_siz, read_cut, read_not_held, read_not_apart, read_not_ordered, read_all, ordered_across, ordered_down, ordered_both}
 use Rattle.reader.proofs.components.read_components.Goals as goal
 use Rattle.reader.proofs.components.read_components.Goals.{In-Segment, Else-not-count_held, Else-not-are_apart}
+use Rattle.reader.proofs.components.read_components.Goals.{then-area-via-then-area, then-area-via-else-area+then-area-2}
 
 -- ---- what was passed
 
@@ -47,14 +48,14 @@ returns-then-not-marker_stands-2 c =
     let soc = sym c.marker_stands.ensures ∙ c.if-not-marker_stands.false in
     c.refuse-then-not-marker_stands-2.ensures ∙ sym (read_no_siz _ soc (sym c.marker_stands-2.ensures ∙ c.if-not-marker_stands-2.true))
 
-pub header_step-step-requires : goal.header_step-step-requires
-header_step-step-requires c = omega (arith, stands_inside _ _ _ (sym c.marker_stands-2.ensures ∙ c.if-not-marker_stands-2.false))
+pub header_step-requires : goal.header_step-requires
+header_step-requires c = omega (arith, stands_inside _ _ _ (sym c.marker_stands-2.ensures ∙ c.if-not-marker_stands-2.false))
 
 pub returns-in_default : goal.returns-in_default
 returns-in_default c =
     let soc = sym c.marker_stands.ensures ∙ c.if-not-marker_stands.false in
     let siz = sym c.marker_stands-2.ensures ∙ c.if-not-marker_stands-2.false in
-    c.refuse-in_default.ensures ∙ sym (read_cut _ soc siz (segment_else _ siz _ c.header_step-step.ensures c.in_default.not-Segment))
+    c.refuse-in_default.ensures ∙ sym (read_cut _ soc siz (segment_else _ siz _ c.header_step.ensures c.in_default.not-Segment))
 
 pub count_held-requires : goal.count_held-requires
 count_held-requires c = (passed (goal.at.count_held-requires c).In-Segment).whole
@@ -90,20 +91,17 @@ pub returns-then-area : goal.returns-then-area
 returns-then-area c =
     let at = goal.at.returns-then-area c in
     let p = passed at.In-Segment in
-    let across = ap ordered (sym c.image_area-area.ensures) ∙ ordered_across _ c.if-area.true in
-    c.refuse-then-area.ensures ∙ sym (read_not_ordered _ p.soc p.siz p.whole (held at.Else-not-count_held) (steps at.Else-not-are_apart) across)
-
-pub returns-then-area-2 : goal.returns-then-area-2
-returns-then-area-2 c =
-    let at = goal.at.returns-then-area-2 c in
-    let p = passed at.In-Segment in
-    let down = ap ordered (sym c.image_area-area.ensures) ∙ ordered_down _ c.if-area-2.true in
-    c.refuse-then-area-2.ensures ∙ sym (read_not_ordered _ p.soc p.siz p.whole (held at.Else-not-count_held) (steps at.Else-not-are_apart) down)
+    let refused = c.refuse-then-area.ensures in
+    let not = read_not_ordered _ p.soc p.siz p.whole (held at.Else-not-count_held) (steps at.Else-not-are_apart) in
+    elim c.then-area.branch [
+      | then-area-via-then-area w ↦ refused ∙ sym (not (ap ordered (sym c.image_area-area.ensures) ∙ ordered_across _ w.if-area.true))
+      | then-area-via-else-area+then-area-2 w ↦ refused ∙ sym (not (ap ordered (sym c.image_area-area.ensures) ∙ ordered_down _ w.if-area-2.true))
+    ]
 
 pub returns : goal.returns
 returns c =
     let at = goal.at.returns c in
     let p = passed at.In-Segment in
     let both = ap ordered (sym c.image_area-area.ensures) ∙ ordered_both _ c.if-area.false c.if-area-2.false in
-    (λ j. Components (record { count = c.read_u16-count.ensures j; area = c.image_area-area.ensures j }))
+    (λ j. Ok (record { count = c.read_u16-count.ensures j; area = c.image_area-area.ensures j }))
     ∙ sym (read_all _ p.soc p.siz p.whole (held at.Else-not-count_held) (steps at.Else-not-are_apart) both)

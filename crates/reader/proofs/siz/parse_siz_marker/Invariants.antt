@@ -5,8 +5,8 @@ use lib.ListN.{length}
 use Rattle.reader.specs.Siz.{siz_from, siz_read}
 use Rattle.reader.proofs.siz.parse_siz_marker.Given as goal
 
-abbrev pub invariant-loop-read : goal.invariant-loop-read
-invariant-loop-read l = siz_from l.codestream l.at ≡ siz_read l.codestream
+abbrev pub invariant-loop-next : goal.invariant-loop-next
+invariant-loop-next l = siz_from l.codestream l.at ≡ siz_read l.codestream
 
-abbrev pub decreases-loop-read : goal.decreases-loop-read
-decreases-loop-read l = length l.codestream - l.at
+abbrev pub decreases-loop-next : goal.decreases-loop-next
+decreases-loop-next l = length l.codestream - l.at

@@ -5,7 +5,7 @@ use mathlib.Core.Path.{◌≡◌, sym, ap, ◌∙◌}
 use Rattle.numbers.proofs.BytesLaws.{product_fits}
 use Rattle.tile.specs.AnnexB.{cells_of, cell_area}
 use Rattle.tile.specs.declared.annex_b.Side.{Side}
-use Rattle.tile.specs.declared.annex_b.GridTile.TheVariants.{Tile}
+use Rattle.std.specs.Prelude.{Ok}
 use Rattle.tile.proofs.AnnexBLaws.{laid_is, cells_most, columns_positive, column_inside, row_inside, grid_past, grid_inside}
 use Rattle.tile.proofs.annex_b.in_cells.Goals as goal
 
@@ -48,6 +48,6 @@ returns c =
     let a = c.args in
     let x = c.span_of-x.ensures in
     let y = c.span_of-y.ensures in
-    (λ i. Tile (record { x0 = x.0 i; y0 = y.0 i; x1 = x.1 i; y1 = y.1 i }))
-    ∙ ap (λ (n : ℕ). Tile (cell_area a.across a.down (a.tile % n) (a.tile / n))) c.cells-columns.ensures
+    (λ i. Ok (record { x0 = x.0 i; y0 = y.0 i; x1 = x.1 i; y1 = y.1 i }))
+    ∙ ap (λ (n : ℕ). Ok (cell_area a.across a.down (a.tile % n) (a.tile / n))) c.cells-columns.ensures
     ∙ sym (grid_inside _ _ _ (inside _ _ _ c.cells-columns.ensures c.cells-rows.ensures c.if-columns-rows.false))

@@ -22,9 +22,9 @@ pub overflow_add-to : goal.overflow_add-to
 overflow_add-to c = omega (arith, starts _ _ c.requires.side_value c.requires.cell_bound)
 
 pub overflow_cast-result : goal.overflow_cast-result
-overflow_cast-result c = omega (arith, starts _ _ c.requires.side_value c.requires.cell_bound, c.maximum.ensures)
+overflow_cast-result c = omega (arith, starts _ _ c.requires.side_value c.requires.cell_bound)
 
 pub returns : goal.returns
 unfolding from_of to_of
 returns c =
-    (c.maximum.ensures, c.minimum.ensures ∙ ap (λ (n : ℕ). min n c.args.side.end) (omega (arith, next_cell c.args.cell c.args.side.size)))
+    (c.max.ensures, c.min.ensures ∙ ap (λ (n : ℕ). min n c.args.side.end) (omega (arith, next_cell c.args.cell c.args.side.size)))

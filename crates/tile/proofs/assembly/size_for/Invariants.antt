@@ -1,15 +1,12 @@
--- The parts from here on choose what all parts do: a dropped range is none of them, and a kept one is the first, whose Isot is there if it starts with SOT.
-use Prim.Native.Nat.{◌-◌, ◌≤◌}
+-- The rows that are left choose what all rows do: a dropped range is none of them, and a kept one is the first, whose Isot is there if it starts with SOT.
 use mathlib.Core.Path.{◌≡◌}
-use lib.ListN.{length}
-use Rattle.tile.proofs.AssemblyRanges.{parts_from}
+use Rattle.std.specs.Slice.Iter.{chunks_exact_rest, chunks_exact_size}
+use Rattle.types.specs.Row.{row_bytes}
+use Rattle.tile.proofs.AssemblyRanges.{parts_left}
 use Rattle.tile.specs.Assembly.{size_for}
 use Rattle.tile.proofs.assembly.size_for.Given as goal
 
-abbrev pub invariant-loop-at : goal.invariant-loop-at
-invariant-loop-at l =
-    (l.at ≤ length l.tile_parts)
-    × (size_for l.rule l.header (parts_from l.codestream l.tile_parts l.at) ≡ size_for l.rule l.header (parts_from l.codestream l.tile_parts 0))
-
-abbrev pub decreases-loop-at : goal.decreases-loop-at
-decreases-loop-at l = length l.tile_parts - l.at
+abbrev pub invariant-loop-row : goal.invariant-loop-row
+invariant-loop-row l =
+    (chunks_exact_size l.row-iterator ≡ row_bytes)
+    × (size_for l.rule l.header (parts_left l.codestream (chunks_exact_rest l.row-iterator)) ≡ size_for l.rule l.header (parts_left l.codestream l.tile_parts))

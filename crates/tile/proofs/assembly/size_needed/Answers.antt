@@ -1,15 +1,15 @@
--- Header, EOC and the parts up to here, and the parts from here on, are all that is needed; a sum past 2^64-1 stays there.
-use Prim.Native.Nat.{ℕ, ◌+◌, ◌-◌, ◌^◌, ◌≤◌, min}
+-- Header, EOC and the parts of the rows up to here, and those of the rows that are left, are all that is needed; a sum past 2^64-1 stays there.
+use Prim.Native.Nat.{ℕ, ◌+◌, ◌-◌, ◌^◌, min}
 use native.Mathlib.Omega.{arith}
 use mathlib.Core.List.{List}
-use mathlib.Core.Path.{◌≡◌, refl, sym, ap, ◌∙◌}
+use mathlib.Core.Path.{◌≡◌, sym, ap, ◌∙◌}
 use lib.ListN.{length}
-use borrow.Author.Rules.{rules}
+use Rattle.std.specs.Prelude.{Option, Some, None}
+use Rattle.std.specs.Slice.Iter.{chunks_exact_rest}
 use Rattle.tile.proofs.AssemblyLaws.{joined_none, length_kept}
-use Rattle.tile.proofs.AssemblyRanges.{kept_inside, parts_from, parts_none, parts_dropped}
-use Rattle.tile.specs.Assembly.{range_of, joined}
-use Rattle.tile.specs.declared.assembly.Range.TheVariants.{Kept, Dropped}
-use Rattle.types.specs.Row.{row_bytes, entry_at, records_in}
+use Rattle.tile.proofs.AssemblyRanges.{Cut, parts_left, parts_none, parts_dropped}
+use Rattle.tile.specs.Assembly.{part_of, joined}
+use Rattle.types.specs.Row.{entry_at}
 use Rattle.tile.proofs.assembly.size_needed.Invariants.{Summed}
 use Rattle.tile.proofs.assembly.size_needed.Goals as goal
 
@@ -17,55 +17,41 @@ use Rattle.tile.proofs.assembly.size_needed.Goals as goal
 stays : (size n rest : ℕ) → min (min (size + n) (2 ^ 64 - 1) + rest) (2 ^ 64 - 1) ≡ min (size + (n + rest)) (2 ^ 64 - 1)
 stays size n rest = omega arith
 
-module _ {h table s : List ℕ} {size at : ℕ} where
-  dropped : at + row_bytes ≤ length table → range_of s (entry_at table at) ≡ Dropped → Summed h table s size at → Summed h table s size (at + row_bytes)
-  dropped room gone i =
+module _ {h table s rows row rest : List ℕ} {size : ℕ} (cut : Cut rows row rest) (i : Summed h table s rows size) where
+  dropped : ◌≡◌ {A = Option (List ℕ)} None (part_of s (entry_at row 0)) → Summed h table s rest size
+  dropped gone =
       record {
-        inside = room;
         fits = i.fits;
-        total = ap (λ (ps : List (List ℕ)). min (size + length (joined ps)) (2 ^ 64 - 1)) (sym (parts_dropped s table at room gone)) ∙ i.total;
+        total = ap (λ (ps : List (List ℕ)). min (size + length (joined ps)) (2 ^ 64 - 1)) (sym (parts_dropped s cut gone)) ∙ i.total;
       }
 
-  kept : {from to next : ℕ} → at + row_bytes ≤ length table → range_of s (entry_at table at) ≡ Kept from to → next ≡ min (size + (to - from)) (2 ^ 64 - 1)
-      → Summed h table s size at → Summed h table s next (at + row_bytes)
-  kept {from} {to} {next} room found sum i =
-      let rest : ℕ = length (joined (parts_from s table (at + row_bytes))) in
-      let more = length_kept s table at from to room found in
+  kept : {part : List ℕ} {next : ℕ} → Some part ≡ part_of s (entry_at row 0) → next ≡ min (size + length part) (2 ^ 64 - 1) → Summed h table s rest next
+  kept {part} {next} found sum =
+      let left : ℕ = length (joined (parts_left s rest)) in
       record {
-        inside = room;
         fits = omega arith;
         total =
-            ap (λ (n : ℕ). min (n + rest) (2 ^ 64 - 1)) sum ∙ stays size (to - from) rest ∙ ap (λ (n : ℕ). min (size + n) (2 ^ 64 - 1)) (sym more) ∙ i.total;
+            ap (λ (n : ℕ). min (n + left) (2 ^ 64 - 1)) sum
+            ∙ stays size (length part) left
+            ∙ ap (λ (n : ℕ). min (size + n) (2 ^ 64 - 1)) (sym (length_kept s cut found))
+            ∙ i.total;
       }
 
-pub loop-at-init : goal.loop-at-init
-loop-at-init c = record { inside = omega arith; fits = search rules; total = refl }
+pub loop-row-preserved-in-Some-part_of : goal.loop-row-preserved-in-Some-part_of
+loop-row-preserved-in-Some-part_of c =
+    let steps = c.in-Some.ensures.steps in
+    let i = c.loop-row.invariant in
+    let cut : Cut _ _ _ = record { whole = steps.1.0; long = steps.1.1 ∙ i.0 } in
+    (steps.0 ∙ i.0, kept cut i.1 c.in-Some-part_of.ensures (omega (arith, c.saturating_add-size.ensures)))
 
-pub overflow_sub-tile_parts : goal.overflow_sub-tile_parts
-overflow_sub-tile_parts c = c.loop-at.invariant.inside
-
-pub range_at-range-requires : goal.range_at-range-requires
-range_at-range-requires c = omega arith
-
-pub loop-at-smaller-in_default : goal.loop-at-smaller-in_default
-loop-at-smaller-in_default c = omega arith
-
-pub loop-at-preserved-in_default : goal.loop-at-preserved-in_default
-loop-at-preserved-in_default c = dropped (omega arith) (sym c.range_at-range.ensures ∙ c.in_default.is) c.loop-at.invariant
-
-pub overflow_sub-to : goal.overflow_sub-to
-overflow_sub-to c = (kept_inside _ _ (sym c.range_at-range.ensures ∙ c.in-Kept.is)).0
-
-pub loop-at-smaller : goal.loop-at-smaller
-loop-at-smaller c = omega arith
-
-pub loop-at-preserved : goal.loop-at-preserved
-loop-at-preserved c =
-    kept (omega arith) (sym c.range_at-range.ensures ∙ c.in-Kept.is) c.saturated-size.ensures c.loop-at.invariant
+pub loop-row-preserved : goal.loop-row-preserved
+loop-row-preserved c =
+    let steps = c.in-Some.ensures.steps in
+    let i = c.loop-row.invariant in
+    let cut : Cut _ _ _ = record { whole = steps.1.0; long = steps.1.1 ∙ i.0 } in
+    (steps.0 ∙ i.0, dropped cut i.1 c.in_default.ensures)
 
 pub returns : goal.returns
-unfolding records_in
 returns c =
-    let a = c.args in
-    let none = ap length (joined_none (parts_none a.codestream.now a.tile_parts.now c.loop-at.at (omega arith))) in
-    omega (arith, c.loop-at.invariant.total, c.loop-at.invariant.fits)
+    let none = ap length (joined_none (parts_none c.args.codestream.now (chunks_exact_rest c.loop-row.row-iterator) (omega (arith, c.in-None.ensures.steps.1.0, c.loop-row.invariant.0)))) in
+    omega (arith, c.loop-row.invariant.1.total, c.loop-row.invariant.1.fits)

@@ -15,10 +15,10 @@ write_u16-requires c = omega (arith, sot_long _ (sym c.is_sot.ensures ∙ c.if-i
 pub returns-then-is_sot : goal.returns-then-is_sot
 returns-then-is_sot c =
     let sot = sym c.is_sot.ensures ∙ c.if-is_sot.true in
-    c.write_u16.ensures ∙ ap (λ (s : List ℕ). put s (c.args.at + 4) (bytes_of 2 0)) c.copy_wide_at.ensures.out_after
+    c.write_u16.ensures ∙ ap (λ (s : List ℕ). put s (c.args.at + 4) (bytes_of 2 0)) c.copy_at.ensures.out_after
     ∙ put_inside c.args.out.now c.args.at c.args.part.now 4 (bytes_of 2 0) (omega (arith, length_bytes 2 0, sot_long _ sot)) (search rules)
     ∙ ap (put c.args.out.now c.args.at) (sym (patched_sot _ sot))
 
 pub returns-else-is_sot : goal.returns-else-is_sot
 returns-else-is_sot c =
-    c.copy_wide_at.ensures.out_after ∙ ap (put c.args.out.now c.args.at) (sym (patched_other _ (sym c.is_sot.ensures ∙ c.if-is_sot.false)))
+    c.copy_at.ensures.out_after ∙ ap (put c.args.out.now c.args.at) (sym (patched_other _ (sym c.is_sot.ensures ∙ c.if-is_sot.false)))

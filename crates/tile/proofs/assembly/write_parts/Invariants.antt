@@ -1,22 +1,22 @@
--- The parts from here on, put where the next part goes, make the output that all parts make of the one lent; a turn puts one, or drops its range.
-use Prim.Native.Nat.{ℕ, ◌+◌, ◌-◌, ◌≤◌}
+-- The parts of the rows that are left, put where the next goes, make the output that all parts make of the one lent; a turn puts one, or drops its range.
+use Prim.Native.Nat.{ℕ, ◌+◌}
 use mathlib.Core.List.{List}
 use mathlib.Core.Path.{◌≡◌}
 use lib.ListN.{length}
-use Rattle.tile.proofs.AssemblyRanges.{parts_from}
+use Rattle.std.specs.Slice.Iter.{chunks_exact_rest, chunks_exact_size}
+use Rattle.types.specs.Row.{row_bytes}
+use Rattle.tile.proofs.AssemblyRanges.{parts_left}
 use Rattle.tile.specs.Assembly.{joined}
 use Rattle.numbers.specs.Bytes.{put}
 use Rattle.tile.proofs.assembly.write_parts.Given as goal
 
--- the parts from here on, put where the next goes, make the output that all parts make of the one lent
-pub record Filled (table s lent : List ℕ) (start : ℕ) (out : List ℕ) (place at : ℕ) : Type 0 where
-  pub inside : at ≤ length table
+-- the parts that are left, put where the next goes, make the output that all parts make of the one lent
+pub record Filled (table s lent : List ℕ) (start : ℕ) (rows out : List ℕ) (place : ℕ) : Type 0 where
   pub same : length out ≡ length lent
-  pub ends : place + length (joined (parts_from s table at)) ≡ start + length (joined (parts_from s table 0))
-  pub whole : put out place (joined (parts_from s table at)) ≡ put lent start (joined (parts_from s table 0))
+  pub ends : place + length (joined (parts_left s rows)) ≡ start + length (joined (parts_left s table))
+  pub whole : put out place (joined (parts_left s rows)) ≡ put lent start (joined (parts_left s table))
 
-abbrev pub invariant-loop-at : goal.invariant-loop-at
-invariant-loop-at l = Filled l.tile_parts l.codestream l.initial.out l.start l.out l.place l.at
-
-abbrev pub decreases-loop-at : goal.decreases-loop-at
-decreases-loop-at l = length l.tile_parts - l.at
+abbrev pub invariant-loop-row : goal.invariant-loop-row
+invariant-loop-row l =
+    (chunks_exact_size l.row-iterator ≡ row_bytes)
+    × Filled l.tile_parts l.codestream l.initial.out l.start (chunks_exact_rest l.row-iterator) l.out l.place

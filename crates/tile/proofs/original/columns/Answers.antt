@@ -6,12 +6,14 @@ use mathlib.Core.Path.{sym, ◌∙◌}
 use Rattle.tile.proofs.OriginalLaws.{columns_below, columns_none, columns_some}
 use Rattle.numbers.proofs.BytesLaws.{ceil_least}
 use Rattle.tile.proofs.original.columns.Goals as goal
+use Rattle.tile.proofs.original.columns.Goals.{then-end-origin-via-then-end-origin, then-end-origin-via-else-end-origin+then-size-eq0}
 
 pub returns-then-end-origin : goal.returns-then-end-origin
-returns-then-end-origin c = sym (columns_below _ _ _ c.if-end-origin.true)
-
-pub returns-then-size-eq0 : goal.returns-then-size-eq0
-returns-then-size-eq0 c = sym (columns_none _ _ _ c.if-end-origin.false c.if-size-eq0.true)
+returns-then-end-origin c =
+    elim c.then-end-origin.branch [
+      | then-end-origin-via-then-end-origin w ↦ sym (columns_below _ _ _ w.if-end-origin.true)
+      | then-end-origin-via-else-end-origin+then-size-eq0 w ↦ sym (columns_none _ _ _ w.if-end-origin.false w.if-size-eq0.true)
+    ]
 
 pub overflow_cast-result : goal.overflow_cast-result
 overflow_cast-result c =

@@ -1,35 +1,34 @@
--- A u64 holds each step; where the last sum fits 32 bits those before it do, and the tests are the definition's.
-use Prim.Native.Nat.{◌+◌, ◌*◌}
+-- Where the last sum fits 32 bits those before it do, and the tests are the definition's.
 use native.Mathlib.Omega.{arith}
-use mathlib.Core.Path.{sym, ap, ◌∙◌}
-use borrow.Author.Rules.{rules}
-use Rattle.numbers.proofs.BytesLaws.{product_fits}
+use mathlib.Core.Path.{sym, ◌∙◌}
+use Rattle.std.specs.Prelude.{Some}
+use Prim.Native.Nat.{◌+◌, ◌*◌, min}
+use mathlib.Core.Path.{◌≡◌}
 use Rattle.tile.proofs.OriginalLaws.{axis_inside, axis_below, axis_passes}
-use Rattle.tile.specs.declared.original.Axis.TheVariants.{Span}
 use Rattle.tile.proofs.original.span.Goals as goal
 
-pub overflow_mul-from : goal.overflow_mul-from
-overflow_mul-from c = omega (arith, product_fits c.args.cell c.args.size (search rules) (search rules))
+pub returns-in_err-along : goal.returns-in_err-along
+returns-in_err-along c = c.from_residual.ensures ∙ sym (axis_passes _ _ _ _ (omega (arith, c.in_err-along.ensures)))
 
-pub overflow_add-from : goal.overflow_add-from
-overflow_add-from c = omega (arith, product_fits c.args.cell c.args.size (search rules) (search rules))
+pub returns-in_err-from : goal.returns-in_err-from
+returns-in_err-from c = c.from_residual-in_err-from.ensures ∙ sym (axis_passes _ _ _ _ (omega (arith, c.in_ok-along.ensures, c.in_err-from.ensures)))
 
-pub overflow_add-to : goal.overflow_add-to
-overflow_add-to c = omega (arith, product_fits c.args.cell c.args.size (search rules) (search rules))
+pub returns-in_err-checked_add : goal.returns-in_err-checked_add
+returns-in_err-checked_add c =
+    c.from_residual-in_err-checked_add.ensures
+    ∙ sym (axis_passes _ _ _ _ (omega (arith, c.in_ok-along.ensures, c.in_ok-from.ensures, c.in_err-checked_add.ensures)))
 
-pub returns-then-to-gt4294967295 : goal.returns-then-to-gt4294967295
-returns-then-to-gt4294967295 c = sym (axis_passes _ _ _ _ (omega (arith, c.if-to-gt4294967295.true)))
-
-pub returns-then-stop-from : goal.returns-then-stop-from
-returns-then-stop-from c = sym (axis_below _ _ _ _ (omega (arith, c.if-to-gt4294967295.false)) (omega (arith, c.minimum-stop.ensures, c.if-stop-from.true)))
-
-pub overflow_cast-result : goal.overflow_cast-result
-overflow_cast-result c = omega (arith, c.if-to-gt4294967295.false)
-
-pub overflow_cast-result-2 : goal.overflow_cast-result-2
-overflow_cast-result-2 c = omega (arith, c.if-to-gt4294967295.false, c.minimum-stop.ensures)
+pub returns-then-to-from : goal.returns-then-to-from
+returns-then-to-from c =
+    sym
+    (axis_below _ _ _ _
+    (omega (arith, c.in_ok-along.ensures, c.in_ok-from.ensures, c.in_ok-checked_add.ensures))
+    (omega (arith, c.in_ok-along.ensures, c.in_ok-from.ensures, c.in_ok-checked_add.ensures)))
 
 pub returns : goal.returns
 returns c =
-    ap (Span (c.args.origin + c.args.cell * c.args.size)) c.minimum-stop.ensures
-    ∙ sym (axis_inside _ _ _ _ (omega (arith, c.if-to-gt4294967295.false)) (omega (arith, c.minimum-stop.ensures, c.if-stop-from.false)))
+    let a = c.args in
+    let from : c.in_ok-from.from ≡ a.origin + a.cell * a.size = omega (arith, c.in_ok-along.ensures, c.in_ok-from.ensures) in
+    let to : c.min-to.result ≡ min (a.origin + a.cell * a.size + a.size) a.end = omega (arith, c.in_ok-checked_add.ensures) in
+    (λ i. Some (record { from = from i; to = to i }))
+    ∙ sym (axis_inside _ _ _ _ (omega (arith, c.in_ok-checked_add.ensures)) (omega arith))

@@ -1,29 +1,25 @@
--- Each way is the definition's, at the rule that was tested for.
-use mathlib.Core.Path.{◌≡◌, refl, sym, ap, ◌∙◌}
-use mathlib.Core.Logic.{inl, inr}
-use mathlib.Core.List.{[], ◌∷◌}
-use denote.Enum.Declared.{tag_of}
-use types.Run.{OneOf}
-use Rattle.tile.specs.Rules.{by_annex_b, by_original, placed_by}
-use Rattle.tile.specs.declared.rules.Rule.{Rule}
-use Rattle.tile.specs.declared.rules.Rule.TheVariants.{AnnexB, Original, InPlace}
-use Rattle.tile.specs.contracts.rules.Rule.{the_type}
-use Rattle.tile.proofs.RulesLaws.{told_annex}
+-- Each arm is the definition's, at the rule that was matched.
+use mathlib.Core.Path.{sym, ap, ◌∙◌}
+use Rattle.std.specs.Prelude.{Option, ok_or}
+use Rattle.types.specs.declared.Area.{Area}
+use Rattle.types.specs.declared.Reason.TheVariants.{TileOutside}
+use Rattle.types.specs.Refusals.{refusal}
+use Rattle.tile.specs.Siz.{marker}
+use Rattle.tile.specs.Rules.{by_annex_b}
+use Rattle.tile.proofs.RulesLaws.{passed_on, told_annex, told_original}
 use Rattle.tile.proofs.rules.place.Goals as goal
 
--- a rule other than the original's is the first or the last
-first_or_last : (rule : Rule) → (rule ≡ Original → ⊥) → OneOf (0 ∷ 2 ∷ []) (tag_of the_type rule)
-first_or_last AnnexB n = inl refl
-first_or_last Original n = absurd (n refl)
-first_or_last InPlace n = inr refl
-
 pub returns-in-Original : goal.returns-in-Original
-unfolding placed_by
 returns-in-Original c =
-    c.by_original.ensures ∙ ap by_original c.tile_area.ensures ∙ sym (ap (λ (r : Rule). placed_by r c.args.header.now c.args.isot) c.in-Original.is)
+    c.ok_or.ensures.value
+    ∙ ap (λ (t : Option Area). ok_or t (refusal TileOutside marker)) c.tile_area.ensures
+    ∙ sym (told_original _ _ _ c.in-Original.is)
 
-pub returns : goal.returns
-returns c =
-    c.by_annex_b.ensures
-    ∙ ap by_annex_b c.tile_area-2.ensures
-    ∙ sym (told_annex _ _ _ (first_or_last _ c.in_default.not-Original))
+pub returns-in_err-tile_area-in-AnnexB : goal.returns-in_err-tile_area-in-AnnexB
+unfolding by_annex_b
+returns-in_err-tile_area-in-AnnexB c =
+    passed_on _ _ c.from_residual.ensures.1 ∙ ap by_annex_b c.in_err-tile_area-in-AnnexB.ensures ∙ sym (told_annex _ _ _ c.in-AnnexB.is)
+
+pub returns-in_ok-tile_area-in-AnnexB : goal.returns-in_ok-tile_area-in-AnnexB
+unfolding by_annex_b
+returns-in_ok-tile_area-in-AnnexB c = ap by_annex_b c.in_ok-tile_area-in-AnnexB.ensures ∙ sym (told_annex _ _ _ c.in-AnnexB.is)
