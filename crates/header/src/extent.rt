@@ -17,10 +17,13 @@ pub fn main_header_extent(prefix: &[u8]) -> Option<CodestreamOffset>
     }
     let mut at: usize = 2;
     loop {
-        match crate::step::header_step(prefix, at) {
-            HeaderStep::Sot => return Some(CodestreamOffset::at(at)),
-            HeaderStep::Delimiter(marker) | HeaderStep::Segment(marker) => at = marker.next,
-            HeaderStep::CutShort => return None,
-        }
+        let step = crate::step::header_step(prefix, at);
+        let (HeaderStep::Segment(marker) | HeaderStep::Delimiter(marker)) = step else {
+            if let HeaderStep::Sot = step {
+                return Some(CodestreamOffset::at(at));
+            }
+            return None;
+        };
+        at = marker.next;
     }
 }

@@ -57,17 +57,22 @@ pub fn walk_step(codestream: &[u8], at: usize) -> Result<Option<Passed>, Refusal
     requires { at ≤ length codestream.now }
     ensures { result ≡ walk_step_at codestream.now at }
 {
-    match crate::step::header_step(codestream, at) {
-        HeaderStep::Sot => Ok(None),
-        HeaderStep::Delimiter(marker) => Ok(Some(Passed {
+    let step = crate::step::header_step(codestream, at);
+    let HeaderStep::Segment(marker) = step else {
+        let HeaderStep::Delimiter(marker) = step else {
+            if let HeaderStep::Sot = step {
+                return Ok(None);
+            }
+            return Err(cut_at(codestream, at));
+        };
+        return Ok(Some(Passed {
             next: marker.next,
             code: marker.code,
             is_filler: !marker.high_ff,
             tlm: None,
-        })),
-        HeaderStep::Segment(marker) => pass_segment(codestream, at, marker),
-        HeaderStep::CutShort => Err(cut_at(codestream, at)),
-    }
+        }));
+    };
+    pass_segment(codestream, at, marker)
 }
 
 // What is passed there, in a header that the walk is known to accept; None at its end.

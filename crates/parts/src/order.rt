@@ -14,7 +14,7 @@ pub struct Due {
 }
 
 // One record. Another tile's is left out; the tile's has to be the one that is due, and has to give the same TNsot as those before it
-// or none.
+// or none. A TNsot that is given is tested and then taken over: chosen first and tested then, each record's waits for the one before.
 pub fn order_step(entry: TilePartEntry, tile: u16, due: Due) -> Option<Due>
     ensures { result ≡ order_step entry tile due }
 {
@@ -27,9 +27,12 @@ pub fn order_step(entry: TilePartEntry, tile: u16, due: Due) -> Option<Due>
     if u64::from(tpsot) != due.passed {
         return None;
     }
-    let given = if tnsot == 0 { due.given } else { tnsot };
-    if due.given != 0 && given != due.given {
-        return None;
+    let mut given = due.given;
+    if tnsot != 0 {
+        if given != 0 && given != tnsot {
+            return None;
+        }
+        given = tnsot;
     }
     Some(Due {
         passed: due.passed + 1,

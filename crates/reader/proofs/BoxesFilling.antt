@@ -95,7 +95,7 @@ module _ {s : List ℕ} {depth start first : ℕ} {lent : List ℕ} (accepted : 
   all_written all =
       (f.written.next ∙ ap (λ (es : List BoxEntry). first + 29 * length es) all, f.written.rows ∙ ap (λ (es : List BoxEntry). put lent first (rows_of es)) all)
 
-  fill_end : step_at s depth at ≡ Ok None → Done
+  pub fill_end : step_at s depth at ≡ Ok None → Done
   fill_end h = all_written (ap entries_of (sym (all_passed f.passed h)))
 
   some_written : length f.gone ≤ length (entries_of (boxes_in s depth start))
@@ -108,7 +108,7 @@ module _ {s : List ℕ} {depth start first : ℕ} {lent : List ℕ} (accepted : 
   pub fill_full : length table - row < 29 → Done
   fill_full h = all_written (all_there (boxes_in s depth start) _ f.gone accepted f.passed.whole (omega (arith, h, f.written.next, f.written.same)))
 
-  not_refused : {X : Type 0} {r : Refusal} → step_at s depth at ≡ Err r → X
+  pub not_refused : {X : Type 0} {r : Refusal} → step_at s depth at ≡ Err r → X
   not_refused {X} {r} h = absurd (never accepted (stops f.passed r h))
 
   -- it gave none

@@ -1,17 +1,13 @@
 -- The definitions of component sizes, opened once: a law for each case.
 use Prim.Native.Nat.{ℕ, zero, suc, ◌+◌, ◌*◌, ◌≤◌, ◌<◌}
-use native.Mathlib.Nat.{zero-add}
 use native.Mathlib.Omega.{arith}
-use mathlib.Core.Path.{◌≡◌, refl, sym, ap, ap₂, ◌∙◌}
+use mathlib.Core.Path.{◌≡◌, sym, ap, ap₂, ◌∙◌}
 use mathlib.Core.Bool.{Bool, true, false, ◌&&◌, and-eq-true_iff, and-false, false≢true}
 use mathlib.Core.List.{List}
 use lib.ListN.{length}
 use lib.Dec.{leb, ltb, eqb}
 use borrow.Author.Tests.{le-leb, lt-leb, lt-ltb, le-ltb, eq-eqb, ne_eqb, leb-true, leb-false, ltb-true, ltb-false, eqb-true}
 use Rattle.std.specs.Prelude.{Some, None, Result, Ok, Err}
-use Rattle.std.specs.Bool.{MatchBool}
-use Rattle.std.specs.List.{range_with_len, AllWithin, HoldsAt}
-use Rattle.std.proofs.lemmas.List.FromFn.{length-range_with_len, get_or-range_with_len}
 use Rattle.numbers.specs.Bytes.{be}
 use Rattle.numbers.proofs.Choice.{by_test, by_bool}
 use Rattle.types.specs.Markers.{SOC, SIZ}
@@ -111,23 +107,12 @@ module _ (s : List ℕ) where
   pub apart_fails : (k n : ℕ) → apart s (component marker k) ≡ false → k < n → all_apart s n ≡ false
   apart_fails k n e h = by_bool (all_apart s n) (λ t. absurd (false≢true (sym e ∙ one_apart k n t h))) (λ f. f)
 
-  each_apart : (n : ℕ) → ((k : ℕ) → k < n → apart s (component marker k) ≡ true) → all_apart s n ≡ true
+  pub apart_next : (n : ℕ) → all_apart s n ≡ true → apart s (component marker n) ≡ true → all_apart s (n + 1) ≡ true
   unfolding all_apart
-  each_apart zero h = refl
-  each_apart (suc n) h = rw (each_apart n (λ k l. h k (omega arith)), h n (omega arith))
-
-  -- what a run over the numbers tells: each is apart, or one is not
-  pub apart_told : (n : ℕ) (told : Bool)
-      → MatchBool told (AllWithin (λ k. apart s (component marker k) ≡ true) (range_with_len 0 n) 0 (length (range_with_len 0 n)))
-      ((k : ℕ) × (k < length (range_with_len 0 n)) × HoldsAt (λ k. apart s (component marker k) ≡ false) (range_with_len 0 n) k)
-      → told ≡ all_apart s n
-  apart_told n true h =
-      let long = length-range_with_len 0 n in
-      sym (each_apart n (λ k l. rw (get_or-range_with_len 0 n k 0 l ∙ zero-add k) at (h k 0 (omega arith) (omega arith))))
-  apart_told n false h =
-      let long = length-range_with_len 0 n in
-      let inside : h.0 < n = omega (arith, h.1) in
-      sym (apart_fails h.0 n (rw (get_or-range_with_len 0 n h.0 0 inside ∙ zero-add h.0) at (h.2 0)) inside)
+  apart_next n a b =
+      let next : n + 1 ≡ suc n = omega arith in
+      let both : all_apart s (suc n) ≡ true = rw (a, b) in
+      ap (all_apart s) next ∙ both
 
   -- ---- one component
 

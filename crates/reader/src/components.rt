@@ -50,11 +50,17 @@ fn is_apart(codestream: &[u8], at: usize) -> bool
     1 <= codestream[at + 1] && 1 <= codestream[at + 2]
 }
 
+// By `for`, as `all` over the numbers asks for more with each component: nine instructions, and not seven.
 fn are_apart(codestream: &[u8], count: u16) -> bool
     requires { component marker count ≤ length codestream.now }
     ensures { result ≡ all_apart codestream.now count }
 {
-    (0..count as usize).all(|k| is_apart(codestream, MARKER + siz::SSIZ + siz::COMPONENT * k))
+    for k in 0..count as usize {
+        if !is_apart(codestream, MARKER + siz::SSIZ + siz::COMPONENT * k) {
+            return false;
+        }
+    }
+    true
 }
 
 pub fn read_components(codestream: &[u8]) -> Result<Components, Refusal>

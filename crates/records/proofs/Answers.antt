@@ -43,12 +43,12 @@ module _ (s : List ℕ) (start : ℕ) (table : List TilePartEntry) where
       ∙ written_records (scanned s start (length table)) (entries_from s start) table
 
   -- a refusal leaves the table
-  table_kept : (r : Refusal) → scanned s start (length table) ≡ Err r → scanned_records s start table ≡ table
+  pub table_kept : (r : Refusal) → scanned s start (length table) ≡ Err r → scanned_records s start table ≡ table
   table_kept r e =
       sym scan_records ∙ kept_in layout.records s start table r (ap (scanned s start) (div-one (length table)) ∙ e)
 
   -- otherwise it starts with the records
-  table_filled : (n : ℕ) → scanned s start (length table) ≡ Ok n → scanned_records s start table ≡ put table 0 (entries_from s start)
+  pub table_filled : (n : ℕ) → scanned s start (length table) ≡ Ok n → scanned_records s start table ≡ put table 0 (entries_from s start)
   table_filled n e =
       sym scan_records
       ∙ filled_in layout.records s start table n (ap (scanned s start) (div-one (length table)) ∙ e) (sym (answer_counts s start (length table) n e).0)

@@ -6,6 +6,7 @@ use mathlib.Core.Path.{◌≡◌, sym, ◌∙◌}
 use lib.ListN.{length}
 use borrow.Author.Rules.{rules}
 use Rattle.std.specs.Prelude.{Some}
+use Rattle.header.proofs.StepLaws.{cut_else}
 use Rattle.header.proofs.ExtentLaws.{extent_few, extent_no_soc, extent_steps, move_inside, segment_on, delimiter_on, extent_on, extent_sot, extent_cut}
 use Rattle.header.specs.Step.{move_at, steps_from}
 use Rattle.chain.specs.Chain.{on}
@@ -32,23 +33,25 @@ returns-in-Sot c =
     ∙ sym (extent_sot _ c.loop-marker.at (sym c.in-Sot.ensures))
     ∙ c.loop-marker.invariant.1
 
-pub returns-in-CutShort : goal.returns-in-CutShort
-returns-in-CutShort c = sym (extent_cut _ c.loop-marker.at (sym c.in-CutShort.ensures)) ∙ c.loop-marker.invariant.1
-
--- a delimiter
-pub loop-marker-smaller-in-Delimiter : goal.loop-marker-smaller-in-Delimiter
-loop-marker-smaller-in-Delimiter c =
-    let m = move_inside c.args.prefix.now _ _ (delimiter_on _ _ _ (sym c.in-Delimiter.ensures)) in
-    omega arith
-
-pub loop-marker-preserved-in-Delimiter : goal.loop-marker-preserved-in-Delimiter
-loop-marker-preserved-in-Delimiter c = turn c.args.prefix.now _ _ c.loop-marker.invariant.1 (delimiter_on _ _ _ (sym c.in-Delimiter.ensures))
+pub returns-in_default : goal.returns-in_default
+returns-in_default c =
+    let cut = sym c.header_step-step.ensures ∙ cut_else _ c.in_default.not-Segment c.in_default.not-Delimiter c.in_default-step.not-Sot in
+    sym (extent_cut _ c.loop-marker.at cut) ∙ c.loop-marker.invariant.1
 
 -- a segment
+pub loop-marker-smaller-in-Segment : goal.loop-marker-smaller-in-Segment
+loop-marker-smaller-in-Segment c =
+    let m = move_inside c.args.prefix.now _ _ (segment_on _ _ _ (sym c.in-Segment.ensures)) in
+    omega arith
+
+pub loop-marker-preserved-in-Segment : goal.loop-marker-preserved-in-Segment
+loop-marker-preserved-in-Segment c = turn c.args.prefix.now _ _ c.loop-marker.invariant.1 (segment_on _ _ _ (sym c.in-Segment.ensures))
+
+-- a delimiter
 pub loop-marker-smaller : goal.loop-marker-smaller
 loop-marker-smaller c =
-    let m = move_inside c.args.prefix.now _ _ (segment_on _ _ _ (sym c.in-Delimiter.ensures)) in
+    let m = move_inside c.args.prefix.now _ _ (delimiter_on _ _ _ (sym c.in-Segment.ensures)) in
     omega arith
 
 pub loop-marker-preserved : goal.loop-marker-preserved
-loop-marker-preserved c = turn c.args.prefix.now _ _ c.loop-marker.invariant.1 (segment_on _ _ _ (sym c.in-Delimiter.ensures))
+loop-marker-preserved c = turn c.args.prefix.now _ _ c.loop-marker.invariant.1 (delimiter_on _ _ _ (sym c.in-Segment.ensures))

@@ -1,19 +1,19 @@
--- The first that is not apart decides.
-use mathlib.Core.Bool.{true, false}
-use mathlib.Core.Path.{◌≡◌, refl}
+-- All components passed so far are apart; the first that is not decides.
 use native.Mathlib.Omega.{arith}
-use borrow.Author.Rules.{rules}
-use borrow.Author.Tests.{tests}
-use Rattle.std.proofs.lemmas.Iterator.{cases_from_all, YieldsList-from_range}
-use Rattle.types.specs.Siz.{component}
-use Rattle.tile.specs.Siz.{marker}
-use Rattle.reader.specs.Components.{apart}
-use Rattle.reader.proofs.ComponentsLaws.{apart_told}
+use mathlib.Core.Path.{refl, sym, ap, ◌∙◌}
+use Rattle.reader.specs.Components.{all_apart}
+use Rattle.reader.proofs.ComponentsLaws.{apart_fails, apart_next}
 use Rattle.reader.proofs.components.are_apart.Goals as goal
 
+pub loop-k-init : goal.loop-k-init
+unfolding all_apart
+loop-k-init c = refl
+
+pub returns-then-not-is_apart : goal.returns-then-not-is_apart
+returns-then-not-is_apart c = sym (apart_fails _ _ _ (sym c.is_apart.ensures ∙ c.if-not-is_apart.true) (omega arith))
+
+pub loop-k-preserved : goal.loop-k-preserved
+loop-k-preserved c = apart_next _ _ c.loop-k.invariant (sym c.is_apart.ensures ∙ c.if-not-is_apart.false)
+
 pub returns : goal.returns
-returns c =
-    let s = c.args.codestream.now in
-    apart_told s c.args.count c.all.result
-    (cases_from_all _ _ _ (λ k. apart s (component marker k) ≡ true) (λ k. apart s (component marker k) ≡ false) c.all.ensures.ran
-    (YieldsList-from_range 0 c.args.count c.args.count refl (omega arith)) (λ x q k. search (rules, tests)) (λ x q k. search (rules, tests)))
+returns c = sym (ap (all_apart _) (omega arith) ∙ c.loop-k.invariant)
