@@ -17,7 +17,7 @@ use Rattle.types.specs.declared.Area.{Area}
 use Rattle.types.specs.declared.Refusal.{Refusal}
 use Rattle.tile.specs.Siz.{marker, pair, one_tile}
 use Rattle.tile.specs.Rules.{placed_by}
-use Rattle.tile.specs.Rewrite.{sized, moved, cut_by, size_of, size_in, tile_size, cut_to, Ordered, Room, rewritten, with_room, over}
+use Rattle.tile.specs.Rewrite.{sized, moved, cut_by, size_of, size_in, tile_size, cut_to, Ordered, Room, rewritten, with_room, judged, over}
 use Rattle.tile.specs.declared.rules.Rule.{Rule}
 use Rattle.tile.specs.declared.rules.Rule.TheVariants.{AnnexB, Original, InPlace}
 use Rattle.tile.proofs.RulesLaws.{tile_within}
@@ -87,9 +87,11 @@ pub cut_as : (s : Result (Option Area) Refusal) (a : Area) (h : List ℕ) → s 
 unfolding cut_to
 cut_as s a h e = ap (λ (x : Result (Option Area) Refusal). cut_to x h) e
 
-pub cut_kept : (s : Result (Option Area) Refusal) (h : List ℕ) → s ≡ Ok None → cut_to s h ≡ h
+pub cut_kept : (s : Result (Option Area) Refusal) (h : List ℕ) → ((a : Area) → s ≡ Ok (Some a) → ⊥) → cut_to s h ≡ h
 unfolding cut_to
-cut_kept s h e = ap (λ (x : Result (Option Area) Refusal). cut_to x h) e
+cut_kept (Ok None) h n = refl
+cut_kept (Ok (Some a)) h n = absurd (n a refl)
+cut_kept (Err r) h n = refl
 
 -- a header written and then cut is the cut header written
 pub put_cut : (s : Result (Option Area) Refusal) (a : Area) (h out : List ℕ) → s ≡ Ok (Some a) → Room s (length h) → length h ≤ length out
@@ -134,6 +136,12 @@ room_bytes needed room n e =
     (λ l f. (cc, leb-true _ _ l))
     (λ _ f. (cc))
     e
+
+pub judged_bytes : (s : Result (Option Area) Refusal) (needed room n : ℕ) → judged s needed room ≡ Ok n → (needed ≡ n) × (needed ≤ room)
+unfolding judged
+judged_bytes (Ok None) needed room n e = room_bytes needed room n e
+judged_bytes (Ok (Some a)) needed room n e = room_bytes needed room n e
+judged_bytes (Err r) needed room n e = (cc)
 
 pub over_refused : (a : Result ℕ Refusal) (r : Refusal) (bytes out : List ℕ) → a ≡ Err r → over a bytes out ≡ out
 unfolding over

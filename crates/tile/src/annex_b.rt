@@ -3,8 +3,11 @@
 ghost use Rattle.std.specs.Prelude.{◌≡◌, true, ◌+◌, ◌≤◌, ◌<◌, length};
 ghost use Rattle.tile.specs.AnnexB.{side_at, laid, cells_of, from_of, to_of, in_cells, grid_tile};
 
-use crate::siz::{Span, field};
+use crate::siz::field;
 use types::{Area, siz};
+
+// A tile along one axis.
+pub use crate::siz::Span;
 
 // SIZ along one axis.
 #[derive(Clone, Copy)]

@@ -99,8 +99,8 @@ pub fn build_minimal_codestream(
 {
     let size = size_for(decode_header, tile_parts, codestream, rule)?;
     let all = size_needed(decode_header, tile_parts, codestream);
-    let needed = crate::rewrite::judge(all, out.len() as u64)?;
-    crate::rewrite::write_header(decode_header, size, out);
+    let needed = crate::rewrite::judge(Ok(size), all, out.len() as u64)?;
+    crate::rewrite::write_header(decode_header, Ok(size), out);
     let end = write_parts(tile_parts, codestream, out, decode_header.len());
     numbers::write_u16(out, end, EOC);
     Ok(needed)

@@ -4,7 +4,7 @@ ghost use Rattle.std.specs.Prelude.{◌≡◌, ◌+◌, ◌≤◌, length};
 ghost use Rattle.numbers.specs.Bytes.{put};
 ghost use Rattle.types.specs.Siz.{XSIZ};
 ghost use Rattle.tile.specs.Siz.{marker, pair, one_tile};
-ghost use Rattle.tile.specs.Rewrite.{sized, size_in, tile_size, cut_to, Ordered, Room, with_room, rewrite_answer, rewrite_out};
+ghost use Rattle.tile.specs.Rewrite.{sized, size_in, tile_size, cut_to, Ordered, Room, judged, rewrite_answer, rewrite_out};
 
 use crate::rules::Rule;
 use crate::siz::MARKER;
@@ -47,10 +47,11 @@ pub fn tile_size(header: &[u8], isot: u16, rule: Rule) -> Result<Option<Area>, R
     size_in(header, isot, rule)
 }
 
-// How many bytes are written, where they have room.
-pub fn judge(needed: u64, room: u64) -> Result<u64, Refusal>
-    ensures { result ≡ with_room needed room }
+// How many bytes are written, where they have room; a refusal of the rule before 17.
+pub fn judge(size: Result<Option<Area>, Refusal>, needed: u64, room: u64) -> Result<u64, Refusal>
+    ensures { result ≡ judged size needed room }
 {
+    size?;
     if room < needed {
         return types::refuse(Reason::OutputTooSmall, needed);
     }
@@ -79,14 +80,16 @@ fn write_one_tile(out: &mut [u8], tile: Area)
     write_pair(out, siz::XTOSIZ, tile.x0, tile.y0);
 }
 
-pub fn write_header(header: &[u8], size: Option<Area>, out: &mut [u8])
-    requires room { Room (Ok size) (length header.now) }
+pub fn write_header(header: &[u8], size: Result<Option<Area>, Refusal>, out: &mut [u8])
+    requires room { Room size (length header.now) }
     requires header_in_bounds { length header.now ≤ length out.old }
-    ensures { out.new ≡ put out.old 0 (cut_to (Ok size) header.now) }
+    ensures { out.new ≡ put out.old 0 (cut_to size header.now) }
 {
     numbers::copy_at(header, out, 0);
-    if let Some(tile) = size {
-        write_one_tile(out, tile);
+    match size {
+        Ok(Some(tile)) => write_one_tile(out, tile),
+        Ok(None) => {}
+        Err(_) => {}
     }
 }
 
@@ -99,8 +102,11 @@ pub fn rewrite_siz_for_tile(
     ensures value { result ≡ rewrite_answer rule decode_header.now isot (length out.old) }
     ensures out_after { out.new ≡ rewrite_out rule decode_header.now isot out.old }
 {
-    let size = tile_size(decode_header, isot, rule)?;
-    let needed = judge(decode_header.len() as u64, out.len() as u64)?;
+    let size = tile_size(decode_header, isot, rule);
+    let answer = judge(size, decode_header.len() as u64, out.len() as u64);
+    let Ok(_) = answer else {
+        return answer;
+    };
     write_header(decode_header, size, out);
-    Ok(needed)
+    answer
 }

@@ -7,13 +7,13 @@ use mathlib.Core.Path.{◌≡◌, sym, ap, ◌∙◌}
 use lib.ListN.{length, length-append}
 use Rattle.std.specs.Prelude.{Option, Result, Ok, Err}
 use Rattle.tile.proofs.AssemblyLaws.{for_room, length_assembled, judged_saturated}
-use Rattle.tile.proofs.RewriteHeader.{length_cut, room_bytes, over_refused, over_bytes}
-use Rattle.tile.proofs.RewriteLaws.{judged_refused, judged_room}
+use Rattle.tile.proofs.RewriteHeader.{length_cut, judged_bytes, over_refused, over_bytes}
+use Rattle.tile.proofs.RewriteLaws.{judged_refused}
 use Rattle.tile.proofs.RulesLaws.{passed_on}
 use Rattle.types.specs.declared.Refusal.{Refusal}
 use Rattle.tile.specs.declared.rules.Rule.{Rule}
 use Rattle.tile.specs.Assembly.{parts_in, size_for, joined, assembled, answer_for, assembly_answer, assembly_out}
-use Rattle.tile.specs.Rewrite.{cut_to, with_room, judged, over}
+use Rattle.tile.specs.Rewrite.{cut_to, judged, over}
 use Rattle.types.specs.Markers.{EOC}
 use Rattle.types.specs.Row.{records_in}
 use Rattle.numbers.proofs.BytesLaws.{length_bytes, put_put}
@@ -52,20 +52,20 @@ module _ (rule : Rule) (h : List ℕ) (parts : List (List ℕ)) (out : List ℕ)
   -- a size that stays at 2^64-1 is judged as the size of the whole is
   module _ (size : Option Area) (needed : ℕ) (fits : length out < 2 ^ 64 - 1)
       (chosen : ◌≡◌ {A = Result (Option Area) Refusal} (Ok size) (size_for rule h parts)) (summed : needed ≡ min (length h + 2 + length (joined parts)) (2 ^ 64 - 1)) where
-    sized : answer_for rule h parts (length out) ≡ with_room needed (length out)
+    sized : answer_for rule h parts (length out) ≡ judged (Ok size) needed (length out)
     unfolding answer_for
     sized =
         let all : ℕ = length (assembled rule h parts) in
         let sum : needed ≡ min all (2 ^ 64 - 1) = rw length_assembled summed in
         sym (judged_saturated (size_for rule h parts) all (length out) fits)
         ∙ ap (λ (n : ℕ). judged (size_for rule h parts) n (length out)) (sym sum)
-        ∙ judged_room needed (length out) size chosen
+        ∙ ap (λ (s : Result (Option Area) Refusal). judged s needed (length out)) (sym chosen)
 
-    module _ {n : ℕ} (told : ◌≡◌ {A = Result ℕ Refusal} (Ok n) (with_room needed (length out))) where
+    module _ {n : ℕ} (told : ◌≡◌ {A = Result ℕ Refusal} (Ok n) (judged (Ok size) needed (length out))) where
       -- an answer of so many bytes has the room
       accepted : (length (assembled rule h parts) ≡ n) × (length (assembled rule h parts) ≤ length out)
       accepted =
-          let r = room_bytes needed (length out) n (sym told) in
+          let r = judged_bytes (Ok size) needed (length out) n (sym told) in
           let all = length_assembled rule h parts in
           (omega (arith, summed, fits, r), omega (arith, summed, fits, r))
 

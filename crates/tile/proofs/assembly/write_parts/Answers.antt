@@ -1,7 +1,7 @@
 -- The parts of the rows that are left, put where the next goes, make the output that all parts make of the one lent; a turn puts one, or drops its range.
-use Prim.Native.Nat.{ℕ, ◌+◌, ◌≤◌}
+use Prim.Native.Nat.{ℕ, ◌+◌, ◌≤◌, ◌<◌}
 use native.Mathlib.Omega.{arith}
-use mathlib.Core.List.{List}
+use mathlib.Core.List.{List, []}
 use mathlib.Core.Path.{◌≡◌, sym, ap, ◌∙◌}
 use lib.ListN.{length}
 use Rattle.std.specs.Prelude.{Option, Some, None}
@@ -9,15 +9,15 @@ use Rattle.std.specs.Slice.Iter.{chunks_exact_rest}
 use Rattle.tile.proofs.AssemblyLaws.{joined_none, joined_next, length_kept, length_patched}
 use Rattle.tile.proofs.AssemblyRanges.{Cut, parts_left, parts_none, parts_kept, parts_dropped}
 use Rattle.tile.specs.Assembly.{part_of, patched, joined}
-use Rattle.types.specs.Row.{entry_at}
+use Rattle.types.specs.Row.{row_bytes, entry_at}
 use Rattle.numbers.proofs.BytesLaws.{put_put, put_none}
 use Rattle.numbers.specs.Bytes.{put}
 use Rattle.tile.proofs.assembly.write_parts.Invariants.{Filled}
 use Rattle.tile.proofs.assembly.write_parts.Goals as goal
 
-module _ {table s lent : List ℕ} {start : ℕ} {rows row rest out : List ℕ} {place : ℕ} (cut : Cut rows row rest)
-    (i : Filled table s lent start rows out place) where
-  dropped : ◌≡◌ {A = Option (List ℕ)} None (part_of s (entry_at row 0)) → Filled table s lent start rest out place
+module _ {table source lent : List ℕ} {start : ℕ} {s rows row rest out : List ℕ} {place : ℕ} (cut : Cut rows row rest)
+    (i : Filled table source lent start s rows out place) where
+  dropped : ◌≡◌ {A = Option (List ℕ)} None (part_of s (entry_at row 0)) → Filled table source lent start s rest out place
   dropped gone =
       let less = parts_dropped s cut gone in
       record {
@@ -26,12 +26,12 @@ module _ {table s lent : List ℕ} {start : ℕ} {rows row rest out : List ℕ} 
         whole = ap (λ (ps : List (List ℕ)). put out place (joined ps)) (sym less) ∙ i.whole;
       }
 
-  module _ {part : List ℕ} (found : Some part ≡ part_of s (entry_at row 0)) (fits : start + length (joined (parts_left s table)) ≤ length lent) where
+  module _ {part : List ℕ} (found : Some part ≡ part_of s (entry_at row 0)) (fits : start + length (joined (parts_left source table)) ≤ length lent) where
     -- a part has room
     part_room : place + length part ≤ length out
     part_room = omega (arith, length_kept s cut found, i.ends, i.same)
 
-    kept : {next : List ℕ} → length next ≡ length out → next ≡ put out place (patched part) → Filled table s lent start rest next (place + length part)
+    kept : {next : List ℕ} → length next ≡ length out → next ≡ put out place (patched part) → Filled table source lent start s rest next (place + length part)
     kept n stored =
         let left : List ℕ = joined (parts_left s rest) in
         let more = length_kept s cut found in
@@ -44,6 +44,18 @@ module _ {table s lent : List ℕ} {start : ℕ} {rows row rest out : List ℕ} 
               ∙ ap (put out place) (sym (joined_next (parts_kept s cut found)))
               ∙ i.whole;
         }
+
+-- with no row left nothing is
+module _ {table source lent : List ℕ} {start : ℕ} {s rows out : List ℕ} {place : ℕ} (i : Filled table source lent start s rows out place)
+    (short : length rows < row_bytes) where
+  none : joined (parts_left s rows) ≡ []
+  none = joined_none (parts_none s rows short)
+
+  ended : place ≡ start + length (joined (parts_left source table))
+  ended = omega (arith, ap length none, i.ends)
+
+  filled : out ≡ put lent start (joined (parts_left source table))
+  filled = sym (put_none out place) ∙ ap (put out place) (sym none) ∙ i.whole
 
 pub write_part-requires : goal.write_part-requires
 write_part-requires c =
@@ -68,9 +80,6 @@ loop-row-preserved c =
 
 pub returns : goal.returns
 returns c =
-    let l = c.loop-row in
-    let none = joined_none (parts_none c.args.codestream.now (chunks_exact_rest c.loop-row.row-iterator) (omega (arith, c.in-None.ensures.steps.1.0, l.invariant.0))) in
-    record {
-      value = omega (arith, ap length none, l.invariant.1.ends);
-      out_after = sym (put_none l.out l.place) ∙ ap (put l.out l.place) (sym none) ∙ l.invariant.1.whole;
-    }
+    let i = c.loop-row.invariant in
+    let short : length (chunks_exact_rest c.loop-row.row-iterator) < row_bytes = omega (arith, c.in-None.ensures.steps.1.0, i.0) in
+    record { value = ended i.1 short; out_after = filled i.1 short }

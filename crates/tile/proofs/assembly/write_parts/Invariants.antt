@@ -11,12 +11,12 @@ use Rattle.numbers.specs.Bytes.{put}
 use Rattle.tile.proofs.assembly.write_parts.Given as goal
 
 -- the parts that are left, put where the next goes, make the output that all parts make of the one lent
-pub record Filled (table s lent : List ℕ) (start : ℕ) (rows out : List ℕ) (place : ℕ) : Type 0 where
+pub record Filled (table source lent : List ℕ) (start : ℕ) (s rows out : List ℕ) (place : ℕ) : Type 0 where
   pub same : length out ≡ length lent
-  pub ends : place + length (joined (parts_left s rows)) ≡ start + length (joined (parts_left s table))
-  pub whole : put out place (joined (parts_left s rows)) ≡ put lent start (joined (parts_left s table))
+  pub ends : place + length (joined (parts_left s rows)) ≡ start + length (joined (parts_left source table))
+  pub whole : put out place (joined (parts_left s rows)) ≡ put lent start (joined (parts_left source table))
 
 abbrev pub invariant-loop-row : goal.invariant-loop-row
 invariant-loop-row l =
     (chunks_exact_size l.row-iterator ≡ row_bytes)
-    × Filled l.tile_parts l.codestream l.initial.out l.start (chunks_exact_rest l.row-iterator) l.out l.place
+    × Filled l.tile_parts l.initial.codestream l.initial.out l.start l.codestream (chunks_exact_rest l.row-iterator) l.out l.place
