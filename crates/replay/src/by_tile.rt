@@ -2,10 +2,10 @@
 ghost use Rattle.std.specs.Prelude.{◌≡◌, length};
 
 use crate::{print, tables};
+use records::tables::ScanTable;
 use std::io;
 use std::io::Write;
-use types::table::Element;
-use types::{CodestreamOffset, TilePartEntry};
+use types::{CodestreamOffset, Refusal, TilePartEntry};
 
 // The payload is the tile's index and how many entries are old, 2 bytes each, and the codestream, whose tile-parts start at 0.
 pub(crate) fn rows<W: Write>(out: &mut W, payload: &[u8]) -> io::Result<()> {
@@ -17,14 +17,18 @@ pub(crate) fn rows<W: Write>(out: &mut W, payload: &[u8]) -> io::Result<()> {
     let mut table = tables::new_rows();
     let answer = parts::scan::scan_sot_markers(&payload[4..], CodestreamOffset(0), &mut table);
     let entries = print::scan(out, answer)?;
-    rows_of(out, tables::first(&table, entries), old, tile)
+    rows_by(out, tables::first_rows(&table, entries), old, tile)
 }
 
-fn rows_of<W: Write>(out: &mut W, table: &[u8], old: u16, tile: u16) -> io::Result<()> {
+// The index of the rows that are old, extended to all.
+fn rows_by<W: Write>(out: &mut W, table: &[u8], old: u16, tile: u16) -> io::Result<()> {
     let mut index = new_index();
-    let keys = index_of(out, table, old, tile, &mut index)?;
+    let mut scratch = new_index();
+    let early = tables::first_rows(table, u64::from(old));
+    let _ = index::extend::index_tiles(early, &mut index, &mut scratch);
+    let answer = index::extend::extend_index(table, old as usize, &mut index, &mut scratch);
+    let keys = told(out, answer, &index, tile)?;
     let mut bytes = tables::new_rows();
-    let keys = &index[..index.len().min(keys as usize)];
     let answer = index::entries::tile_entries(table, keys, tile, &mut bytes);
     let entries = print::indexed(out, ", entries", answer)?;
     print::entries(out, &bytes, entries, true)
@@ -37,41 +41,49 @@ pub(crate) fn records<W: Write>(out: &mut W, payload: &[u8]) -> io::Result<()> {
     }
     let tile = numbers::read_u16(payload, 0);
     let old = numbers::read_u16(payload, 2);
-    let mut table = records::tables::new_table();
-    let answer = records::scan::scan_sot_markers(&payload[4..], CodestreamOffset(0), &mut table);
+    let ScanTable { answer, table } = records::tables::scan_table(
+        &payload[4..],
+        CodestreamOffset(0),
+    );
     let entries = print::scan(out, answer)?;
-    records_of(out, tables::first(&table, entries), old, tile)
+    records_by(out, table, entries, old, tile)
 }
 
-fn records_of<W: Write>(
+// In the first records of a table, which has as many.
+fn records_by<W: Write>(
     out: &mut W,
-    table: &[TilePartEntry],
+    table: [TilePartEntry; 2048],
+    entries: u64,
     old: u16,
     tile: u16,
 ) -> io::Result<()> {
     let mut index = new_index();
-    let keys = index_of(out, table, old, tile, &mut index)?;
-    let keys = &index[..index.len().min(keys as usize)];
+    let mut scratch = new_index();
+    let early = u64::from(old).min(entries) as usize;
+    let _ = records::tables::index_within(table, early, 0, &mut index, &mut scratch);
+    let answer = records::tables::index_within(
+        table,
+        entries as usize,
+        old as usize,
+        &mut index,
+        &mut scratch,
+    );
+    let keys = told(out, answer, &index, tile)?;
     write!(out, ", entries")?;
-    print::records_of(out, table, index::run::tile_run(keys, tile))
+    print::records_of(out, &table, index::run::tile_run(keys, tile))
 }
 
-// The index of the entries that are old, extended to all, and what it says of a tile; gives how many keys it has.
-fn index_of<W: Write, E: Element>(
+// What is said of an index, and what it says of a tile; gives its keys.
+fn told<'a, W: Write>(
     out: &mut W,
-    table: &[E],
-    old: u16,
+    answer: Result<u64, Refusal>,
+    index: &'a [u64],
     tile: u16,
-    index: &mut [u64],
-) -> io::Result<u64> {
-    let mut scratch = new_index();
-    let early = tables::first(table, u64::from(old));
-    let _ = index::extend::extend(early, 0, index, &mut scratch);
-    let answer = index::extend::extend(table, old as usize, index, &mut scratch);
-    let keys = print::indexed(out, ", index", answer)?;
-    let all = &index[..index.len().min(keys as usize)];
-    print::keys(out, all)?;
-    print::run(out, all, tile)?;
+) -> io::Result<&'a [u64]> {
+    let count = print::indexed(out, ", index", answer)?;
+    let keys = &index[..index.len().min(count as usize)];
+    print::keys(out, keys)?;
+    print::run(out, keys, tile)?;
     Ok(keys)
 }
 

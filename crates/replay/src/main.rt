@@ -70,7 +70,7 @@ fn read_full<R: Read>(input: &mut R, buffer: &mut [u8]) -> io::Result<usize>
 fn answer<W: Write>(out: &mut W, kind: u8, payload: &[u8]) -> io::Result<()> {
     match kind {
         1 => answers::extent(out, payload),
-        2 => header_rows(out, payload, older(Numbering::Restarting)),
+        2 => tables::header(out, payload, older(Numbering::Restarting)),
         3 => tables::scan(out, payload),
         4 => answers::split(out, payload),
         5 => answers::rewrite(out, payload, Rule::Original),
@@ -78,7 +78,7 @@ fn answer<W: Write>(out: &mut W, kind: u8, payload: &[u8]) -> io::Result<()> {
         7 => answers::search(out, payload),
         8 => answers::siz(out, payload),
         9 => answers::growth(out, payload),
-        10 => header_records(out, payload, older(Numbering::Restarting)),
+        10 => tables::header_records(out, payload, older(Numbering::Restarting)),
         11 => tables::scan_records(out, payload),
         12 => answers::component_sizes(out, payload),
         13 => answers::rewrite(out, payload, Rule::AnnexB),
@@ -86,10 +86,10 @@ fn answer<W: Write>(out: &mut W, kind: u8, payload: &[u8]) -> io::Result<()> {
         15 => answers::rewrite(out, payload, Rule::InPlace),
         16 => answers::assembly(out, payload, Rule::InPlace),
         17 => answers::marker(out, payload),
-        18 => header_rows(out, payload, older(Numbering::CarriedOn)),
-        19 => header_records(out, payload, older(Numbering::CarriedOn)),
-        20 => header_rows(out, payload, newer()),
-        21 => header_records(out, payload, newer()),
+        18 => tables::header(out, payload, older(Numbering::CarriedOn)),
+        19 => tables::header_records(out, payload, older(Numbering::CarriedOn)),
+        20 => tables::header(out, payload, newer()),
+        21 => tables::header_records(out, payload, newer()),
         22 => tables::order(out, payload),
         23 => tables::order_records(out, payload),
         24 => by_tile::rows(out, payload),
@@ -99,14 +99,6 @@ fn answer<W: Write>(out: &mut W, kind: u8, payload: &[u8]) -> io::Result<()> {
         _ => print::unknown(out),
     }?;
     writeln!(out)
-}
-
-fn header_rows<W: Write>(out: &mut W, codestream: &[u8], reading: Reading) -> io::Result<()> {
-    tables::header(out, codestream, reading, &mut tables::new_rows())
-}
-
-fn header_records<W: Write>(out: &mut W, codestream: &[u8], reading: Reading) -> io::Result<()> {
-    tables::header(out, codestream, reading, &mut records::tables::new_table())
 }
 
 // Room for what a case writes.

@@ -12,15 +12,15 @@ pub(crate) fn unknown<W: Write>(out: &mut W) -> io::Result<()> {
     write!(out, "unknown kind")
 }
 
-// The line but for its entries; gives how many follow.
-pub(crate) fn header<W: Write>(
+// The line, with its entries, of a table of rows or of records.
+pub(crate) fn header<W: Write, E: Element>(
     out: &mut W,
     answer: Result<MainHeaderInfo, Refusal>,
+    table: &[E],
     bytes: &[u8],
-) -> io::Result<u64> {
+) -> io::Result<()> {
     let Ok(info) = answer else {
-        write!(out, "header refused")?;
-        return Ok(0);
+        return write!(out, "header refused");
     };
     let long = info.decode_header_length;
     write!(
@@ -32,10 +32,10 @@ pub(crate) fn header<W: Write>(
     if info.tlm_entries == 0 {
         write!(out, " none")?;
     }
-    Ok(info.tlm_entries)
+    entries(out, table, info.tlm_entries, false)
 }
 
-// The same of a scan.
+// The line of a scan but for its entries; gives how many follow.
 pub(crate) fn scan<W: Write>(out: &mut W, answer: Result<u64, Refusal>) -> io::Result<u64> {
     let Ok(count) = answer else {
         write!(out, "scan refused")?;

@@ -7,6 +7,7 @@ ghost use Rattle.std.specs.Prelude.{◌≡◌, ◌≤◌, IfOk, length};
 use header::edition::Edition;
 use header::numbering::Numbering;
 use header::reading::Reading;
+use records::tables::{HeaderTable, ScanTable};
 use std::io;
 use std::io::{Read, Write};
 use types::{CodestreamOffset, Reason, Refusal, TilePartEntry};
@@ -62,15 +63,13 @@ fn list_header<W: Write>(out: &mut W, codestream: &[u8]) -> io::Result<()> {
         numbering: Numbering::Restarting,
         edition: Edition::Older,
     };
-    let mut table = records::tables::new_table();
     let mut decode_header = [0u8; 65536];
-    let read = records::main_header::parse_main_header(
+    let HeaderTable { answer, table } = records::tables::header_table(
         codestream,
         reading,
-        &mut table,
         &mut decode_header,
     );
-    match read {
+    match answer {
         Ok(info) => {
             let first_sot = info.first_sot_offset;
             writeln!(out, "header {} {}", first_sot.0, info.decode_header_length)?;
@@ -86,8 +85,8 @@ fn list_parts<W: Write>(
     codestream: &[u8],
     first_sot: CodestreamOffset,
 ) -> io::Result<()> {
-    let mut table = records::tables::new_table();
-    match records::scan::scan_sot_markers(codestream, first_sot, &mut table) {
+    let ScanTable { answer, table } = records::tables::scan_table(codestream, first_sot);
+    match answer {
         Ok(count) => {
             rows(out, "part", &table, count)?;
             writeln!(out, "end")
