@@ -2,10 +2,10 @@
 """Each entry point has its theorem in a file Settled.antt: tests/settled.py
 
 An entry point is a public function of a library that requires nothing, a conversion (`From`) too, or any that is exported for C. Crate
-laws has the theorems, and each archive (host_c, probe_c) its own. A generic function is none, since its contract also asks that the
-type outlives the call: each instance of it that is called is an entry point with its theorem. The prover holds a theorem to the
-function's own contract; what it can't see is a function that has none. Status 1 if there is one, or if a theorem looks at less than
-the whole answer though the answer is no part of a lent slice.
+laws has the theorems, and each archive (host_c, probe_c) its own. That of a function over a type is for every type that meets the
+bound: `SettlesOver`, of all that the contract is given, for as long as the type lives. The prover holds a theorem to the function's
+own contract; what it can't see is a function that has none. Status 1 if there is one, if a theorem looks at less than the whole answer
+though the answer is no part of a lent slice, or if one of a function over a type is not for every type.
 """
 
 import re
@@ -23,10 +23,18 @@ ITEM = re.compile(
 )
 ALIAS = re.compile(r"^use Rattle\.(\w+)\.specs\.contracts as (\w+)$", re.M)
 THEOREM = re.compile(r"→ (Settles|SettlesAs) M (\S+)\.ended \(λ 𝓤\. (\S+)\.clauses\)")
+OVER = re.compile(
+    r": \{M : Type 1\} \((?P<type>\w+) : RattleType\) (?P<bound>(?:\(\w+ : [^()]+\) )*)→ SettlesOver M "
+    r"\((?P<ended>\S+)\.ended (?P<of>[^()]+)\) \(λ 𝓤\. (?P<clauses>\S+)\.clauses (?P<same>[^()]+)\) (?P<lives>\S+)\.lives(?!\S)"
+)
+# a parameter that is no lifetime
+GENERIC = re.compile(r"<(?:\s*'[^,>]+,)*\s*[^'\s>]")
+# what the theorem of an entry point has to be
+PART, WHOLE, EVERY = "of a part of a lent slice", "of the whole answer", "for every type"
 
 
 def entry_points(crate, module, source):
-    """The path of each, as Settled.antt names it, and whether it hands back a reference."""
+    """The path of each, as Settled.antt names it, and what its theorem has to be."""
     found = {}
     owner = None
     for item in ITEM.finditer(source):
@@ -34,25 +42,30 @@ def entry_points(crate, module, source):
             owner = item["type"] + (f"From{item['source'][0].upper()}{item['source'][1:]}" if item["source"] else "")
         elif item["end"]:
             owner = None
-        elif item["c"] or not (item["head"].startswith("<") or re.search(r"^ *requires\b", item["head"], re.M)):
+        elif item["c"] or not re.search(r"^ *requires\b", item["head"], re.M):
             path = ".".join(part for part in (crate, module, owner, item["name"]) if part)
-            found[path] = re.search(r"-> &", item["head"]) is not None
+            found[path] = EVERY if GENERIC.match(item["head"]) else PART if "-> &" in item["head"] else WHOLE
     return found
 
 
 def faults(points, settled):
     crates = {alias: crate for crate, alias in ALIAS.findall(settled)}
+    text = " ".join(settled.split())
     theorems = {}
-    for kind, ended, clauses in THEOREM.findall(" ".join(settled.split())):
+
+    def note(kinds, ended, clauses):
         alias, _, rest = clauses.partition(".")
         if ended == clauses and alias in crates:
-            theorems[f"{crates[alias]}.{rest}"] = kind
+            theorems[f"{crates[alias]}.{rest}"] = kinds
+
+    for kind, ended, clauses in THEOREM.findall(text):
+        note((PART, WHOLE) if kind == "Settles" else (PART,), ended, clauses)
+    for one in OVER.finditer(text):
+        given = [one["type"], *re.findall(r"\((\w+) :", one["bound"])]
+        every = one["of"].split() == one["same"].split() == given and one["lives"] == one["type"]
+        note((EVERY,) if every else (), one["ended"], one["clauses"])
     said = [f"{path} has no theorem" for path in points if path not in theorems]
-    said += [
-        f"{path}: not the whole answer is settled"
-        for path, part in points.items()
-        if theorems.get(path) == "SettlesAs" and not part
-    ]
+    said += [f"{path}: its theorem is not {kind}" for path, kind in points.items() if kind not in theorems.get(path, (kind,))]
     return said
 
 
@@ -64,12 +77,19 @@ def main():
             points |= entry_points(library.parts[-3], module, file.read_text())
     settled = "\n".join(file.read_text() for file in SETTLED)
     said = faults(points, settled)
-    # it is seen where a theorem is missing, is of two functions, or looks at a part
-    for path, part in points.items():
-        whole = re.sub(rf"\b{re.escape(path)}\.(ended|clauses)\b", r"other.\1", settled)
-        mixed = re.sub(rf"\b{re.escape(path)}\.ended\b", "other.ended", settled)
-        less = re.sub(rf"Settles (M\s+{re.escape(path)}\.ended)", r"SettlesAs \1", settled)
-        for changed in (whole, mixed) if part else (whole, mixed, less):
+    # it is seen where a theorem is missing, is of two functions, looks at a part, or is of one type or of a shorter life
+    for path, kind in points.items():
+        name = re.escape(path)
+        changes = [
+            re.sub(rf"\b{name}\.(ended|clauses)\b", r"other.\1", settled),
+            re.sub(rf"\b{name}\.ended\b", "other.ended", settled),
+        ]
+        if kind == WHOLE:
+            changes.append(re.sub(rf"Settles (M\s+{name}\.ended)", r"SettlesAs \1", settled))
+        if kind == EVERY:
+            changes.append(re.sub(rf"(SettlesOver\s+M\s+\({name}\.ended) \w+", r"\1 u8", settled))
+            changes.append(re.sub(rf"({name}\.clauses [^()]+\)) \w+\.lives", r"\1 u8.lives", settled))
+        for changed in changes:
             if not said and len(faults(points, changed)) != 1:
                 said.append(f"{path}: this check does not see its theorem change")
     return verdict("settled", said, f"{len(points)} entry points, a theorem for each")

@@ -1,12 +1,14 @@
 -- Each entry point's contract settles its outcome: nothing is required, and of any two outcomes that it allows the answers and all that was lent are equal.
 -- A function stands here by its path; its `ended` and `clauses` are made from its source, so what changes there changes here. In a proof e has an equation
 -- of x and y for each `ensures`, in the source's order. They are put in the order of an outcome: the answer, then the parameters, `tt` where none is lent.
+-- A function over a type has its theorem for every type that meets the bound; there nothing is required but that the type lives as long as the call.
 use Prim.Native.Nat.{ℕ, ◌/◌, min}
-use mathlib.Core.List.{List, ◌++◌}
+use mathlib.Core.Path.{◌≡◌, refl}
+use mathlib.Core.List.{List, [], ◌++◌}
 use lib.ListN.{length, take, drop}
 use Rattle.types.specs.contracts as types
 use Rattle.header.specs.contracts as header
-use Rattle.header.specs.Parse.{table_after, out_after}
+use Rattle.header.specs.Parse.{table_in, table_after, out_after}
 use Rattle.parts.specs.contracts as parts
 use Rattle.lengths.specs.contracts as lengths
 use Rattle.types.specs.Row.{row_bytes, records_in}
@@ -20,8 +22,13 @@ use Rattle.tile.specs.contracts as tile
 use Rattle.reader.specs.contracts as reader
 use Rattle.host.specs.contracts as host
 use Rattle.probe.specs.contracts as probe
-use Rattle.settling.specs.Settles.{Settles, SettlesAs}
-use Rattle.settling.proofs.Settling.{last, beside, before, settles, by_one, by_first}
+use mir.Syntax.{Dict}
+use denote.RattleType.{RattleType}
+use denote.Builtin.{u8}
+use Rattle.std.specs.declared.clone.Clone
+use Rattle.types.specs.declared.table.Element
+use Rattle.settling.specs.Settles.{Settles, SettlesAs, SettlesOver}
+use Rattle.settling.proofs.Settling.{last, beside, before, settles, by_one, by_first, over, anywhere}
 
 -- ---- types
 
@@ -45,6 +52,9 @@ tell m κs a g = settles m (before m (last m)) λ x y e i. (e.0 i, (tt, (e.1 i, 
 
 pub refusal_number : {M : Type 1} → Settles M types.Refusal.number.ended (λ 𝓤. types.Refusal.number.clauses)
 refusal_number m κs a g = settles m (last m) λ x y e i. (e i, x.1)
+
+pub refuse : {M : Type 1} (T : RattleType) → SettlesOver M (types.refuse.ended T) (λ 𝓤. types.refuse.clauses T) T.lives
+refuse T m κs a g = over m (settles m (last m) λ x y e i. (e i, x.1))
 
 -- ---- header
 
@@ -72,6 +82,12 @@ header_decide m κs a g = settles m (last m) λ x y e i. (e i, x.1)
 pub header_tell : {M : Type 1} → Settles M header.parse.tell.ended (λ 𝓤. header.parse.tell.clauses)
 header_tell m κs a g = settles m (before m (before m (before m (before m (last m))))) λ x y e i. (e.0 i, (tt, (e.1.0 i, (e.1.1.0 i, (e.1.1.1.0 i, (e.1.1.1.1 i, tt))))))
 
+pub parse_into : {M : Type 1} (E : RattleType) (element : Element.Ghosts E.Denot) (element_dict : Dict) (clone : Clone.Ghosts E.Denot) (clone_dict : Dict)
+    → SettlesOver M (header.parse.parse_into.ended E element element_dict clone clone_dict) (λ 𝓤. header.parse.parse_into.clauses E element element_dict clone clone_dict) E.lives
+parse_into E element element_dict clone clone_dict m κs a g =
+    over m (by_first m (λ r. table_in element.layout a.1.0.numbering r a.0.now a.1.1.0.now) (λ r. out_after r a.0.now a.1.1.1.0.now) λ x y e i.
+    (e.0 i, (tt, (tt, (e.1 i, (e.2 i, tt))))))
+
 pub parse_main_header : {M : Type 1} → Settles M header.parse.parse_main_header.ended (λ 𝓤. header.parse.parse_main_header.clauses)
 parse_main_header m κs a g =
     by_first m (λ r. table_after a.1.0.numbering r a.0.now a.1.1.0.now) (λ r. out_after r a.0.now a.1.1.1.0.now) λ x y e i.
@@ -88,6 +104,11 @@ scan_judge m κs a g = settles m (last m) λ x y e i. (e i, x.1)
 pub parts_decide : {M : Type 1} → Settles M parts.walk.decide.ended (λ 𝓤. parts.walk.decide.clauses)
 parts_decide m κs a g = settles m (beside m) λ x y e i. (e i, x.1)
 
+pub scan_judged : {M : Type 1} (E : RattleType) (element : Element.Ghosts E.Denot) (element_dict : Dict) (clone : Clone.Ghosts E.Denot) (clone_dict : Dict)
+    → SettlesOver M (parts.scan.scan_judged.ended E element element_dict clone clone_dict) (λ 𝓤. parts.scan.scan_judged.clauses E element element_dict clone clone_dict) E.lives
+scan_judged E element element_dict clone clone_dict m κs a g =
+    over m (settles m (before m (last m)) λ x y e i. (e.0 i, (tt, (tt, (e.1 i, tt)))))
+
 pub scan_sot_markers : {M : Type 1} → Settles M parts.scan.scan_sot_markers.ended (λ 𝓤. parts.scan.scan_sot_markers.clauses)
 scan_sot_markers m κs a g = settles m (before m (last m)) λ x y e i. (e.0 i, (tt, (tt, (e.1 i, tt))))
 
@@ -99,6 +120,11 @@ order_end_lem m κs a g = settles m (last m) λ x y e i. (e i, x.1)
 
 pub order_tell : {M : Type 1} → Settles M parts.order.tell.ended (λ 𝓤. parts.order.tell.clauses)
 order_tell m κs a g = settles m (last m) λ x y e i. (e i, x.1)
+
+pub in_order_lem : {M : Type 1} (E : RattleType) (element : Element.Ghosts E.Denot) (element_dict : Dict) (clone : Clone.Ghosts E.Denot) (clone_dict : Dict)
+    → SettlesOver M (parts.order.in_order.ended E element element_dict clone clone_dict) (λ 𝓤. parts.order.in_order.clauses E element element_dict clone clone_dict) E.lives
+in_order_lem E element element_dict clone clone_dict m κs a g =
+    over m (settles m (last m) λ x y e i. (e i, x.1))
 
 pub tile_in_order : {M : Type 1} → Settles M parts.order.tile_in_order.ended (λ 𝓤. parts.order.tile_in_order.clauses)
 tile_in_order m κs a g = settles m (last m) λ x y e i. (e i, x.1)
@@ -140,6 +166,13 @@ index_needs m κs a g = settles m (last m) λ x y e i. (e i, x.1)
 
 pub index_decide : {M : Type 1} → Settles M index.extend.decide.ended (λ 𝓤. index.extend.decide.clauses)
 index_decide m κs a g = settles m (last m) λ x y e i. (e i, x.1)
+
+pub extend : {M : Type 1} (E : RattleType) (element : Element.Ghosts E.Denot) (element_dict : Dict) (clone : Clone.Ghosts E.Denot) (clone_dict : Dict)
+    → SettlesOver M (index.extend.extend.ended E element element_dict clone clone_dict) (λ 𝓤. index.extend.extend.clauses E element element_dict clone clone_dict) E.lives
+extend E element element_dict clone clone_dict m κs a g =
+    over m (by_first m (λ r. index_after r (element.layout.within a.0.now) (old_of a.1.0 (length a.0.now / element.WIDTH)) a.1.1.0.now)
+    (λ r. scratch_after r (element.layout.within a.0.now) (old_of a.1.0 (length a.0.now / element.WIDTH)) a.1.1.1.0.now) λ x y e i.
+    (e.0 i, (tt, (tt, (e.1 i, (e.2 i, tt))))))
 
 pub extend_index : {M : Type 1} → Settles M index.extend.extend_index.ended (λ 𝓤. index.extend.extend_index.clauses)
 extend_index m κs a g =
@@ -400,3 +433,35 @@ winterhasp_codestream_of m κs a g = settles m (before m (before m (last m))) λ
 
 pub winterhasp_header_records : {M : Type 1} → Settles M probe.main_header.winterhasp_header_records.ended (λ 𝓤. probe.main_header.winterhasp_header_records.clauses)
 winterhasp_header_records m κs a g = settles m (before m (before m (before m (before m (before m (before m (last m))))))) λ x y e i. (e.0 i, (tt, (tt, (e.1.1.1.1.1.0 i, (e.1.1.1.1.1.1 i, (e.1.0 i, (e.1.1.0 i, (e.1.1.1.0 i, (e.1.1.1.1.0 i, tt)))))))))
+
+-- ---- over a type that borrows nothing: nothing is required
+
+pub refuse_owned : {M : Type 1} (T : RattleType) → T.lives ≡ [] → Settles M (types.refuse.ended T) (λ 𝓤. types.refuse.clauses T)
+refuse_owned T owned m κs a g = anywhere m owned (refuse T m κs a g)
+
+module _
+    {M : Type 1}
+    (E : RattleType)
+    (owned : E.lives ≡ [])
+    (element : Element.Ghosts E.Denot)
+    (element_dict : Dict)
+    (clone : Clone.Ghosts E.Denot)
+    (clone_dict : Dict) where
+  pub parse_into_owned : Settles M (header.parse.parse_into.ended E element element_dict clone clone_dict) (λ 𝓤. header.parse.parse_into.clauses E element element_dict clone clone_dict)
+  parse_into_owned m κs a g = anywhere m owned (parse_into E element element_dict clone clone_dict m κs a g)
+
+  pub scan_judged_owned : Settles M (parts.scan.scan_judged.ended E element element_dict clone clone_dict) (λ 𝓤. parts.scan.scan_judged.clauses E element element_dict clone clone_dict)
+  scan_judged_owned m κs a g = anywhere m owned (scan_judged E element element_dict clone clone_dict m κs a g)
+
+  pub in_order_owned : Settles M (parts.order.in_order.ended E element element_dict clone clone_dict) (λ 𝓤. parts.order.in_order.clauses E element element_dict clone clone_dict)
+  in_order_owned m κs a g = anywhere m owned (in_order_lem E element element_dict clone clone_dict m κs a g)
+
+  pub extend_owned : Settles M (index.extend.extend.ended E element element_dict clone clone_dict) (λ 𝓤. index.extend.extend.clauses E element element_dict clone clone_dict)
+  extend_owned m κs a g = anywhere m owned (extend E element element_dict clone clone_dict m κs a g)
+
+-- so of the two types that a table is made of
+pub rows_owned : u8.lives ≡ []
+rows_owned = refl
+
+pub records_owned : types.TilePartEntry.the_row.lives ≡ []
+records_owned = refl

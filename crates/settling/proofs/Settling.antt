@@ -1,7 +1,10 @@
 -- The laws by which a contract settles its outcome, where each `ensures` is an equation.
-use mathlib.Core.Path.{◌≡◌, sym, ap, ◌∙◌}
-use base.Logic.{SProp, ent, sep, emp, id⊢, via, snd∗}
+use mathlib.Core.Path.{◌≡◌, sym, ap, subst, ◌∙◌}
+use mathlib.Core.List.{[]}
+use base.Logic.{SProp, ent, sep, emp, id⊢, via, snd∗, emp∗, comm∗}
 use contract.Monad.{conj, conj_l, conj_r, fact, fact_i, fact_use, fact∗}
+use contract.BorrowLft.{◌⊑◌, ⊑_static}
+use base.Fml.{Lft}
 use Rattle.settling.specs.Settles.{Model}
 
 settled : {A : Type 0} {x y z : A} → x ≡ z → y ≡ z → x ≡ y
@@ -71,3 +74,12 @@ module _ {M : Type 1} (m : Model M) where
     by_first s t h = row (λ x. and (and (id⊢ m.𝓤 _))) (λ x y p q.
         let same = settled p.0 q.0 in
         h x y (same, settled (p.1.0 ∙ ap s same) q.1.0, settled (p.1.1 ∙ ap t same) q.1.1))
+
+  -- one fact is required, and is given
+  pub over : {L : Type 0} {S : Type 1} → (emp m.𝓤 ⊢ emp m.𝓤) × S → (⌜ L ⌝ ⊢ ⌜ L ⌝ ∗ emp m.𝓤) × S
+  over {L = L} s = (via m.𝓤 (emp m.𝓤 ∗ ⌜ L ⌝) (emp∗ m.𝓤 ⌜ L ⌝) (comm∗ m.𝓤 (emp m.𝓤) ⌜ L ⌝), s.1)
+
+  -- values that borrow nothing live as long as any call
+  pub anywhere : {κ lives : Lft} {R : Pr} {S : Type 1} → lives ≡ [] → (⌜ κ ⊑ lives ⌝ ⊢ R) × S → (emp m.𝓤 ⊢ R) × S
+  anywhere {κ} {lives} none s =
+      (via m.𝓤 ⌜ κ ⊑ lives ⌝ (fact_i m.𝓤 (κ ⊑ lives) (emp m.𝓤) (subst (λ (l : Lft). κ ⊑ l) (sym none) (⊑_static κ))) s.0, s.1)

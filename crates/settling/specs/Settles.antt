@@ -1,14 +1,16 @@
 -- What it is that a contract settles the outcome. The contract is a function's own `clauses`, its `requires` and `ensures` by the name that the prover has
 -- for them: a theorem that cites it holds no copy of them. What is proved of the function is its `spec`, which computes to these clauses, closed
 -- (`denote.Triple.Clauses.closing`).
-use Rattle.std.specs.Prelude.{◌≡◌}
+use Rattle.std.specs.Prelude.{◌≡◌, ℕ, zero, suc, []}
 use seplogic.Ra.Ura.{Ura}
 use base.Logic.{SProp, ent, emp}
 use prog.Memory.{Memory}
 use prog.Routine.{Routine}
+use base.Fml.{Lft}
 use types.Logic.{Logic}
 use contract.Monad.{Fun, conj, fact}
 use contract.Lifetimes.{Lfts}
+use contract.BorrowLft.{◌⊑◌}
 use denote.Triple.Entry.{Args, Res}
 use denote.Triple.Clauses.{Ended, Clauses, Lasts, at_exit}
 
@@ -25,6 +27,12 @@ Contract M T = (𝓤 : Ura M) → Logic 𝓤 → (Memory → SProp 𝓤) → (Ro
 -- the lifetimes of a call
 abbrev pub Lives : Ended → Type 0
 Lives T = Lfts T.signature.lifetimes
+
+-- The last of them. A function over a type has one more than its source names, behind the others: that for which the type has to live.
+abbrev pub last_life : (n : ℕ) → Lfts n → Lft
+last_life zero κs = []
+last_life (suc zero) κs = κs.0
+last_life (suc (suc n)) κs = last_life (suc n) κs.1
 
 -- How a call ends: the answer; then for each parameter in turn what a `&mut` holds after the call. It is `tt` for any other parameter, and for a `&mut`
 -- that lives on in the answer.
@@ -48,3 +56,11 @@ module _ (M : Type 1) (T : Ended) (c : Contract M T) where
 
   abbrev pub Settles : Type 2
   Settles = SettlesAs (Res T.signature) (λ κs r. r)
+
+  -- Of a function over a type, whose values live so long. Its contract asks that they live as long as the call needs, which the compiler sees to wherever
+  -- it is called. That isn't so of every lifetime, and `Settles` speaks of all; so here it is given. Nothing else is required, and of two outcomes the same is
+  -- said. Where the values borrow nothing, as numbers and records don't, it is `Settles` itself (`anywhere`).
+  abbrev pub SettlesOver : Lft → Type 2
+  SettlesOver lives = (m : Model M) (κs : Lives T) (a : Args T.signature κs) (g : (at m κs a).ghost)
+      → ent m.𝓤 (fact m.𝓤 (last_life T.signature.lifetimes κs ⊑ lives)) ((at m κs a).requires g)
+      × ((x y : Outcome T κs a) → ent m.𝓤 (conj m.𝓤 (Ensured m κs a g x) (Ensured m κs a g y)) (fact m.𝓤 (◌≡◌ {A = Outcome T κs a} x y)))
